@@ -1,0 +1,5 @@
+-- Laws that the proofs of this crate and of later crates cite.
+-- Counting: each, joined, layered. Columns: runs of stores, a column afterwards. Tests: a test of every element.
+pub mod Counting
+pub mod Columns
+pub mod Tests

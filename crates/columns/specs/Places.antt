@@ -1,0 +1,17 @@
+-- The positions of vertices, one column for each coordinate.
+use Prim.Native.Nat.{ℕ}
+use mathlib.Core.List.{List}
+use lib.ListN.{getD}
+use lib.Ieee.{Float, binary64, ofBits}
+use Rattle.columns.specs.declared.VisualizePosition.{VisualizePosition}
+
+-- 0 as an f64, and the position that a new vertex has
+abbrev pub zeroFloat : Float
+zeroFloat = ofBits binary64 0
+
+abbrev pub position : Float → Float → Float → VisualizePosition
+position i j t = record { i = i; j = j; t = t }
+
+-- what stands at a place of the three columns, 0 past their ends
+abbrev pub positionAt : List Float → List Float → List Float → ℕ → VisualizePosition
+positionAt is js ts v = position (getD is v zeroFloat) (getD js v zeroFloat) (getD ts v zeroFloat)

@@ -1,0 +1,90 @@
+// The records of document 01 as columns, the tests its questions are made of, and stores into columns.
+// Every function takes any input: a place past a column's end reads as 0 and is not written.
+pub mod questions;
+pub mod stores;
+
+ghost use mathlib.Core.Path.{_≡_};
+ghost use lib.ListN.{set};
+ghost use Rattle.columns.specs.Answers.{done};
+ghost use Rattle.columns.specs.Places.{position, positionAt};
+
+// The number of a vertex, and of an edge. They count separately from 0.
+pub struct VertexIndex(pub u32);
+
+pub struct EdgeIndex(pub u32);
+
+// The width of a stored weight.
+pub type Weight = u32;
+
+// The limits of document 01's Records.
+pub const VERTEX_LIMIT: u32 = 4096;
+
+pub const EDGE_LIMIT: u32 = 32768;
+
+pub const HALF_WEIGHT_LIMIT: Weight = 250_000;
+
+pub const WEIGHT_LIMIT: Weight = 500_000;
+
+// Boundary bytes.
+pub const INNER: u8 = 0;
+
+pub const LEFT: u8 = 1;
+
+pub const RIGHT: u8 = 2;
+
+pub const BOUNDARY_LIMIT: u8 = 2;
+
+// Defect bytes and erasure bytes are 0 or 1.
+pub const MARK_LIMIT: u8 = 1;
+
+// What a call answers that has no value to report.
+pub enum Done {
+    Accepted,
+    Refused(u32),
+}
+
+// The answer for a question's number, 0 where every question is met.
+pub fn done_of(number: u32) -> Done
+    ensures { λ r. ⌜ r ≡ done number ⌝ }
+{
+    if number == 0 {
+        Done::Accepted
+    } else {
+        Done::Refused(number)
+    }
+}
+
+// Where a vertex is drawn: i down, j to the right, t in time.
+pub struct VisualizePosition {
+    pub i: f64,
+    pub j: f64,
+    pub t: f64,
+}
+
+impl VisualizePosition {
+    pub fn new(i: f64, j: f64, t: f64) -> Self
+        ensures { λ r. ⌜ r ≡ position i j t ⌝ }
+    {
+        Self { i, j, t }
+    }
+
+    // The position at a place of three columns.
+    pub fn load(is: &[f64], js: &[f64], ts: &[f64], v: usize) -> Self
+        ensures { λ r. ⌜ r ≡ positionAt (now (is .entry)) (now (js .entry)) (now (ts .entry)) v ⌝ }
+    {
+        Self {
+            i: stores::load_f64(is, v),
+            j: stores::load_f64(js, v),
+            t: stores::load_f64(ts, v),
+        }
+    }
+
+    // Stores the position at a place of three columns.
+    pub fn store(self, is: &mut [f64], js: &mut [f64], ts: &mut [f64], v: usize)
+        ensures { λ _. ⌜ (now (is .exit) ≡ set (now (is .entry)) v (self .i)) × (now (js .exit) ≡ set (now (js .entry)) v (self .j)) × (now (ts .exit) ≡ set (now (ts .entry)) v (self .t)) ⌝ }
+    {
+        stores::store_f64(is, v, self.i);
+        stores::store_f64(js, v, self.j);
+        stores::store_f64(ts, v, self.t);
+    }
+}

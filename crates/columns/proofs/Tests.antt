@@ -9,7 +9,7 @@ use lib.ListN.{length, take, getD, length-take}
 use lib.Seq.{take-suc, take-all, take-take, getD-take}
 use lib.Dec.{leb, ltb}
 use borrow.Author.Tests.{ltb-true, leb-true, lt-ltb, le-leb}
-use Rattle.columns.specs.Questions.{all, allBelow, allWithin}
+use Rattle.columns.specs.Questions.{all, every, allBelow, allWithin}
 
 pub and-both : (a b : Bool) → (a && b) ≡ true → (a ≡ true) × (b ≡ true)
 and-both true b e = (refl, e)
@@ -67,6 +67,31 @@ module _ {A : Type 0} (test : A → Bool) where
           | yes l ↦ ap (λ (j : ℕ). take j s) (native.Mathlib.Nat.le-antisymm l k)
           | no l ↦ take-all n s (omega arith) ∙ sym (take-all i s (omega arith))
         ]
+
+-- every number below a count
+module _ (test : ℕ → Bool) where
+  pub every-at : (n : ℕ) → every n test ≡ true → (k : ℕ) → k < n → test k ≡ true
+  unfolding every
+  every-at zero p k h = absurd (omega arith)
+  every-at (suc n) p k h =
+      let q = and-both (every n test) (test n) p in
+      elim (native.Mathlib.Decide.ℕ-discrete k n) [ yes e ↦ ap test e ∙ q .1 | no e ↦ every-at n (q .0) k (omega arith) ]
+
+  pub at-every : (n : ℕ) → ((k : ℕ) → k < n → test k ≡ true) → every n test ≡ true
+  unfolding every
+  at-every zero f = refl
+  at-every (suc n) f = both-and (at-every n (λ k h. f k (omega arith))) (f n (omega arith))
+
+  pub every-not : (n k : ℕ) → k < n → test k ≡ false → every n test ≡ false
+  every-not n k h e = go (every n test) refl
+    where
+      go : (b : Bool) → every n test ≡ b → b ≡ false
+      go false p = refl
+      go true p = let q = every-at n p k h in absurd (let z : _≡_ {A = ℕ} 0 1 = cc in omega arith)
+
+  pub every-more : (n : ℕ) → every n test ≡ true → test n ≡ true → every (n + 1) test ≡ true
+  unfolding every
+  every-more n p q = ap (λ (k : ℕ). every k test) (add-one n) ∙ both-and p q
 
 -- the two tests by numbers
 pub below-at : (limit : ℕ) (xs : List ℕ) → allBelow limit xs ≡ true → (i : ℕ) → i < length xs → getD xs i 0 < limit

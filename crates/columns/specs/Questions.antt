@@ -1,5 +1,5 @@
 -- The tests that document 01's "Questions at the door" are made of.
-use Prim.Native.Nat.{ℕ}
+use Prim.Native.Nat.{ℕ, zero, suc}
 use mathlib.Core.Bool.{Bool, true, _&&_, cond}
 use mathlib.Core.List.{List, [], _∷_}
 use lib.ListN.{take}
@@ -14,6 +14,11 @@ ask met number next = cond met next number
 unfoldable pub all : {A : Type 0} → (A → Bool) → List A → Bool
 all test [] = true
 all test (x ∷ xs) = test x && all test xs
+
+-- every number below n passes a test
+unfoldable pub every : ℕ → (ℕ → Bool) → Bool
+every zero test = true
+every (suc n) test = every n test && test n
 
 -- every number of a list is below a limit
 abbrev pub allBelow : ℕ → List ℕ → Bool

@@ -1,0 +1,22 @@
+-- `neighbors::sound::log_sound` meets its contract. Assumes nothing.
+use Rattle.neighbors.specs.Sound.{logSound}
+use borrow.Author.Needs.{needs}
+use Rattle.neighbors.proofs.sound.log_sound.Statement.{statement}
+use Rattle.neighbors.proofs.sound.log_sound.Tie as tie
+
+all-below-requires : tie.Need-all-below-requires
+all-below-requires c κs = search needs
+
+weights-sound-requires : tie.Need-weights-sound-requires
+weights-sound-requires c κs = search needs
+
+both-requires : tie.Need-both-requires
+both-requires c κs = search needs
+
+returns : tie.Need-returns
+unfolding logSound
+returns c = cc
+
+pub log-sound-spec : {M : Type 1} → statement M
+log-sound-spec =
+    tie.close (tie.spec all-below-requires weights-sound-requires both-requires returns)

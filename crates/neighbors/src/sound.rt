@@ -1,0 +1,54 @@
+// Question 7, as total tests.
+ghost use mathlib.Core.Path.{_≡_};
+ghost use Rattle.neighbors.specs.Sound.{endsInRange, graphSound, logSound};
+use super::pairs::ends_differ;
+use super::pairs::pairs_apart;
+use columns::Weight;
+use columns::questions::all_below;
+use columns::questions::at_most;
+use columns::questions::both;
+use columns::questions::edge_count_sound;
+use columns::questions::vertex_count_sound;
+use columns::questions::weights_sound;
+
+// Whether the columns hold the edges, with ends in range.
+fn ends_in_range(vertex_num: u32, edge_num: u32, a: &[u32], b: &[u32]) -> bool
+    ensures { λ r. ⌜ r ≡ endsInRange «vertex_num» «edge_num» (now (a .entry)) (now (b .entry)) ⌝ }
+{
+    let n = edge_num as usize;
+    let long_a = at_most(n, a.len());
+    let long_b = at_most(n, b.len());
+    let below_a = all_below(a, n, vertex_num);
+    let below_b = all_below(b, n, vertex_num);
+    both(long_a, both(long_b, both(below_a, below_b)))
+}
+
+// Whether counts and ends are those of a graph.
+pub fn graph_sound(vertex_num: u32, edge_num: u32, a: &[u32], b: &[u32]) -> bool
+    ensures { λ r. ⌜ r ≡ graphSound «vertex_num» «edge_num» (now (a .entry)) (now (b .entry)) ⌝ }
+{
+    if !vertex_count_sound(vertex_num) {
+        return false;
+    }
+    if !edge_count_sound(edge_num) {
+        return false;
+    }
+    if !ends_in_range(vertex_num, edge_num, a, b) {
+        return false;
+    }
+    let n = edge_num as usize;
+    if !ends_differ(a, b, n) {
+        return false;
+    }
+    pairs_apart(a, b, n)
+}
+
+// Whether the first log_num entries name edges and weights within the Records.
+pub fn log_sound(edge_num: u32, log_num: u32, edges: &[u32], weights: &[Weight]) -> bool
+    ensures { λ r. ⌜ r ≡ logSound «edge_num» «log_num» (now (edges .entry)) (now (weights .entry)) ⌝ }
+{
+    let n = log_num as usize;
+    let named = all_below(edges, n, edge_num);
+    let within = weights_sound(weights, n);
+    both(named, within)
+}

@@ -61,6 +61,11 @@ module _ {A : Type 0} where
   pub after-refused : (q : ℕ) (vs column : List A) → (q ≡ 0 → ⊥) → after q vs column ≡ column
   after-refused q vs column f = simp (ne-eqb q 0 f)
 
+  -- a column that is copied once every question is met
+  pub copy-after : (n q : ℕ) (column from : List A) → q ≡ 0 → n ≤ length from → n ≤ length column → sets column 0 (take n from) ≡ after q (take n from) column
+  copy-after n q column from e f g =
+      sets-over column (take n from) (omega (arith, length-take n from)) ∙ sym (after-accepted q (take n from) column e)
+
   -- a loop that stores from the start: one more store
   pub sets-more : (l vs : List A) (i : ℕ) (v : A) → length vs ≡ i → sets l 0 (vs ++ (v ∷ [])) ≡ set (sets l 0 vs) i v
   sets-more l vs i v e = sets-append l 0 vs (v ∷ []) ∙ ap (λ (k : ℕ). set (sets l 0 vs) k v) (zero-add (length vs) ∙ e)

@@ -4,6 +4,7 @@ ghost use mathlib.Core.Bool.{_&&_};
 ghost use Prim.Native.Nat.{_+_, min};
 ghost use lib.Dec.{leb, eqb};
 ghost use lib.ListN.{take};
+ghost use Rattle.columns.specs.Limits.{weightLimit};
 ghost use Rattle.columns.specs.Questions.{ask, allBelow, allWithin, vertexCountSound, edgeCountSound, boundariesSound, marksSound, halfWeightsSound, weightsSound};
 use super::BOUNDARY_LIMIT;
 use super::EDGE_LIMIT;
@@ -71,6 +72,13 @@ pub fn all_below(s: &[u32], n: usize, limit: u32) -> bool
         i += 1;
     }
     true
+}
+
+// Question 13, of a list that a caller hands over: whether every number is below the limit.
+pub fn each_below(list: &[u32], limit: u32) -> bool
+    ensures { λ r. ⌜ r ≡ allBelow limit (now (list .entry)) ⌝ }
+{
+    all_below(list, list.len(), limit)
 }
 
 // Whether the first n weights, or all where there are fewer, are at most the limit.
@@ -143,4 +151,11 @@ pub fn weights_sound(column: &[Weight], n: usize) -> bool
     ensures { λ r. ⌜ r ≡ weightsSound n (now (column .entry)) ⌝ }
 {
     weights_within(column, n, WEIGHT_LIMIT)
+}
+
+// Question 15: whether every weight of a list that a caller hands over is at most 500,000.
+pub fn each_weight_sound(list: &[Weight]) -> bool
+    ensures { λ r. ⌜ r ≡ allWithin weightLimit (now (list .entry)) ⌝ }
+{
+    weights_within(list, list.len(), WEIGHT_LIMIT)
 }

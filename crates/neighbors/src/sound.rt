@@ -44,11 +44,10 @@ pub fn graph_sound(vertex_num: u32, edge_num: u32, a: &[u32], b: &[u32]) -> bool
 }
 
 // Whether the first log_num entries name edges and weights within the Records.
-pub fn log_sound(edge_num: u32, log_num: u32, edges: &[u32], weights: &[Weight]) -> bool
+pub fn log_sound(edge_num: u32, log_num: usize, edges: &[u32], weights: &[Weight]) -> bool
     ensures { λ r. ⌜ r ≡ logSound «edge_num» «log_num» (now (edges .entry)) (now (weights .entry)) ⌝ }
 {
-    let n = log_num as usize;
-    let named = all_below(edges, n, edge_num);
-    let within = weights_sound(weights, n);
+    let named = all_below(edges, log_num, edge_num);
+    let within = weights_sound(weights, log_num);
     both(named, within)
 }

@@ -1,0 +1,8 @@
+-- Records: the engine graph. Load: what loads and reset leave. Door: the questions. Step: what one call answers and leaves.
+-- Open: what open answers and leaves. Tally: what a list of calls says by itself.
+pub mod Records
+pub mod Load
+pub mod Door
+pub mod Step
+pub mod Open
+pub mod Tally

@@ -1,0 +1,18 @@
+-- Examples: document 01's listing and small graphs, computed. Sums: laws of lists. LowerBound, UpperBound: potentials, cancelled walks.
+-- LeastWeights, Offers, FirstLeast, Turns: settling gives least weights and comes to rest. Tree, Limits: the way back, the size of sums.
+-- TableAndPath, LeastCrossing, TwoGraphs: the claims. Neighbours, TurnCases: settling along neighbour lists and case by case, for code.
+pub mod Examples
+pub mod Sums
+pub mod LowerBound
+pub mod UpperBound
+pub mod LeastWeights
+pub mod Offers
+pub mod FirstLeast
+pub mod Turns
+pub mod Tree
+pub mod Limits
+pub mod TableAndPath
+pub mod LeastCrossing
+pub mod TwoGraphs
+pub mod Neighbours
+pub mod TurnCases

@@ -1,0 +1,2 @@
+-- Tree: a tree of least keys.
+pub mod Tree

@@ -5,10 +5,11 @@ use native.Mathlib.Nat.{add-zero, add-suc, zero-mul, suc-mul, le-refl, le-antisy
 use native.Mathlib.Decide.{ℕ-discrete}
 use native.Mathlib.Numerals.{add-one}
 use native.Mathlib.Omega.{arith}
-use mathlib.Core.List.{List, [], _∷_, _++_, map, append-assoc, map-append}
-use lib.ListN.{length, getD, length-append, List·getD-append}
-use lib.Seq.{getD-append-seam, getD-at, ext-getD}
+use mathlib.Core.List.{List, [], _∷_, _++_, map, append-assoc, append-nil, map-append}
+use lib.ListN.{length, getD, set, replicate, length-append, length-replicate, getD-replicate, drop-of-length-le, List·getD-append}
+use lib.Seq.{getD-at, ext-getD, sets}
 use Rattle.columns.specs.Lists.{each, joined, layered}
+use Rattle.columns.proofs.Columns.{sets-more, sets-over}
 
 pub times-next : (n k : ℕ) → (n + 1) * k ≡ n * k + k
 times-next n k = ap (λ (m : ℕ). m * k) (add-one n) ∙ suc-mul n k
@@ -79,7 +80,7 @@ module _ {A : Type 0} where
 
   pub joined-plus : (n m : ℕ) (f : ℕ → List A) → joined (n + m) f ≡ joined n f ++ joined m (λ i. f (n + i))
   unfolding joined
-  joined-plus n zero f = ap (λ (k : ℕ). joined k f) (add-zero n) ∙ sym (mathlib.Core.List.append-nil (joined n f))
+  joined-plus n zero f = ap (λ (k : ℕ). joined k f) (add-zero n) ∙ sym (append-nil (joined n f))
   joined-plus n (suc m) f =
       ap (λ (k : ℕ). joined k f) (add-suc n m) ∙ ap (λ (l : List A). l ++ f (n + m)) (joined-plus n m f)
       ∙ append-assoc (joined n f) (joined m (λ i. f (n + i))) (f (n + m))
@@ -118,3 +119,18 @@ module _ {A B : Type 0} (g : A → B) where
   map-layered rounds layer gap =
       map-append g (joined rounds (λ t. layer t ++ gap t)) (layer rounds)
       ∙ ap (λ (l : List B). l ++ map g (layer rounds)) (map-joined rounds (λ t. layer t ++ gap t) ∙ joined-same rounds _ _ (λ t h. map-append g (layer t) (gap t)))
+
+-- ---- a column that a loop writes from its start
+
+module _ {A : Type 0} where
+  -- one more place
+  pub store-each : (l : List A) (i : ℕ) (f : ℕ → A) → set (sets l 0 (each i f)) i (f i) ≡ sets l 0 (each (i + 1) f)
+  store-each l i f = sym (sets-more l (each i f) i (f i) (length-each i f)) ∙ ap (sets l 0) (sym (each-more i f))
+
+  -- the whole column is what was written
+  pub whole : (l vs : List A) → length vs ≡ length l → sets l 0 vs ≡ vs
+  whole l vs e = sets-over l vs (omega arith) ∙ ap (λ r. vs ++ r) (drop-of-length-le l {i = length vs} (omega arith)) ∙ append-nil vs
+
+  pub replicate-each : (n : ℕ) (v : A) → replicate n v ≡ each n (λ i. v)
+  replicate-each n v = ext-getD v (replicate n v) (each n (λ i. v)) (length-replicate n v ∙ sym (length-each n (λ i. v)))
+      (λ i h. let k : i < n = omega (arith, length-replicate n v) in getD-replicate n i v v k ∙ sym (getD-each n (λ i. v) v i k))

@@ -15,7 +15,7 @@ use Rattle.priority_queue.specs.Tree as Q
 use Rattle.walks.specs.Graph.{Graph, endA, endB}
 use Rattle.walks.specs.Settling.{State, statusAt, weightAt, previousAt, changes, waits, mark, byStatus, offer, relaxEdge}
 use Rattle.walks.proofs.TurnCases.{edge-from-a, edge-from-b}
-use Rattle.settling.specs.Ready.{keyOf, accepts, Ready, sumLimit, graphOf, weighs}
+use Rattle.settling.specs.Ready.{keyOf, accepts, Ready, Listed, sumLimit, graphOf, weighs}
 
 -- a store into one place, read at any place
 stored : (l : List ℕ) (u x v : ℕ) → u < length l → ((v ≡ u) × (getD (set l u x) v 0 ≡ x)) ⊎ ((v ≡ u → ⊥) × (getD (set l u x) v 0 ≡ getD l v 0))
@@ -94,3 +94,6 @@ other-in x y a n p q = go (eqb x a)
 -- the same number of vertices by another name
 pub ready-as : {n n′ : ℕ} {s : State} {node leaf : List ℕ} → n ≡ n′ → Ready n s node leaf → Ready n′ s node leaf
 ready-as {s = s} {node = node} {leaf = leaf} e r = subst (λ k. Ready k s node leaf) e r
+
+pub listed-as : {n n′ : ℕ} {a b w numbers ends : List ℕ} → n ≡ n′ → Listed n a b w numbers ends → Listed n′ a b w numbers ends
+listed-as {a = a} {b = b} {w = w} {numbers = numbers} {ends = ends} e l = subst (λ k. Listed k a b w numbers ends) e l

@@ -7,6 +7,7 @@ use mathlib.Core.List.{List}
 use mathlib.Core.Option.{Option, some, none}
 use lib.ListN.{length, getD, take}
 use lib.Dec.{eqb, ltb}
+use Rattle.columns.specs.Lists.{each}
 use Rattle.priority_queue.specs.Tree.{Tree}
 use Rattle.priority_queue.specs.Tree as Q
 use Rattle.neighbors.specs.Lists.{lists}
@@ -91,3 +92,15 @@ endOf n stop = cond (ltb stop n) (some stop) none
 abbrev pub startIn : List ℕ → ℕ → ℕ
 startIn ends zero = 0
 startIn ends (suc v) = getD ends v 0
+
+-- the state before the first turn: status bytes 0 and 1, every weight 0, every vertex its own previous; weights within the limit; `stop` is no source
+pub record Begun (status weight previous w : List ℕ) (stop : ℕ) : Type 0 where
+  pub bytes : (v : ℕ) → getD status v 0 ≤ 1
+  pub no-weight : weight ≡ each (length status) (λ v. 0)
+  pub own-previous : previous ≡ each (length status) (λ v. v)
+  pub light : (e : ℕ) → e < length w → getD w e 0 ≤ 500000
+  pub no-source : getD status stop 0 ≡ 1 → ⊥
+
+-- the first i leaves hold the keys of the vertices that wait with weight 0, the others none
+abbrev pub Keyed : (status : List ℕ) (i : ℕ) (leaf : List ℕ) → Type 0
+Keyed status i leaf = (v : ℕ) → v < length status → getD leaf v 0 ≡ cond (ltb v i) (keyOf (getD status v 0) 0 v) Q.none

@@ -1,0 +1,13 @@
+-- `weights::is_largest_half_weight` meets its contract. Assumes nothing.
+use borrow.Author.Needs.{needs}
+use Rattle.weights.proofs.is_largest_half_weight.Statement.{statement}
+use Rattle.weights.proofs.is_largest_half_weight.Tie as tie
+
+both-requires : tie.Need-both-requires
+both-requires c κs = search needs
+
+returns : tie.Need-returns
+returns c = c .both .ensures
+
+pub is-largest-half-weight-spec : {M : Type 1} → statement M
+is-largest-half-weight-spec = tie.close (tie.spec both-requires returns)

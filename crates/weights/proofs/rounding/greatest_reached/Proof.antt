@@ -1,0 +1,80 @@
+-- `weights::rounding::greatest_reached` meets its contract. Invariant: lo is 0 or is reached, and no n from hi to max is. The measure is hi - lo. Assumes nothing.
+use mathlib.Core.Path.{_≡_, refl, sym}
+use mathlib.Core.Logic.{_⊎_, inl, inr}
+use mathlib.Core.Bool.{true, false}
+use Prim.Native.Nat.{ℕ, _+_, _-_, _/_, _≤_, _<_}
+use native.Mathlib.Omega.{arith}
+use Rattle.weights.specs.Rounding.{reaches}
+use Rattle.weights.proofs.Search.{is-greatest, misses, fits-float}
+use Rattle.weights.proofs.rounding.greatest_reached.Statement.{statement}
+use Rattle.weights.proofs.rounding.greatest_reached.Tie as tie
+
+abbrev Inv-loop : tie.InvT-loop
+Inv-loop max v lo₀ hi₀ lo hi =
+    (lo < hi) × (hi ≤ max + 1) × ((lo ≡ 0) ⊎ (reaches v lo ≡ true)) × ((n : ℕ) → hi ≤ n → n ≤ max → reaches v n ≡ false)
+
+abbrev μ-loop : tie.MeasureT-loop
+μ-loop max v lo₀ hi₀ lo hi = hi - lo
+
+add-hi : tie.Need-add-hi Inv-loop μ-loop
+add-hi c = omega arith
+
+loop-holds : tie.Need-loop-holds Inv-loop μ-loop
+loop-holds c = (omega arith, omega arith, inl refl, λ n a b. absurd (omega arith))
+
+sub-if1 : tie.Need-sub-if1 Inv-loop μ-loop
+sub-if1 c = omega arith
+
+sub-mid : tie.Need-sub-mid Inv-loop μ-loop
+sub-mid c = omega arith
+
+add-mid : tie.Need-add-mid Inv-loop μ-loop
+add-mid c = omega arith
+
+int-to-float-if2 : tie.Need-int-to-float-if2 Inv-loop μ-loop
+int-to-float-if2 c = fits-float _ (omega arith)
+
+loop-less : tie.Need-loop-less Inv-loop μ-loop
+loop-less c = omega arith
+
+loop-again : tie.Need-loop-again Inv-loop μ-loop
+unfolding reaches
+loop-again c = (omega arith, omega arith, inr (c .if2 .taken), c .before .before .before .loop .inv .3)
+
+loop-less-2 : tie.Need-loop-less-2 Inv-loop μ-loop
+loop-less-2 c = omega arith
+
+loop-again-2 : tie.Need-loop-again-2 Inv-loop μ-loop
+unfolding reaches
+loop-again-2 c =
+    let at-loop = c .before .before .before in (
+      omega arith,
+      omega arith,
+      at-loop .loop .inv .2,
+      (λ n a b. misses (at-loop .before .args .v) (at-loop .loop .lo + (at-loop .loop .hi - at-loop .loop .lo) / 2) n (at-loop .before .args .max) (omega arith) a b (omega arith) (c .if2 .left)),
+    )
+
+returns : tie.Need-returns Inv-loop μ-loop
+returns c =
+    let l = c .before .loop in
+    sym
+    (is-greatest (c .before .before .args .v) (c .before .before .args .max) (l .lo)
+    (record { within = omega arith; met = l .inv .2; last = λ n a b. l .inv .3 n (omega arith) b }))
+
+pub greatest-reached-spec : {M : Type 1} → statement M
+greatest-reached-spec =
+    tie.close
+    (tie.spec
+    Inv-loop
+    μ-loop
+    add-hi
+    loop-holds
+    sub-if1
+    sub-mid
+    add-mid
+    int-to-float-if2
+    loop-less
+    loop-again
+    loop-less-2
+    loop-again-2
+    returns)

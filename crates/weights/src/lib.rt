@@ -1,0 +1,161 @@
+// Weights: document 01's section "Weights" with questions 6 to 10.
+pub mod diagonal;
+mod logarithm;
+pub mod probabilities;
+mod rounding;
+
+use columns::Done;
+use columns::EDGE_LIMIT;
+use columns::HALF_WEIGHT_LIMIT;
+use columns::Weight;
+use columns::done_of;
+use columns::questions::asked;
+use columns::questions::at_most;
+use columns::questions::both;
+use columns::questions::lesser;
+use columns::stores::fill_f64;
+use logarithm::edge_weight;
+use probabilities::are_probabilities;
+use probabilities::is_erasure_probability;
+use probabilities::is_probability;
+use rounding::half_weight;
+ghost use mathlib.Core.Path.{_≡_};
+ghost use mathlib.Core.Bool.{Bool};
+ghost use mathlib.Core.List.{map};
+ghost use Prim.Native.Nat.{ℕ, _≤_};
+ghost use lib.ListN.{length, take};
+ghost use lib.Ieee.{lt};
+ghost use Rattle.columns.specs.Lists.{over};
+ghost use Rattle.columns.specs.Places.{zeroFloat};
+ghost use Rattle.weights.specs.Probabilities.{isProbability, isErasureProbability};
+ghost use Rattle.weights.specs.Logarithm.{edgeWeight};
+ghost use Rattle.weights.specs.Rounding.{halfWeight};
+ghost use Rattle.weights.specs.Answers.{weighed};
+ghost use Rattle.weights.specs.Calls.{weightDoor, larger, largestWeight, isLargestHalfWeight, ComputedWeights, SetEach};
+
+// What `weight_of_p` answers.
+pub enum WeightOfP {
+    Weighs(f64),
+    Refused(u32),
+}
+
+// The weight of an edge with probability p.
+pub fn weight_of_p(p: f64) -> WeightOfP
+    ensures { λ r. ⌜ r ≡ weighed (weightDoor p) (edgeWeight p) ⌝ }
+{
+    if is_probability(p) {
+        WeightOfP::Weighs(edge_weight(p))
+    } else {
+        WeightOfP::Refused(9)
+    }
+}
+
+// The larger of two weights.
+fn larger_weight(m: f64, w: f64) -> f64
+    ensures { λ r. ⌜ r ≡ larger m w ⌝ }
+{
+    if w > m { w } else { m }
+}
+
+// The largest weight of the first n edges, or of all where there are fewer, from 0 on.
+fn largest_weight(p: &[f64], n: usize) -> f64
+    ensures { λ r. ⌜ r ≡ largestWeight (take n (now (p .entry))) ⌝ }
+{
+    let m = lesser(n, p.len());
+    let mut largest = 0.0;
+    let mut i: usize = 0;
+    while i < m {
+        largest = larger_weight(largest, edge_weight(p[i]));
+        i += 1;
+    }
+    largest
+}
+
+// Whether a weight is above 0.
+fn is_above_zero(w: f64) -> bool
+    ensures { λ r. ⌜ r ≡ lt zeroFloat w ⌝ }
+{
+    w > 0.0
+}
+
+// Question 8.
+fn is_largest_half_weight(max_half_weight: Weight) -> bool
+    ensures { λ r. ⌜ r ≡ isLargestHalfWeight «max_half_weight» ⌝ }
+{
+    both(1 <= max_half_weight, max_half_weight <= HALF_WEIGHT_LIMIT)
+}
+
+// Stores the half weight of each of the first n edges. The weight of an edge is computed here a second time:
+// the largest has to be known before the first half weight, and no column is lent that could hold the weights.
+fn store_half_weights(
+    n: usize,
+    p: &[f64],
+    column: &mut [Weight],
+    max_half_weight: Weight,
+    largest: f64,
+)
+    requires { ⌜ (n ≤ length (now p)) × (n ≤ length (now column)) ⌝ }
+    ensures { λ _. ⌜ now (column .exit) ≡ over (map (λ q. halfWeight «max_half_weight» (edgeWeight q) largest) (take n (now (p .entry)))) (now (column .entry)) ⌝ }
+{
+    let mut i: usize = 0;
+    while i < n {
+        column[i] = half_weight(max_half_weight, edge_weight(p[i]), largest);
+        i += 1;
+    }
+}
+
+// Sets the half weight of each edge from the edges' probabilities.
+pub fn compute_weights(
+    edge_num: u32,
+    p: &[f64],
+    half_weight: &mut [Weight],
+    max_half_weight: Weight,
+) -> Done
+    ensures { λ r. ⌜ ComputedWeights «edge_num» (now (p .entry)) (now («half_weight» .entry)) «max_half_weight» (now («half_weight» .exit)) r ⌝ }
+{
+    let n = edge_num as usize;
+    let long_enough = both(at_most(n, p.len()), at_most(n, half_weight.len()));
+    let few = at_most(n, EDGE_LIMIT as usize);
+    let in_range = is_largest_half_weight(max_half_weight);
+    let probabilities = are_probabilities(p, n);
+    let largest = largest_weight(p, n);
+    let some_above = is_above_zero(largest);
+    let last = asked(probabilities, 9, asked(some_above, 10, 0));
+    let number = asked(long_enough, 6, asked(few, 7, asked(in_range, 8, last)));
+    if number != 0 {
+        return done_of(number);
+    }
+    store_half_weights(n, p, half_weight, max_half_weight, largest);
+    Done::Accepted
+}
+
+// Sets the number of each edge, where question 9 is met.
+fn set_each(met: bool, edge_num: u32, value: f64, column: &mut [f64]) -> Done
+    ensures { λ r. ⌜ SetEach met «edge_num» value (now (column .entry)) (now (column .exit)) r ⌝ }
+{
+    let n = edge_num as usize;
+    let number = asked(
+        at_most(n, column.len()),
+        6,
+        asked(at_most(n, EDGE_LIMIT as usize), 7, asked(met, 9, 0)),
+    );
+    if number != 0 {
+        return done_of(number);
+    }
+    fill_f64(column, n, value);
+    Done::Accepted
+}
+
+// Sets the probability of each edge.
+pub fn set_probability(edge_num: u32, p: f64, column: &mut [f64]) -> Done
+    ensures { λ r. ⌜ SetEach (isProbability p) «edge_num» p (now (column .entry)) (now (column .exit)) r ⌝ }
+{
+    set_each(is_probability(p), edge_num, p, column)
+}
+
+// Sets the erasure probability of each edge.
+pub fn set_erasure_probability(edge_num: u32, pe: f64, column: &mut [f64]) -> Done
+    ensures { λ r. ⌜ SetEach (isErasureProbability pe) «edge_num» pe (now (column .entry)) (now (column .exit)) r ⌝ }
+{
+    set_each(is_erasure_probability(pe), edge_num, pe, column)
+}

@@ -1,0 +1,4 @@
+-- Queries: the engine graph as `walks` has it, and the questions of a query. Steps: what each query answers and leaves. Search: what private functions promise one another.
+pub mod Queries
+pub mod Steps
+pub mod Search

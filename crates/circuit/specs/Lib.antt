@@ -1,0 +1,2 @@
+-- Kind 4: the edges between layers.
+pub mod Circuit

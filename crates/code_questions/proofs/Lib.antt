@@ -1,0 +1,2 @@
+-- Clamped: question 5 asked of counts within the limits.
+pub mod Clamped

@@ -1,0 +1,15 @@
+-- `code_questions::kind_known` meets its contract. Assumes nothing.
+use Rattle.layers.specs.Accepts.{kindKnown}
+use borrow.Author.Needs.{needs}
+use Rattle.code_questions.proofs.kind_known.Statement.{statement}
+use Rattle.code_questions.proofs.kind_known.Tie as tie
+
+both-requires : tie.Need-both-requires
+both-requires c κs = search needs
+
+returns : tie.Need-returns
+unfolding kindKnown
+returns c = c .both .ensures
+
+pub kind-known-spec : {M : Type 1} → statement M
+kind-known-spec = tie.close (tie.spec both-requires returns)

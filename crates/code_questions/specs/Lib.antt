@@ -1,0 +1,2 @@
+-- Answers: what the calls that count answer.
+pub mod Answers

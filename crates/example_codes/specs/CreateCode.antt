@@ -1,0 +1,80 @@
+-- `create_code`: questions 2 to 6, the answer, and each column afterwards.
+use Prim.Native.Nat.{ℕ, zero, suc, _*_}
+use mathlib.Core.Path.{_≡_}
+use mathlib.Core.List.{List}
+use lib.ListN.{length, replicate}
+use Rattle.columns.specs.Lists.{after}
+use Rattle.columns.specs.Places.{zeroFloat}
+use Rattle.columns.specs.Questions.{ask}
+use Rattle.neighbors.specs.Lists.{degrees, lists}
+use Rattle.code_columns.specs.Edges.{firsts, seconds, boundaries, positionsI, positionsJ, positionsT}
+use Rattle.layers.specs.Codes.{edgesOf, verticesOf}
+use Rattle.layers.specs.Counts.{vertexNum, edgeNum}
+use Rattle.layers.specs.Accepts.{codeRefusal}
+use Rattle.example_codes.specs.declared.Created.{Created}
+use Rattle.example_codes.specs.declared.Created.the-variants.{Code, Refused}
+use Rattle.example_codes.specs.Columns.{CodeColumns, edgeRoom, vertexRoom, longEnough}
+
+-- document 01's number for each case, and the values: 0 where the call was refused
+abbrev pub numberOf : Created → ℕ
+numberOf (Code vertices edges) = 0
+numberOf (Refused number) = number
+
+abbrev pub verticesIn : Created → ℕ
+verticesIn (Code vertices edges) = vertices
+verticesIn (Refused number) = 0
+
+abbrev pub edgesIn : Created → ℕ
+edgesIn (Code vertices edges) = edges
+edgesIn (Refused number) = 0
+
+-- the case for a question's number, and the counts
+abbrev pub created : (number vertices edges : ℕ) → Created
+created zero vertices edges = Code vertices edges
+created (suc q) vertices edges = Refused (suc q)
+
+-- questions 2 to 6 in order: the number of the first that is answered no, 0 if there is none
+unfoldable pub refusal : (kind d rounds vertexRoom edgeRoom numbers : ℕ) → ℕ
+refusal kind d rounds vertexRoom edgeRoom numbers =
+    codeRefusal kind d rounds (ask (longEnough (vertexNum kind d rounds) (edgeNum kind d rounds) vertexRoom edgeRoom numbers) 6 0)
+
+abbrev pub refusalIn : (kind d rounds : ℕ) → CodeColumns → ℕ
+refusalIn kind d rounds c = refusal kind d rounds (vertexRoom c) (edgeRoom c) (length (c .neighborNumbers))
+
+-- the columns of a new code: p, pe, half weight and erasure 0, no defect, neighbour lists in vertex order
+abbrev pub newColumns : (kind d rounds : ℕ) → CodeColumns
+newColumns kind d rounds = record {
+  endsA = firsts (edgesOf kind d rounds);
+  endsB = seconds (edgesOf kind d rounds);
+  p = replicate (edgeNum kind d rounds) zeroFloat;
+  pe = replicate (edgeNum kind d rounds) zeroFloat;
+  halfWeight = replicate (edgeNum kind d rounds) 0;
+  erasure = replicate (edgeNum kind d rounds) 0;
+  posI = positionsI (verticesOf kind d rounds);
+  posJ = positionsJ (verticesOf kind d rounds);
+  posT = positionsT (verticesOf kind d rounds);
+  boundary = boundaries (verticesOf kind d rounds);
+  defect = replicate (vertexNum kind d rounds) 0;
+  listLengths = degrees (firsts (edgesOf kind d rounds)) (seconds (edgesOf kind d rounds)) (edgeNum kind d rounds) (vertexNum kind d rounds);
+  neighborNumbers = lists (firsts (edgesOf kind d rounds)) (seconds (edgesOf kind d rounds)) (edgeNum kind d rounds) (vertexNum kind d rounds);
+}
+
+-- the answer, and the columns as they were lent and as they are handed back; q is the question's number
+pub record CodeCreated (kind d rounds q : ℕ) (lent back : CodeColumns) (r : Created) : Type 0 where
+  pub answer : r ≡ created q (vertexNum kind d rounds) (edgeNum kind d rounds)
+  pub ends-a : back .endsA ≡ after q (newColumns kind d rounds .endsA) (lent .endsA)
+  pub ends-b : back .endsB ≡ after q (newColumns kind d rounds .endsB) (lent .endsB)
+  pub p : back .p ≡ after q (newColumns kind d rounds .p) (lent .p)
+  pub pe : back .pe ≡ after q (newColumns kind d rounds .pe) (lent .pe)
+  pub half-weight : back .halfWeight ≡ after q (newColumns kind d rounds .halfWeight) (lent .halfWeight)
+  pub erasure : back .erasure ≡ after q (newColumns kind d rounds .erasure) (lent .erasure)
+  pub pos-i : back .posI ≡ after q (newColumns kind d rounds .posI) (lent .posI)
+  pub pos-j : back .posJ ≡ after q (newColumns kind d rounds .posJ) (lent .posJ)
+  pub pos-t : back .posT ≡ after q (newColumns kind d rounds .posT) (lent .posT)
+  pub boundary : back .boundary ≡ after q (newColumns kind d rounds .boundary) (lent .boundary)
+  pub defect : back .defect ≡ after q (newColumns kind d rounds .defect) (lent .defect)
+  pub list-lengths : back .listLengths ≡ after q (newColumns kind d rounds .listLengths) (lent .listLengths)
+  pub neighbor-numbers : back .neighborNumbers ≡ after q (newColumns kind d rounds .neighborNumbers) (lent .neighborNumbers)
+
+abbrev pub CreateCode : (kind d rounds : ℕ) (lent back : CodeColumns) (r : Created) → Type 0
+CreateCode kind d rounds lent back r = CodeCreated kind d rounds (refusalIn kind d rounds lent) lent back r

@@ -1,0 +1,2 @@
+-- Rows: a row by its parts.
+pub mod Rows

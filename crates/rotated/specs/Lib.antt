@@ -1,0 +1,2 @@
+-- Kinds 5 and 6.
+pub mod Rotated

@@ -5,7 +5,7 @@ use lib.ListN.{getD}
 use lib.Ieee.{Float, binary64, ofBits}
 use Rattle.columns.specs.declared.VisualizePosition.{VisualizePosition}
 
--- 0 as an f64, and the position that a new vertex has
+-- 0 as an f64
 abbrev pub zeroFloat : Float
 zeroFloat = ofBits binary64 0
 

@@ -1,4 +1,4 @@
--- What one call answers and what it leaves in every lent column: the relation that the functions' contracts cite, and the lists of calls too.
+-- What one call answers and what it leaves in every lent column: the relation that the functions' contracts cite.
 use Prim.Native.Nat.{ℕ}
 use mathlib.Core.Path.{_≡_}
 use mathlib.Core.Bool.{cond}

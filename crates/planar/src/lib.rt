@@ -1,4 +1,4 @@
-// Kinds 1, 2 and 3, and the vertices of kind 4: rows of d + 1 places.
+// Kinds 1, 2 and 3, and the vertices and the edges within a layer of kind 4: rows of d + 1 places.
 ghost use mathlib.Core.Path.{_≡_};
 ghost use mathlib.Core.Bool.{cond};
 ghost use Prim.Native.Nat.{_+_, _-_, _*_, _≤_, _<_};

@@ -54,7 +54,7 @@ start g source = record {
 abbrev pub apart : ℕ → ℕ → ℕ
 apart x y = (x - y) + (y - x)
 
--- Engine, Settling, sentence 4, the tie rule: whether u, waiting with (w′, q′), changes for weight k from a taken vertex with previous q.
+-- Engine, Settling, sentence 4: whether u, waiting with (w′, q′), changes for weight k from a taken vertex with previous q.
 unfoldable pub changes : (u k q w′ q′ : ℕ) → Bool
 changes u k q w′ q′ =
     ltb k w′

@@ -37,7 +37,7 @@ pub fn certificate_decides()
     ensures { λ _. ⌜ CertificateDecides ⌝ }
 {}
 
-// Two graphs alike in ends and boundary bytes: equal weights give equal answers, nowhere greater weights nowhere greater ones.
+// Two graphs alike in ends and boundary bytes: equal weights give equal crossings, left columns and table weights, nowhere greater weights nowhere greater ones.
 pub fn weights_compare()
     ensures { λ _. ⌜ WeightsCompare ⌝ }
 {}

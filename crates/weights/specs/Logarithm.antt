@@ -16,7 +16,7 @@ pub record Halved : Type 0 where
   pub k : ℕ
 
 -- halve q until it is below 2; `below` says whether q is, k counts the halvings made.
--- At most `most` halvings: proofs/Halvings.antt shows that 64 are never used up.
+-- At most `most` halvings: proofs/Halvings.antt shows that 64 are never used up where question 9 accepts p.
 unfoldable pub halve : (most : ℕ) (below : Bool) (q : Float) (k : ℕ) → Halved
 halve zero below q k = record { m = q; k = k }
 halve (suc most) true q k = record { m = q; k = k }

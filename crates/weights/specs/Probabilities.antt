@@ -1,4 +1,4 @@
--- Question 9, of one number. A NaN compares with nothing, so it fails each of these tests.
+-- Question 9, of one number. A NaN is neither below nor above a number and is not the bits of 0, so it fails each of these tests.
 use mathlib.Core.Bool.{Bool, _&&_, _||_}
 use lib.Dec.{eqb}
 use lib.Ieee.{Float, binary64, le, toBits}

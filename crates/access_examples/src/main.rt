@@ -1,0 +1,204 @@
+// Damaged graphs for `sanity_check`, and getters after setters.
+use code_access::ListCount;
+use code_access::SyndromeCounts;
+use code_access::Truth;
+use columns::Done;
+use columns::VertexIndex;
+use libc::STDOUT_FILENO;
+use vertices::Verdict;
+
+fn write_number(n: u32) {
+    io::print_decimal(STDOUT_FILENO, n as u64);
+}
+
+fn write_comma() {
+    io::write_all(STDOUT_FILENO, b",");
+}
+
+fn end_line() {
+    io::write_all(STDOUT_FILENO, b"\n");
+}
+
+fn write_refusal(number: u32) {
+    io::write_all(STDOUT_FILENO, b"r,");
+    write_number(number);
+}
+
+fn write_two(number: u32, x: u32) {
+    write_number(number);
+    write_comma();
+    write_number(x);
+}
+
+fn write_three(number: u32, x: u32, y: u32) {
+    write_two(number, x);
+    write_comma();
+    write_number(y);
+}
+
+// The verdict's number and values, or r and the number of the question.
+fn show_verdict(v: Verdict) {
+    match v {
+        Verdict::Sound => write_number(0),
+        Verdict::Empty => write_number(1),
+        Verdict::DuplicateEdge(earlier, later) => write_three(2, earlier, later),
+        Verdict::NoEdges(vertex) => write_two(3, vertex),
+        Verdict::EdgeTwice(edge, vertex) => write_three(4, edge, vertex),
+        Verdict::Refused(number) => write_refusal(number),
+    }
+    end_line();
+}
+
+// The edges (0,1) (1,2) (0,2) with these lists.
+fn show_triangle(lengths: &[u32], numbers: &[u32]) {
+    let a = [0u32, 1, 0];
+    let b = [1u32, 2, 2];
+    show_verdict(vertices::sanity::sanity_check(3, 3, &a, &b, lengths, numbers));
+}
+
+// Edges with sound lists for two vertices and edge 0.
+fn show_edges(edge_num: u32, a: &[u32], b: &[u32]) {
+    let lengths = [1u32, 1];
+    let numbers = [0u32, 0, 0, 0, 0, 0, 0, 0];
+    show_verdict(vertices::sanity::sanity_check(2, edge_num, a, b, &lengths, &numbers));
+}
+
+fn verdicts_on_edges() {
+    // no edges
+    show_edges(0, &[0u32], &[1u32]);
+    // one edge
+    show_edges(1, &[0u32], &[1u32]);
+    // the pair of edges 0, 2 and 3
+    show_edges(4, &[0u32, 1, 1, 0], &[1u32, 2, 0, 1]);
+    // equal ends are a pair too
+    show_edges(3, &[0u32, 7, 7], &[1u32, 7, 7]);
+    // ends beyond every limit
+    show_edges(3, &[4000000000u32, 5, 5], &[5u32, 4000000001, 4000000000]);
+    // too few ends
+    show_edges(3, &[0u32, 1], &[1u32, 2, 2]);
+}
+
+fn verdicts_on_vertices() {
+    // sound
+    show_triangle(&[2u32, 2, 2], &[0u32, 2, 0, 1, 1, 2]);
+    // vertex 1 has no edges; that vertex 2 has edge 1 twice comes later
+    show_triangle(&[2u32, 0, 2], &[0u32, 2, 1, 1, 0, 0]);
+    // vertex 0 has edge 2 twice
+    show_triangle(&[3u32, 2, 0], &[2u32, 0, 2, 0, 1, 0]);
+    // a number beyond every limit
+    show_triangle(&[1u32, 3, 1], &[0u32, 4000000000, 1, 4000000000, 1, 0]);
+    // numbers for 7 places asked for, 6 lent
+    show_triangle(&[3u32, 2, 2], &[0u32, 2, 0, 1, 1, 2]);
+    // fewer than twice the edges
+    show_triangle(&[1u32, 1, 1], &[0u32, 0, 1, 1, 2]);
+    // too few lengths
+    show_triangle(&[2u32, 2], &[0u32, 2, 0, 1, 1, 2]);
+}
+
+fn show_done(d: Done) {
+    match d {
+        Done::Accepted => write_number(0),
+        Done::Refused(number) => write_refusal(number),
+    }
+    end_line();
+}
+
+fn show_count(c: ListCount) {
+    match c {
+        ListCount::Count(n) => write_number(n),
+        ListCount::Refused(number) => write_refusal(number),
+    }
+    end_line();
+}
+
+fn show_counts(c: SyndromeCounts) {
+    match c {
+        SyndromeCounts::Counts(d, e) => write_two(d, e),
+        SyndromeCounts::Refused(number) => write_refusal(number),
+    }
+    end_line();
+}
+
+fn show_truth(t: Truth) {
+    match t {
+        Truth::Is(value) => {
+            if value {
+                write_number(1)
+            } else {
+                write_number(0)
+            }
+        }
+        Truth::Refused(number) => write_refusal(number),
+    }
+    end_line();
+}
+
+fn show_four(s: &[u32; 4]) {
+    write_three(s[0], s[1], s[2]);
+    write_comma();
+    write_number(s[3]);
+    end_line();
+}
+
+// Defects 3, 1 and 3 again; then a list that names vertex 4.
+fn defects() {
+    let mut bytes = [1u8, 1, 1, 1];
+    let mut list = [9u32, 9, 9, 9];
+    show_done(code_access::set_defect_vertices(4, &[3u32, 1, 3], &mut bytes));
+    show_count(code_access::get_defect_vertices(4, &bytes, &mut list));
+    show_four(&list);
+    show_done(code_access::set_defect_vertices(4, &[0u32, 4], &mut bytes));
+    show_count(code_access::get_defect_vertices(4, &bytes, &mut list));
+    show_four(&list);
+    show_truth(code_access::is_defect(4, &bytes, VertexIndex(1)));
+    show_truth(code_access::is_defect(4, &bytes, VertexIndex(2)));
+    show_truth(code_access::is_defect(4, &bytes, VertexIndex(4)));
+}
+
+// Both lists at once.
+fn syndrome() {
+    let mut defect = [0u8, 0, 0, 0];
+    let mut erasure = [1u8, 1, 1, 1];
+    let mut defects = [9u32, 9, 9, 9];
+    let mut erasures = [9u32, 9, 9, 9];
+    show_done(code_access::set_syndrome(4, 3, &[2u32], &[2u32, 0], &mut defect, &mut erasure));
+    show_counts(code_access::get_syndrome(4, 3, &defect, &erasure, &mut defects, &mut erasures));
+    show_four(&defects);
+    show_four(&erasures);
+}
+
+// The listing's graph: half weights 500, vertex 3 left, vertex 2 right.
+fn initializer() {
+    let mut a = [9u32, 9, 9, 9];
+    let mut b = [9u32, 9, 9, 9];
+    let mut weight = [9u32, 9, 9, 9];
+    let mut list = [9u32, 9, 9, 9];
+    let boundary = [0u8, 0, 2, 1];
+    show_count(code_access::get_initializer(
+        4,
+        3,
+        &[0u32, 1, 0],
+        &[1u32, 2, 3],
+        &[500u32, 500, 500],
+        &boundary,
+        &mut a,
+        &mut b,
+        &mut weight,
+        &mut list,
+    ));
+    show_four(&a);
+    show_four(&b);
+    show_four(&weight);
+    show_four(&list);
+    show_truth(code_access::is_virtual(4, &boundary, VertexIndex(1)));
+    show_truth(code_access::is_virtual(4, &boundary, VertexIndex(2)));
+    show_truth(code_access::is_virtual(4, &boundary, VertexIndex(3)));
+}
+
+fn main() {
+    verdicts_on_edges();
+    verdicts_on_vertices();
+    defects();
+    syndrome();
+    initializer();
+}

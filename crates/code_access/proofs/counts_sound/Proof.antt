@@ -1,0 +1,23 @@
+-- `code_access::counts_sound` meets its contract. Assumes nothing.
+use Rattle.code_access.specs.Calls.{countsSound}
+use borrow.Author.Needs.{needs}
+use Rattle.code_access.proofs.counts_sound.Statement.{statement}
+use Rattle.code_access.proofs.counts_sound.Tie as tie
+
+vertex-count-sound-requires : tie.Need-vertex-count-sound-requires
+vertex-count-sound-requires c κs = search needs
+
+edge-count-sound-requires : tie.Need-edge-count-sound-requires
+edge-count-sound-requires c κs = search needs
+
+both-requires : tie.Need-both-requires
+both-requires c κs = search needs
+
+returns : tie.Need-returns
+unfolding countsSound
+returns c = cc
+
+pub counts-sound-spec : {M : Type 1} → statement M
+counts-sound-spec =
+    tie.close
+    (tie.spec vertex-count-sound-requires edge-count-sound-requires both-requires returns)

@@ -1,0 +1,84 @@
+-- `code_access::get_named` meets its contract. Assumes nothing.
+use mathlib.Core.Path.{_≡_, refl, sym, ap, _∙_}
+use lib.ListN.{length}
+use Rattle.columns.proofs.Columns.{after-accepted, after-refused}
+use Rattle.code_access.specs.declared.ListCount.the-variants.{Count, Refused}
+use Rattle.code_access.specs.Marks.{listed}
+use Rattle.code_access.specs.Calls.{getDoor}
+use Rattle.code_access.proofs.Doors.{get-met, answer-zero, answer-no}
+use borrow.Author.Needs.{needs}
+use Rattle.code_access.proofs.get_named.Statement.{statement}
+use Rattle.code_access.proofs.get_named.Tie as tie
+
+-- the number that the questions give
+number : (c : tie.After-asked2) → let s = c .before .before .before .before .before .before .before .before .before .args in c .asked2 .result ≡ getDoor (s .sound) (s .n) (s .column .now) (s .list .now)
+number c = cc
+
+at-most-requires : tie.Need-at-most-requires
+at-most-requires c κs = search needs
+
+at-most-requires-2 : tie.Need-at-most-requires-2
+at-most-requires-2 c κs = search needs
+
+marks-sound-requires : tie.Need-marks-sound-requires
+marks-sound-requires c κs = search needs
+
+both-requires : tie.Need-both-requires
+both-requires c κs = search needs
+
+both-requires-2 : tie.Need-both-requires-2
+both-requires-2 c κs = search needs
+
+asked-requires : tie.Need-asked-requires
+asked-requires c κs = search needs
+
+asked-requires-2 : tie.Need-asked-requires-2
+asked-requires-2 c κs = search needs
+
+list-set-requires : tie.Need-list-set-requires
+list-set-requires c κs =
+    let s = c .before .before .before .before .before .before .before .before .before .before .before .args in
+    get-met (s .sound) (s .n) (s .column .now) (s .list .now) (sym (number (c .before .before)) ∙ c .before .if1 .taken)
+
+same-length : tie.Need-same-length
+same-length c = search needs
+
+returns : tie.Need-returns
+returns c =
+    let s = c .before .before .before .before .before .before .before .before .before .before .before .before .before .before .args in
+    let q = getDoor (s .sound) (s .n) (s .column .now) (s .list .now) in
+    let vs = listed (s .n) (s .column .now) in
+    let z : q ≡ 0 = sym (number (c .before .before .before .before .before)) ∙ c .before .before .before .before .if1 .taken in
+    let p = c .before .before .list-set .ensures in
+    record {
+      answers = ap Count (p .0) ∙ sym (answer-zero q (Count (length vs)) Refused z);
+      left = p .1 ∙ sym (after-accepted q vs (s .list .now) z);
+    }
+
+returns-2 : tie.Need-returns-2
+returns-2 c =
+    let s = c .before .before .before .before .before .before .before .before .before .before .args in
+    let q = getDoor (s .sound) (s .n) (s .column .now) (s .list .now) in
+    let vs = listed (s .n) (s .column .now) in
+    let d = number (c .before) in
+    let g : q ≡ 0 → ⊥ = λ e. c .if1 .left (d ∙ e) in
+    record {
+      answers = ap Refused d ∙ sym (answer-no q (Count (length vs)) Refused g);
+      left = sym (after-refused q vs (s .list .now) g);
+    }
+
+pub get-named-spec : {M : Type 1} → statement M
+get-named-spec =
+    tie.close
+    (tie.spec
+    at-most-requires
+    at-most-requires-2
+    marks-sound-requires
+    both-requires
+    both-requires-2
+    asked-requires
+    asked-requires-2
+    list-set-requires
+    same-length
+    returns
+    returns-2)

@@ -1,0 +1,16 @@
+-- `code_access::is_defect` meets its contract. Assumes nothing.
+use borrow.Author.Needs.{needs}
+use Rattle.code_access.proofs.is_defect.Statement.{statement}
+use Rattle.code_access.proofs.is_defect.Tie as tie
+
+marks-sound-requires : tie.Need-marks-sound-requires
+marks-sound-requires c κs = search needs
+
+is-marked-requires : tie.Need-is-marked-requires
+is-marked-requires c κs = search needs
+
+returns : tie.Need-returns
+returns c = cc
+
+pub is-defect-spec : {M : Type 1} → statement M
+is-defect-spec = tie.close (tie.spec marks-sound-requires is-marked-requires returns)

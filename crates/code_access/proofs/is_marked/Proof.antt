@@ -1,0 +1,71 @@
+-- `code_access::is_marked` meets its contract. Assumes nothing.
+use mathlib.Core.Path.{_≡_, refl, sym, ap, _∙_}
+use native.Mathlib.Omega.{arith}
+use lib.ListN.{getD}
+use Rattle.code_access.specs.declared.Truth.the-variants.{Is, Refused}
+use Rattle.code_access.specs.Marks.{isSet}
+use Rattle.code_access.specs.Calls.{isDoor}
+use Rattle.code_access.proofs.Doors.{is-met, answer-zero, answer-no}
+use borrow.Author.Needs.{needs}
+use Rattle.code_access.proofs.is_marked.Statement.{statement}
+use Rattle.code_access.proofs.is_marked.Tie as tie
+
+-- the number that the questions give
+number : (c : tie.After-asked3) → let s = c .before .before .before .before .before .before .before .args in c .asked3 .result ≡ isDoor (s .sound) (s .vertex-num) (s .column .now) (s .vertex)
+number c = cc
+
+at-most-requires : tie.Need-at-most-requires
+at-most-requires c κs = search needs
+
+vertex-count-sound-requires : tie.Need-vertex-count-sound-requires
+vertex-count-sound-requires c κs = search needs
+
+both-requires : tie.Need-both-requires
+both-requires c κs = search needs
+
+asked-requires : tie.Need-asked-requires
+asked-requires c κs = search needs
+
+asked-requires-2 : tie.Need-asked-requires-2
+asked-requires-2 c κs = search needs
+
+asked-requires-3 : tie.Need-asked-requires-3
+asked-requires-3 c κs = search needs
+
+shared-slice-read-is-set : tie.Need-shared-slice-read-is-set
+shared-slice-read-is-set c =
+    let s = c .before .before .before .before .before .before .before .before .before .args in
+    let z : isDoor (s .sound) (s .vertex-num) (s .column .now) (s .vertex) ≡ 0 = sym (number (c .before .before)) ∙ c .before .if1 .taken in
+    omega (arith, is-met (s .sound) (s .vertex-num) (s .column .now) (s .vertex) z)
+
+is-set-requires : tie.Need-is-set-requires
+is-set-requires c κs = search needs
+
+returns : tie.Need-returns
+returns c =
+    let s = c .before .before .before .before .before .before .before .before .before .before .args in
+    let q = isDoor (s .sound) (s .vertex-num) (s .column .now) (s .vertex) in
+    let z : q ≡ 0 = sym (number (c .before .before .before)) ∙ c .before .before .if1 .taken in
+    ap Is (c .is-set .ensures) ∙ sym (answer-zero q (Is (isSet (getD (s .column .now) (s .vertex) 0))) Refused z)
+
+returns-2 : tie.Need-returns-2
+returns-2 c =
+    let s = c .before .before .before .before .before .before .before .before .args in
+    let q = isDoor (s .sound) (s .vertex-num) (s .column .now) (s .vertex) in
+    let d = number (c .before) in
+    ap Refused d ∙ sym (answer-no q (Is (isSet (getD (s .column .now) (s .vertex) 0))) Refused (λ e. c .if1 .left (d ∙ e)))
+
+pub is-marked-spec : {M : Type 1} → statement M
+is-marked-spec =
+    tie.close
+    (tie.spec
+    at-most-requires
+    vertex-count-sound-requires
+    both-requires
+    asked-requires
+    asked-requires-2
+    asked-requires-3
+    shared-slice-read-is-set
+    is-set-requires
+    returns
+    returns-2)

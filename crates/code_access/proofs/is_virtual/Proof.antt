@@ -1,0 +1,16 @@
+-- `code_access::is_virtual` meets its contract. Assumes nothing.
+use borrow.Author.Needs.{needs}
+use Rattle.code_access.proofs.is_virtual.Statement.{statement}
+use Rattle.code_access.proofs.is_virtual.Tie as tie
+
+boundaries-sound-requires : tie.Need-boundaries-sound-requires
+boundaries-sound-requires c κs = search needs
+
+is-marked-requires : tie.Need-is-marked-requires
+is-marked-requires c κs = search needs
+
+returns : tie.Need-returns
+returns c = cc
+
+pub is-virtual-spec : {M : Type 1} → statement M
+is-virtual-spec = tie.close (tie.spec boundaries-sound-requires is-marked-requires returns)

@@ -1,0 +1,21 @@
+-- `code_access::set_defect_vertices` meets its contract. Assumes nothing.
+use Rattle.code_access.proofs.Doors.{set-tested}
+use borrow.Author.Needs.{needs}
+use Rattle.code_access.proofs.set_defect_vertices.Statement.{statement}
+use Rattle.code_access.proofs.set_defect_vertices.Tie as tie
+
+vertex-count-sound-requires : tie.Need-vertex-count-sound-requires
+vertex-count-sound-requires c κs = search needs
+
+set-named-requires : tie.Need-set-named-requires
+set-named-requires c κs = search needs
+
+same-length : tie.Need-same-length
+same-length c = search needs
+
+returns : tie.Need-returns
+returns c = set-tested (c .before .before .before .before .vertex-count-sound .ensures) (c .before .before .set-named .ensures)
+
+pub set-defect-vertices-spec : {M : Type 1} → statement M
+set-defect-vertices-spec =
+    tie.close (tie.spec vertex-count-sound-requires set-named-requires same-length returns)

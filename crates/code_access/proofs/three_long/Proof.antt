@@ -1,0 +1,35 @@
+-- `code_access::three_long` meets its contract. Assumes nothing.
+use Rattle.code_access.specs.Calls.{threeLong}
+use borrow.Author.Needs.{needs}
+use Rattle.code_access.proofs.three_long.Statement.{statement}
+use Rattle.code_access.proofs.three_long.Tie as tie
+
+at-most-requires : tie.Need-at-most-requires
+at-most-requires c κs = search needs
+
+at-most-requires-2 : tie.Need-at-most-requires-2
+at-most-requires-2 c κs = search needs
+
+at-most-requires-3 : tie.Need-at-most-requires-3
+at-most-requires-3 c κs = search needs
+
+both-requires : tie.Need-both-requires
+both-requires c κs = search needs
+
+both-requires-2 : tie.Need-both-requires-2
+both-requires-2 c κs = search needs
+
+returns : tie.Need-returns
+unfolding threeLong
+returns c = cc
+
+pub three-long-spec : {M : Type 1} → statement M
+three-long-spec =
+    tie.close
+    (tie.spec
+    at-most-requires
+    at-most-requires-2
+    at-most-requires-3
+    both-requires
+    both-requires-2
+    returns)

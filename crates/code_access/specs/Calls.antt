@@ -1,0 +1,157 @@
+-- The calls: which question refuses (0 for none), the answer, and the lent columns afterwards.
+use Prim.Native.Nat.{ℕ, _*_}
+use mathlib.Core.Path.{_≡_}
+use mathlib.Core.Bool.{Bool, _&&_}
+use mathlib.Core.List.{List}
+use lib.Dec.{leb, ltb}
+use lib.ListN.{length, take, getD}
+use lib.Ieee.{Float}
+use Rattle.columns.specs.Lists.{each, after}
+use Rattle.columns.specs.Questions.{ask, allBelow, vertexCountSound, edgeCountSound, boundariesSound, marksSound, halfWeightsSound}
+use Rattle.columns.specs.Answers.{done}
+use Rattle.columns.specs.declared.Done.{Done}
+use Rattle.neighbors.specs.Sound.{graphSound}
+use Rattle.code_access.specs.Marks.{isSet, listed, marks}
+use Rattle.code_access.specs.declared.ListCount.{ListCount}
+use Rattle.code_access.specs.declared.SyndromeCounts.{SyndromeCounts}
+use Rattle.code_access.specs.declared.Truth.{Truth}
+use Rattle.code_access.specs.Answers.{counted, bothCounted, told}
+
+-- question 6 of three columns, by their lengths
+unfoldable pub threeLong : (n a b c : ℕ) → Bool
+threeLong n a b c = leb n a && (leb n b && leb n c)
+
+-- ---- get_positions
+
+-- the three columns of positions
+pub record Positions : Type 0 where
+  pub i : List Float
+  pub j : List Float
+  pub t : List Float
+
+abbrev pub positions : List Float → List Float → List Float → Positions
+positions i j t = record { i = i; j = j; t = t }
+
+abbrev pub positionsLong : ℕ → Positions → Bool
+positionsLong v p = threeLong v (length (p .i)) (length (p .j)) (length (p .t))
+
+-- questions 6 and 7, in order
+abbrev pub positionsDoor : ℕ → Positions → Positions → ℕ
+positionsDoor v from to = ask (positionsLong v from && positionsLong v to) 6 (ask (vertexCountSound v) 7 0)
+
+-- the call: its answer, and the columns that it copies into, before it and afterwards
+pub record GotPositions (v : ℕ) (from before column : Positions) (answer : Done) : Type 0 where
+  pub answers : answer ≡ done (positionsDoor v from before)
+  pub i-left : column .i ≡ after (positionsDoor v from before) (take v (from .i)) (before .i)
+  pub j-left : column .j ≡ after (positionsDoor v from before) (take v (from .j)) (before .j)
+  pub t-left : column .t ≡ after (positionsDoor v from before) (take v (from .t)) (before .t)
+
+-- ---- get_initializer
+
+-- what it reads
+pub record Code : Type 0 where
+  pub endsA : List ℕ
+  pub endsB : List ℕ
+  pub halfWeight : List ℕ
+  pub boundary : List ℕ
+
+abbrev pub code : List ℕ → List ℕ → List ℕ → List ℕ → Code
+code a b h m = record { endsA = a; endsB = b; halfWeight = h; boundary = m }
+
+-- what it writes
+pub record Initializer : Type 0 where
+  pub endsA : List ℕ
+  pub endsB : List ℕ
+  pub weight : List ℕ
+  pub virtual : List ℕ
+
+abbrev pub initializer : List ℕ → List ℕ → List ℕ → List ℕ → Initializer
+initializer a b w l = record { endsA = a; endsB = b; weight = w; virtual = l }
+
+-- 6: edge columns as long as the edges, boundary bytes and the list of virtual vertices as long as the vertices
+unfoldable pub initializerLong : (v e : ℕ) → Code → Initializer → Bool
+initializerLong v e c to =
+    threeLong e (length (c .endsA)) (length (c .endsB)) (length (c .halfWeight))
+    && (threeLong e (length (to .endsA)) (length (to .endsB)) (length (to .weight))
+    && (leb v (length (c .boundary)) && leb v (length (to .virtual))))
+
+-- 7: counts, ends, half weights and boundary bytes
+unfoldable pub codeSound : (v e : ℕ) → Code → Bool
+codeSound v e c = graphSound v e (c .endsA) (c .endsB) && (halfWeightsSound e (c .halfWeight) && boundariesSound v (c .boundary))
+
+abbrev pub initializerDoor : (v e : ℕ) → Code → Initializer → ℕ
+initializerDoor v e c to = ask (initializerLong v e c to) 6 (ask (codeSound v e c) 7 0)
+
+-- the weight of each of e edges: twice its half weight
+unfoldable pub weights : (e : ℕ) (halfWeight : List ℕ) → List ℕ
+weights e halfWeight = each e (λ k. 2 * getD halfWeight k 0)
+
+-- the call: its answer, and what stands in the columns that it writes, before it and afterwards
+pub record GotInitializer (v e : ℕ) (c : Code) (before column : Initializer) (answer : ListCount) : Type 0 where
+  pub answers : answer ≡ counted (initializerDoor v e c before) (length (listed v (c .boundary)))
+  pub endsA-left : column .endsA ≡ after (initializerDoor v e c before) (take e (c .endsA)) (before .endsA)
+  pub endsB-left : column .endsB ≡ after (initializerDoor v e c before) (take e (c .endsB)) (before .endsB)
+  pub weight-left : column .weight ≡ after (initializerDoor v e c before) (weights e (c .halfWeight)) (before .weight)
+  pub virtual-left : column .virtual ≡ after (initializerDoor v e c before) (listed v (c .boundary)) (before .virtual)
+
+-- ---- set_defect_vertices, set_erasures: n is the count, `sound` question 7 of it; the bytes are only written
+
+abbrev pub setDoor : (sound : Bool) (n : ℕ) (list column : List ℕ) → ℕ
+setDoor sound n list column = ask (leb n (length column)) 6 (ask sound 7 (ask (allBelow n list) 13 0))
+
+pub record SetMarks (sound : Bool) (n : ℕ) (list before column : List ℕ) (answer : Done) : Type 0 where
+  pub answers : answer ≡ done (setDoor sound n list before)
+  pub left : column ≡ after (setDoor sound n list before) (marks n list) before
+
+-- ---- set_syndrome: both, each question of both before the next
+
+-- defects and erasures, as bytes or as lists
+pub record Syndrome : Type 0 where
+  pub defects : List ℕ
+  pub erasures : List ℕ
+
+abbrev pub syndrome : List ℕ → List ℕ → Syndrome
+syndrome d e = record { defects = d; erasures = e }
+
+unfoldable pub countsSound : (v e : ℕ) → Bool
+countsSound v e = vertexCountSound v && edgeCountSound e
+
+abbrev pub setSyndromeDoor : (v e : ℕ) → Syndrome → Syndrome → ℕ
+setSyndromeDoor v e lists column =
+    ask (leb v (length (column .defects)) && leb e (length (column .erasures))) 6
+    (ask (countsSound v e) 7
+    (ask (allBelow v (lists .defects) && allBelow e (lists .erasures)) 13 0))
+
+pub record SetSyndrome (v e : ℕ) (lists before column : Syndrome) (answer : Done) : Type 0 where
+  pub answers : answer ≡ done (setSyndromeDoor v e lists before)
+  pub defects-left : column .defects ≡ after (setSyndromeDoor v e lists before) (marks v (lists .defects)) (before .defects)
+  pub erasures-left : column .erasures ≡ after (setSyndromeDoor v e lists before) (marks e (lists .erasures)) (before .erasures)
+
+-- ---- get_defect_vertices, get_erasures: n is the count, `sound` question 7 of it
+
+abbrev pub getDoor : (sound : Bool) (n : ℕ) (column list : List ℕ) → ℕ
+getDoor sound n column list = ask (leb n (length column) && leb n (length list)) 6 (ask (sound && marksSound n column) 7 0)
+
+pub record GotMarks (sound : Bool) (n : ℕ) (column before list : List ℕ) (answer : ListCount) : Type 0 where
+  pub answers : answer ≡ counted (getDoor sound n column before) (length (listed n column))
+  pub left : list ≡ after (getDoor sound n column before) (listed n column) before
+
+-- ---- get_syndrome: both, each question of both before the next
+
+abbrev pub getSyndromeDoor : (v e : ℕ) → Syndrome → Syndrome → ℕ
+getSyndromeDoor v e column lists =
+    ask ((leb v (length (column .defects)) && leb e (length (column .erasures))) && (leb v (length (lists .defects)) && leb e (length (lists .erasures)))) 6
+    (ask (countsSound v e && (marksSound v (column .defects) && marksSound e (column .erasures))) 7 0)
+
+pub record GotSyndrome (v e : ℕ) (column before lists : Syndrome) (answer : SyndromeCounts) : Type 0 where
+  pub answers : answer ≡ bothCounted (getSyndromeDoor v e column before) (length (listed v (column .defects))) (length (listed e (column .erasures)))
+  pub defects-left : lists .defects ≡ after (getSyndromeDoor v e column before) (listed v (column .defects)) (before .defects)
+  pub erasures-left : lists .erasures ≡ after (getSyndromeDoor v e column before) (listed e (column .erasures)) (before .erasures)
+
+-- ---- is_virtual, is_defect: `sound` is question 7 of the bytes
+
+abbrev pub isDoor : (sound : Bool) (v : ℕ) (column : List ℕ) (vertex : ℕ) → ℕ
+isDoor sound v column vertex = ask (leb v (length column)) 6 (ask (vertexCountSound v && sound) 7 (ask (ltb vertex v) 13 0))
+
+abbrev pub isMarked : (sound : Bool) (v : ℕ) (column : List ℕ) (vertex : ℕ) → Truth
+isMarked sound v column vertex = told (isDoor sound v column vertex) (isSet (getD column vertex 0))

@@ -1,0 +1,27 @@
+-- `reorder::columns_sound` meets its contract. Assumes nothing.
+use Rattle.reorder.specs.Columns.{columnsSound}
+use borrow.Author.Needs.{needs}
+use Rattle.reorder.proofs.columns_sound.Statement.{statement}
+use Rattle.reorder.proofs.columns_sound.Tie as tie
+use Rattle.reorder.proofs.columns_sound.Reads as reads
+use Rattle.reorder.proofs.columns_sound.Lts as lts
+use Rattle.columns.proofs.questions.both.Reads as both-reads
+use Rattle.columns.proofs.questions.marks_sound.Reads as marks-sound-reads
+use Rattle.syndromes.proofs.doors.code_sound.Reads as code-sound-reads
+
+code-sound-requires : tie.Need-code-sound-requires
+code-sound-requires c κs = search needs
+
+marks-sound-requires : tie.Need-marks-sound-requires
+marks-sound-requires c κs = search needs
+
+both-requires : tie.Need-both-requires
+both-requires c κs = search needs
+
+returns : tie.Need-returns
+unfolding columnsSound
+returns c = cc
+
+pub columns-sound-spec : {M : Type 1} → statement M
+columns-sound-spec =
+    tie.close (tie.spec code-sound-requires marks-sound-requires both-requires returns)

@@ -1,0 +1,25 @@
+-- `reorder::ends_long` meets its contract. Assumes nothing.
+use Rattle.reorder.specs.Columns.{endsLong}
+use borrow.Author.Needs.{needs}
+use Rattle.reorder.proofs.ends_long.Statement.{statement}
+use Rattle.reorder.proofs.ends_long.Tie as tie
+use Rattle.reorder.proofs.ends_long.Reads as reads
+use Rattle.reorder.proofs.ends_long.Lts as lts
+use Rattle.columns.proofs.questions.at_most.Reads as at-most-reads
+use Rattle.columns.proofs.questions.both.Reads as both-reads
+
+at-most-requires : tie.Need-at-most-requires
+at-most-requires c κs = search needs
+
+at-most-requires-2 : tie.Need-at-most-requires-2
+at-most-requires-2 c κs = search needs
+
+both-requires : tie.Need-both-requires
+both-requires c κs = search needs
+
+returns : tie.Need-returns
+unfolding endsLong
+returns c = cc
+
+pub ends-long-spec : {M : Type 1} → statement M
+ends-long-spec = tie.close (tie.spec at-most-requires at-most-requires-2 both-requires returns)

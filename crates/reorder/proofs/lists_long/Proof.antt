@@ -1,0 +1,30 @@
+-- `reorder::lists_long` meets its contract. Assumes nothing.
+use Rattle.reorder.specs.Columns.{listsLong}
+use borrow.Author.Needs.{needs}
+use Rattle.reorder.proofs.lists_long.Statement.{statement}
+use Rattle.reorder.proofs.lists_long.Tie as tie
+use Rattle.reorder.proofs.lists_long.Reads as reads
+use Rattle.reorder.proofs.lists_long.Lts as lts
+use Rattle.columns.proofs.questions.at_most.Reads as at-most-reads
+use Rattle.columns.proofs.questions.both.Reads as both-reads
+use Rattle.reorder.proofs.lists.sum_within.Reads as sum-within-reads
+
+mul-at-most : tie.Need-mul-at-most
+mul-at-most c = search needs
+
+at-most-requires : tie.Need-at-most-requires
+at-most-requires c κs = search needs
+
+sum-within-requires : tie.Need-sum-within-requires
+sum-within-requires c κs = search needs
+
+both-requires : tie.Need-both-requires
+both-requires c κs = search needs
+
+returns : tie.Need-returns
+unfolding listsLong
+returns c = cc
+
+pub lists-long-spec : {M : Type 1} → statement M
+lists-long-spec =
+    tie.close (tie.spec mul-at-most at-most-requires sum-within-requires both-requires returns)

@@ -1,0 +1,39 @@
+-- `reorder::vertex_long` meets its contract. Assumes nothing.
+use Rattle.reorder.specs.Columns.{vertexLong}
+use borrow.Author.Needs.{needs}
+use Rattle.reorder.proofs.vertex_long.Statement.{statement}
+use Rattle.reorder.proofs.vertex_long.Tie as tie
+use Rattle.reorder.proofs.vertex_long.Reads as reads
+use Rattle.reorder.proofs.vertex_long.Lts as lts
+use Rattle.columns.proofs.questions.at_most.Reads as at-most-reads
+use Rattle.columns.proofs.questions.both.Reads as both-reads
+
+at-most-requires : tie.Need-at-most-requires
+at-most-requires c κs = search needs
+
+at-most-requires-2 : tie.Need-at-most-requires-2
+at-most-requires-2 c κs = search needs
+
+at-most-requires-3 : tie.Need-at-most-requires-3
+at-most-requires-3 c κs = search needs
+
+both-requires : tie.Need-both-requires
+both-requires c κs = search needs
+
+both-requires-2 : tie.Need-both-requires-2
+both-requires-2 c κs = search needs
+
+returns : tie.Need-returns
+unfolding vertexLong
+returns c = cc
+
+pub vertex-long-spec : {M : Type 1} → statement M
+vertex-long-spec =
+    tie.close
+    (tie.spec
+    at-most-requires
+    at-most-requires-2
+    at-most-requires-3
+    both-requires
+    both-requires-2
+    returns)

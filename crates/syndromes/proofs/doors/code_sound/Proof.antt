@@ -1,0 +1,27 @@
+-- `syndromes::doors::code_sound` meets its contract. Assumes nothing.
+use Rattle.syndromes.specs.Records.{codeSound}
+use borrow.Author.Needs.{needs}
+use Rattle.syndromes.proofs.doors.code_sound.Statement.{statement}
+use Rattle.syndromes.proofs.doors.code_sound.Tie as tie
+use Rattle.syndromes.proofs.doors.code_sound.Reads as reads
+use Rattle.syndromes.proofs.doors.code_sound.Lts as lts
+use Rattle.columns.proofs.questions.both.Reads as both-reads
+use Rattle.columns.proofs.questions.boundaries_sound.Reads as boundaries-sound-reads
+use Rattle.neighbors.proofs.sound.graph_sound.Reads as graph-sound-reads
+
+graph-sound-requires : tie.Need-graph-sound-requires
+graph-sound-requires c κs = search needs
+
+boundaries-sound-requires : tie.Need-boundaries-sound-requires
+boundaries-sound-requires c κs = search needs
+
+both-requires : tie.Need-both-requires
+both-requires c κs = search needs
+
+returns : tie.Need-returns
+unfolding codeSound
+returns c = cc
+
+pub code-sound-spec : {M : Type 1} → statement M
+code-sound-spec =
+    tie.close (tie.spec graph-sound-requires boundaries-sound-requires both-requires returns)

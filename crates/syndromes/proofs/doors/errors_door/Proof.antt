@@ -1,0 +1,72 @@
+-- `syndromes::doors::errors_door` meets its contract. Assumes nothing.
+use Rattle.syndromes.specs.Errors.{errorsDoor}
+use borrow.Author.Needs.{needs}
+use Rattle.syndromes.proofs.doors.errors_door.Statement.{statement}
+use Rattle.syndromes.proofs.doors.errors_door.Tie as tie
+use Rattle.syndromes.proofs.doors.errors_door.Reads as reads
+use Rattle.syndromes.proofs.doors.errors_door.Lts as lts
+use Rattle.columns.proofs.questions.asked.Reads as asked-reads
+use Rattle.columns.proofs.questions.both.Reads as both-reads
+use Rattle.columns.proofs.questions.each_below.Reads as each-below-reads
+use Rattle.columns.proofs.questions.marks_sound.Reads as marks-sound-reads
+use Rattle.syndromes.proofs.doors.code_sound.Reads as code-sound-reads
+use Rattle.syndromes.proofs.doors.graph_long.Reads as graph-long-reads
+use Rattle.syndromes.proofs.doors.syndrome_long.Reads as syndrome-long-reads
+
+graph-long-requires : tie.Need-graph-long-requires
+graph-long-requires c κs = search needs
+
+syndrome-long-requires : tie.Need-syndrome-long-requires
+syndrome-long-requires c κs = search needs
+
+code-sound-requires : tie.Need-code-sound-requires
+code-sound-requires c κs = search needs
+
+marks-sound-requires : tie.Need-marks-sound-requires
+marks-sound-requires c κs = search needs
+
+marks-sound-requires-2 : tie.Need-marks-sound-requires-2
+marks-sound-requires-2 c κs = search needs
+
+each-below-requires : tie.Need-each-below-requires
+each-below-requires c κs = search needs
+
+both-requires : tie.Need-both-requires
+both-requires c κs = search needs
+
+both-requires-2 : tie.Need-both-requires-2
+both-requires-2 c κs = search needs
+
+both-requires-3 : tie.Need-both-requires-3
+both-requires-3 c κs = search needs
+
+asked-requires : tie.Need-asked-requires
+asked-requires c κs = search needs
+
+asked-requires-2 : tie.Need-asked-requires-2
+asked-requires-2 c κs = search needs
+
+asked-requires-3 : tie.Need-asked-requires-3
+asked-requires-3 c κs = search needs
+
+returns : tie.Need-returns
+unfolding errorsDoor
+returns c = cc
+
+pub errors-door-spec : {M : Type 1} → statement M
+errors-door-spec =
+    tie.close
+    (tie.spec
+    graph-long-requires
+    syndrome-long-requires
+    code-sound-requires
+    marks-sound-requires
+    marks-sound-requires-2
+    each-below-requires
+    both-requires
+    both-requires-2
+    both-requires-3
+    asked-requires
+    asked-requires-2
+    asked-requires-3
+    returns)

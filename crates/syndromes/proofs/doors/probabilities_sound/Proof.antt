@@ -1,0 +1,28 @@
+-- `syndromes::doors::probabilities_sound` meets its contract. Assumes nothing.
+use Rattle.syndromes.specs.Sampling.{probabilitiesSound}
+use borrow.Author.Needs.{needs}
+use Rattle.syndromes.proofs.doors.probabilities_sound.Statement.{statement}
+use Rattle.syndromes.proofs.doors.probabilities_sound.Tie as tie
+use Rattle.syndromes.proofs.doors.probabilities_sound.Reads as reads
+use Rattle.syndromes.proofs.doors.probabilities_sound.Lts as lts
+use Rattle.columns.proofs.questions.both.Reads as both-reads
+use Rattle.weights.proofs.probabilities.are_erasure_probabilities.Reads as are-erasure-probabilities-reads
+use Rattle.weights.proofs.probabilities.are_probabilities.Reads as are-probabilities-reads
+
+are-probabilities-requires : tie.Need-are-probabilities-requires
+are-probabilities-requires c κs = search needs
+
+are-erasure-probabilities-requires : tie.Need-are-erasure-probabilities-requires
+are-erasure-probabilities-requires c κs = search needs
+
+both-requires : tie.Need-both-requires
+both-requires c κs = search needs
+
+returns : tie.Need-returns
+unfolding probabilitiesSound
+returns c = cc
+
+pub probabilities-sound-spec : {M : Type 1} → statement M
+probabilities-sound-spec =
+    tie.close
+    (tie.spec are-probabilities-requires are-erasure-probabilities-requires both-requires returns)

@@ -1,0 +1,72 @@
+-- `syndromes::doors::sampling_door` meets its contract. Assumes nothing.
+use Rattle.syndromes.specs.Sampling.{samplingDoor}
+use borrow.Author.Needs.{needs}
+use Rattle.syndromes.proofs.doors.sampling_door.Statement.{statement}
+use Rattle.syndromes.proofs.doors.sampling_door.Tie as tie
+use Rattle.syndromes.proofs.doors.sampling_door.Reads as reads
+use Rattle.syndromes.proofs.doors.sampling_door.Lts as lts
+use Rattle.columns.proofs.questions.asked.Reads as asked-reads
+use Rattle.columns.proofs.questions.at_most.Reads as at-most-reads
+use Rattle.columns.proofs.questions.both.Reads as both-reads
+use Rattle.syndromes.proofs.doors.code_sound.Reads as code-sound-reads
+use Rattle.syndromes.proofs.doors.graph_long.Reads as graph-long-reads
+use Rattle.syndromes.proofs.doors.probabilities_sound.Reads as probabilities-sound-reads
+use Rattle.syndromes.proofs.doors.syndrome_long.Reads as syndrome-long-reads
+
+graph-long-requires : tie.Need-graph-long-requires
+graph-long-requires c κs = search needs
+
+at-most-requires : tie.Need-at-most-requires
+at-most-requires c κs = search needs
+
+at-most-requires-2 : tie.Need-at-most-requires-2
+at-most-requires-2 c κs = search needs
+
+syndrome-long-requires : tie.Need-syndrome-long-requires
+syndrome-long-requires c κs = search needs
+
+code-sound-requires : tie.Need-code-sound-requires
+code-sound-requires c κs = search needs
+
+probabilities-sound-requires : tie.Need-probabilities-sound-requires
+probabilities-sound-requires c κs = search needs
+
+both-requires : tie.Need-both-requires
+both-requires c κs = search needs
+
+both-requires-2 : tie.Need-both-requires-2
+both-requires-2 c κs = search needs
+
+both-requires-3 : tie.Need-both-requires-3
+both-requires-3 c κs = search needs
+
+asked-requires : tie.Need-asked-requires
+asked-requires c κs = search needs
+
+asked-requires-2 : tie.Need-asked-requires-2
+asked-requires-2 c κs = search needs
+
+asked-requires-3 : tie.Need-asked-requires-3
+asked-requires-3 c κs = search needs
+
+returns : tie.Need-returns
+unfolding samplingDoor
+returns c = cc
+
+pub sampling-door-spec : {M : Type 1} → statement M
+sampling-door-spec =
+    tie.close
+    (tie.spec
+    graph-long-requires
+    at-most-requires
+    at-most-requires-2
+    syndrome-long-requires
+    code-sound-requires
+    probabilities-sound-requires
+    both-requires
+    both-requires-2
+    both-requires-3
+    asked-requires
+    asked-requires-2
+    asked-requires-3
+    returns)

@@ -1,0 +1,55 @@
+-- `syndromes::doors::syndrome_door` meets its contract. Assumes nothing.
+use Rattle.syndromes.specs.Syndrome.{syndromeDoor}
+use borrow.Author.Needs.{needs}
+use Rattle.syndromes.proofs.doors.syndrome_door.Statement.{statement}
+use Rattle.syndromes.proofs.doors.syndrome_door.Tie as tie
+use Rattle.syndromes.proofs.doors.syndrome_door.Reads as reads
+use Rattle.syndromes.proofs.doors.syndrome_door.Lts as lts
+use Rattle.columns.proofs.questions.asked.Reads as asked-reads
+use Rattle.columns.proofs.questions.at_most.Reads as at-most-reads
+use Rattle.columns.proofs.questions.both.Reads as both-reads
+use Rattle.columns.proofs.questions.each_below.Reads as each-below-reads
+use Rattle.syndromes.proofs.doors.code_sound.Reads as code-sound-reads
+use Rattle.syndromes.proofs.doors.graph_long.Reads as graph-long-reads
+
+graph-long-requires : tie.Need-graph-long-requires
+graph-long-requires c κs = search needs
+
+at-most-requires : tie.Need-at-most-requires
+at-most-requires c κs = search needs
+
+code-sound-requires : tie.Need-code-sound-requires
+code-sound-requires c κs = search needs
+
+each-below-requires : tie.Need-each-below-requires
+each-below-requires c κs = search needs
+
+both-requires : tie.Need-both-requires
+both-requires c κs = search needs
+
+asked-requires : tie.Need-asked-requires
+asked-requires c κs = search needs
+
+asked-requires-2 : tie.Need-asked-requires-2
+asked-requires-2 c κs = search needs
+
+asked-requires-3 : tie.Need-asked-requires-3
+asked-requires-3 c κs = search needs
+
+returns : tie.Need-returns
+unfolding syndromeDoor
+returns c = cc
+
+pub syndrome-door-spec : {M : Type 1} → statement M
+syndrome-door-spec =
+    tie.close
+    (tie.spec
+    graph-long-requires
+    at-most-requires
+    code-sound-requires
+    each-below-requires
+    both-requires
+    asked-requires
+    asked-requires-2
+    asked-requires-3
+    returns)

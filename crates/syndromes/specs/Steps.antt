@@ -1,0 +1,35 @@
+-- What the private functions of this crate promise one another. No public contract cites it.
+use Prim.Native.Nat.{ℕ, _*_, _≤_, _<_}
+use mathlib.Core.List.{List}
+use lib.ListN.{length, getD}
+use lib.Seq.{sets}
+use lib.Ieee.{Float, lt}
+use Rattle.weights.specs.Constants.{half}
+use mathlib.Core.Path.{_≡_}
+use mathlib.Core.Bool.{cond}
+use Rattle.random.specs.declared.DeterministicRng.{DeterministicRng}
+use Rattle.random.specs.Random.{wordOf, nextOf, drawOf}
+use Rattle.syndromes.specs.declared.sampling.SampledEdge.{SampledEdge}
+use Rattle.syndromes.specs.Flip.{flipEach}
+use Rattle.syndromes.specs.Sampling.{advanced, sampledErasures, sampledErrors}
+
+-- e edges with ends below v, and v boundary and defect bytes
+pub record Fits (v e : ℕ) (a b boundary defect : List ℕ) : Type 0 where
+  pub long-a : e ≤ length a
+  pub long-b : e ≤ length b
+  pub in-a : (k : ℕ) → k < e → getD a k 0 < v
+  pub in-b : (k : ℕ) → k < e → getD b k 0 < v
+  pub long-boundary : v ≤ length boundary
+  pub long-defect : v ≤ length defect
+
+-- what two draws say of an edge with p and pe
+pub record EdgeSampled (g : DeterministicRng) (p pe : Float) (r : SampledEdge) : Type 0 where
+  pub erased : r .erased ≡ lt (drawOf (wordOf g)) pe
+  pub error : r .error ≡ lt (drawOf (wordOf (nextOf g))) (cond (r .erased) half p)
+  pub state : r .rng ≡ nextOf (nextOf g)
+
+-- the first i edges are sampled: the generator, the erasure bytes and the defect bytes
+pub record Sampled (g : DeterministicRng) (a b boundary : List ℕ) (p pe : List Float) (defect₀ erasure₀ : List ℕ) (i : ℕ) (next : DeterministicRng) (defect erasure : List ℕ) : Type 0 where
+  pub state : next ≡ advanced g (2 * i)
+  pub erasure-is : erasure ≡ sets erasure₀ 0 (sampledErasures g pe i)
+  pub defect-is : defect ≡ flipEach a b boundary (sampledErrors g p pe i) defect₀

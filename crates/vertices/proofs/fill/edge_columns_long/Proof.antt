@@ -1,0 +1,39 @@
+-- `vertices::fill::edge_columns_long` meets its contract. Assumes nothing.
+use Rattle.vertices.specs.Fill.{edgeColumnsLong}
+use borrow.Author.Needs.{needs}
+use Rattle.vertices.proofs.fill.edge_columns_long.Statement.{statement}
+use Rattle.vertices.proofs.fill.edge_columns_long.Tie as tie
+
+at-most-requires : tie.Need-at-most-requires
+at-most-requires c κs = search needs
+
+at-most-requires-2 : tie.Need-at-most-requires-2
+at-most-requires-2 c κs = search needs
+
+mul-at-most : tie.Need-mul-at-most
+mul-at-most c = search needs
+
+at-most-requires-3 : tie.Need-at-most-requires-3
+at-most-requires-3 c κs = search needs
+
+both-requires : tie.Need-both-requires
+both-requires c κs = search needs
+
+both-requires-2 : tie.Need-both-requires-2
+both-requires-2 c κs = search needs
+
+returns : tie.Need-returns
+unfolding edgeColumnsLong
+returns c = cc
+
+pub edge-columns-long-spec : {M : Type 1} → statement M
+edge-columns-long-spec =
+    tie.close
+    (tie.spec
+    at-most-requires
+    at-most-requires-2
+    mul-at-most
+    at-most-requires-3
+    both-requires
+    both-requires-2
+    returns)

@@ -15,7 +15,7 @@ use Rattle.neighbors.specs.Steps.{sumTo}
 use Rattle.syndromes.specs.Records.{codeGraph, codeSound}
 use Rattle.reorder.specs.Order.{noneTwice, renamed, moved}
 
--- the columns that move; `numbers` has the neighbour lists one after another, `scratch` is as long
+-- the columns that a reordering changes; `numbers` has the neighbour lists one after another, `scratch` has room for them too
 pub record CodeColumns : Type 0 where
   pub endsA : List ℕ
   pub endsB : List ℕ
@@ -86,7 +86,7 @@ reorderDoor v e order c =
     (ask (columnsSound v e (c .endsA) (c .endsB) (c .boundary) (c .defect)) 7
     (orderDoor v order))
 
--- the answer, and every column: the scratch holds the old neighbour lists
+-- the answer, and every column; after an accepted call the scratch starts with the old neighbour lists
 pub record ReorderedVertices (v e : ℕ) (order : List ℕ) (before : CodeColumns) (answer : Done) (last : CodeColumns) : Type 0 where
   pub answers : answer ≡ done (reorderDoor v e order before)
   pub endsA-is : last .endsA ≡ after (reorderDoor v e order before) (renamed order (take e (before .endsA))) (before .endsA)

@@ -1,4 +1,4 @@
--- `generate_random_errors`: two draws for every edge of the seeded generator, whatever the other edges did.
+-- `generate_random_errors`: two draws of the seeded generator for every edge, whatever the other edges did.
 use Prim.Native.Nat.{ℕ, zero, suc, _+_, _*_, _-_}
 use mathlib.Core.Bool.{Bool, _&&_, cond}
 use mathlib.Core.List.{List}

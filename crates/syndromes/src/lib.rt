@@ -1,6 +1,6 @@
 // Errors on the edges of a code, the defects they leave, and their sampling from a seed.
 pub mod doors;
-pub mod flips;
+mod flips;
 mod listing;
 mod sampling;
 
@@ -37,7 +37,7 @@ pub enum ListAnswer {
     Refused(u32),
 }
 
-// Two draws of the seeded generator for every edge: its erasure, then its error; lists the defects and the erasures.
+// Two draws of the seeded generator for every edge: its erasure, then its error; standing defects are cleared first. Lists the defects and the erasures.
 pub fn generate_random_errors(
     seed: u64,
     vertex_num: u32,

@@ -51,7 +51,7 @@ fn pick(test: bool, x: usize, y: usize) -> usize
     if test { x } else { y }
 }
 
-// The first edge of the chain at h that joins the pair of edge i, or i. A chain holds an edge's number and 1, later edges first, and 0 at its end.
+// The first edge of the chain at h that joins the pair of edge i, or i. A chain holds an edge's number plus 1, later edges first, and 0 at its end.
 fn first_in_chain(a: &[u32], b: &[u32], i: usize, next: &[u32], h: u32) -> usize
     requires { ⌜ (i < length (now a)) × (i < length (now b)) × (i ≤ length (now next)) ⌝ }
     requires { ⌜ Last (lowAt (now a) (now b)) i (lowAt (now a) (now b) i) h ⌝ }

@@ -2,3 +2,4 @@
 pub mod Listing
 pub mod Sources
 pub mod Asked
+pub mod Back

@@ -1,4 +1,5 @@
--- Queries: the engine graph as `walks` has it, and the questions of a query. Steps: what each query answers and leaves. Search: what private functions promise one another.
+-- Queries: the engine graph as `walks` has it, and the questions of a query. Steps: what each query answers and leaves. Search, Path: what private functions promise one another.
 pub mod Queries
 pub mod Steps
 pub mod Search
+pub mod Path

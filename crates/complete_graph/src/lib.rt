@@ -1,4 +1,6 @@
-// Queries of the engine graph: the table of least weights and previous vertices.
+// Queries of the engine graph: the table of least weights and previous vertices, the path between two vertices.
+pub mod path;
+
 ghost use mathlib.Core.Path.{_≡_};
 ghost use mathlib.Core.Bool.{cond, _&&_};
 ghost use mathlib.Core.List.{List};

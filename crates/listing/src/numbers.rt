@@ -1,18 +1,26 @@
 // Bytes and decimal numbers.
 ghost use mathlib.Core.Path.{_≡_};
 ghost use mathlib.Core.List.{[], _∷_};
+ghost use lib.ListN.{set};
 ghost use Prim.Native.Nat.{_+_, _/_, _%_, _^_, _≤_};
 ghost use Rattle.listing.specs.Text.{sizeIn, decimal};
 ghost use Rattle.listing.specs.Steps.{Put};
+
+// Stores a byte at a place; past the end nothing changes.
+fn store(text: &mut [u8], at: usize, b: u8)
+    ensures { λ _. ⌜ now (text .exit) ≡ set (now (text .entry)) at b ⌝ }
+{
+    if at < text.len() {
+        text[at] = b;
+    }
+}
 
 // Stores a byte where the text has a place for it.
 pub fn put_byte(text: &mut [u8], at: usize, b: u8) -> usize
     requires { ⌜ at ≤ 20000000 ⌝ }
     ensures { λ r. ⌜ Put (now (text .entry)) at (b ∷ []) (now (text .exit)) r ⌝ }
 {
-    if at < text.len() {
-        text[at] = b;
-    }
+    store(text, at, b);
     at + 1
 }
 
@@ -70,7 +78,7 @@ fn put_decimal(text: &mut [u8], at: usize, n: u32) -> usize
 // Stores a comma and a number.
 pub fn put_field(text: &mut [u8], at: usize, n: u32) -> usize
     requires { ⌜ at ≤ 18000000 ⌝ }
-    ensures { λ r. ⌜ Put (now (text .entry)) at (0x2c ∷ decimal n) (now (text .exit)) r ⌝ }
+    ensures { λ r. ⌜ Put (now (text .entry)) at (0x2c ∷ decimal n) (now (text .exit)) r × (r ≤ at + 11) ⌝ }
 {
     let a = put_byte(text, at, b',');
     put_decimal(text, a, n)

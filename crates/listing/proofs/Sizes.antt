@@ -45,6 +45,14 @@ vertices-few n boundary = joined-few n 24 (vertexLine boundary) (λ i. omega (ar
 pub edges-few : (n : ℕ) (a b weights : List ℕ) → length (joined n (edgeLine a b weights)) ≤ n * 46
 edges-few n a b weights = joined-few n 46 (edgeLine a b weights) (λ i. omega (arith, ended-few (i ∷ lib.ListN.getD a i 0 ∷ lib.ListN.getD b i 0 ∷ lib.ListN.getD weights i 0 ∷ [])))
 
+pub vertex-lines-few : (n : ℕ) (boundary : List ℕ) → length (vertexLines n boundary) ≤ n * 24
+unfolding vertexLines
+vertex-lines-few n boundary = vertices-few n boundary
+
+pub edge-lines-few : (n : ℕ) (a b weights : List ℕ) → length (edgeLines n a b weights) ≤ n * 46
+unfolding edgeLines
+edge-lines-few n a b weights = edges-few n a b weights
+
 -- ---- a loop that looks for the size from the highest power down
 
 pub size-here : (k n : ℕ) → 0 < k → 10 ^ k ≤ n → k + 1 ≡ sizeIn k n

@@ -1,5 +1,6 @@
--- Queries: the engine graph as `walks` has it, and the questions of a query. Steps: what each query answers and leaves. Search, Path: what private functions promise one another.
+-- Queries: the engine graph as `walks` has it, and the questions of a query. Steps: what each query answers and leaves. Crossing: the crossing query. Search, Path: what private functions promise one another.
 pub mod Queries
 pub mod Steps
 pub mod Search
 pub mod Path
+pub mod Crossing

@@ -1,4 +1,5 @@
-// Queries of the engine graph: the table of least weights and previous vertices, the path between two vertices.
+// Queries of the engine graph: the table of least weights and previous vertices, the path between two vertices, the crossing weight.
+pub mod crossing;
 pub mod path;
 
 ghost use mathlib.Core.Path.{_≡_};

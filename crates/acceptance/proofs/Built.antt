@@ -5,7 +5,8 @@ use mathlib.Core.Option.{some}
 use Prim.Native.Nat.{ℕ, zero, suc, _≤_, _<_}
 use native.Mathlib.Omega.{arith}
 use lib.ListN.{length, take, length-map}
-use Rattle.columns.specs.Lists.{over}
+use lib.Ieee.{Float}
+use Rattle.columns.specs.Lists.{over, after}
 use Rattle.columns.proofs.Columns.{take-over, after-accepted}
 use Rattle.edge_modifier.specs.Open.{GraphColumns}
 use Rattle.edge_modifier.specs.Tally.{tallyOf}
@@ -23,6 +24,8 @@ use Rattle.example_codes.specs.declared.Created.{Created}
 use Rattle.example_codes.specs.declared.Created.the-variants.{Code, Refused}
 use Rattle.example_codes.specs.Columns.{CodeColumns}
 use Rattle.example_codes.specs.CreateCode.{numberOf, verticesIn, edgesIn, created, refusal, refusalIn, newColumns, CreateCode}
+use Rattle.weights.specs.declared.diagonal.DiagonalProbability.{DiagonalProbability}
+use Rattle.weighted_codes.specs.NewCode.{newRefusal, newRefusalIn, WeightedCode}
 use Rattle.acceptance.specs.Listed.{graphIn}
 use Rattle.acceptance.specs.Called as Called
 use Rattle.acceptance.specs.Called.{CodeBuilt}
@@ -44,25 +47,45 @@ pub record BuiltGraph (kind d rounds v e : ℕ) (endsA endsB boundary : List ℕ
   pub endsB-are : take e endsB ≡ seconds (edgesOf kind d rounds)
   pub boundary-are : take v boundary ≡ boundaries (verticesOf kind d rounds)
 
-create-says : (kind d rounds : ℕ) (lent back : CodeColumns) (v e : ℕ) → CreateCode kind d rounds lent back (Code v e)
-    → BuiltGraph kind d rounds v e (back .endsA) (back .endsB) (back .boundary)
-create-says kind d rounds lent back v e h =
-    let (z, p, q) = created-of (refusalIn kind d rounds lent) (vertexNum kind d rounds) (edgeNum kind d rounds) v e (h .answer) in
-    let b = accepted-code kind d rounds lent z in
-    let s = codes-are-sound kind d rounds b in
+-- from the columns of any builder
+columns-say : (kind d rounds q v e : ℕ) (a₀ b₀ m₀ a b m : List ℕ) → Buildable kind d rounds → (q ≡ 0) × (v ≡ vertexNum kind d rounds) × (e ≡ edgeNum kind d rounds)
+    → a ≡ after q (firsts (edgesOf kind d rounds)) a₀ → b ≡ after q (seconds (edgesOf kind d rounds)) b₀ → m ≡ after q (boundaries (verticesOf kind d rounds)) m₀
+    → BuiltGraph kind d rounds v e a b m
+columns-say kind d rounds q v e a₀ b₀ m₀ a b m ok (z, p, r) in-a in-b in-m =
+    let s = codes-are-sound kind d rounds ok in
     let es = edgesOf kind d rounds in
     let vs = verticesOf kind d rounds in
     record {
-      accepted = b;
+      accepted = ok;
       vertices-are = p;
-      edges-are = q;
-      endsA-are = ap (take e) (h .ends-a ∙ after-accepted (refusalIn kind d rounds lent) (firsts es) (lent .endsA) z) ∙ take-over (firsts es) (lent .endsA) e (length-map es (λ (x : Ends). x .0) ∙ s .edges ∙ sym q);
-      endsB-are = ap (take e) (h .ends-b ∙ after-accepted (refusalIn kind d rounds lent) (seconds es) (lent .endsB) z) ∙ take-over (seconds es) (lent .endsB) e (length-map es (λ (x : Ends). x .1) ∙ s .edges ∙ sym q);
-      boundary-are = ap (take v) (h .boundary ∙ after-accepted (refusalIn kind d rounds lent) (boundaries vs) (lent .boundary) z) ∙ take-over (boundaries vs) (lent .boundary) v (length-map vs (λ (x : CodeVertex). x .boundary) ∙ s .vertices ∙ sym p);
+      edges-are = r;
+      endsA-are = ap (take e) (in-a ∙ after-accepted q (firsts es) a₀ z) ∙ take-over (firsts es) a₀ e (length-map es (λ (x : Ends). x .0) ∙ s .edges ∙ sym r);
+      endsB-are = ap (take e) (in-b ∙ after-accepted q (seconds es) b₀ z) ∙ take-over (seconds es) b₀ e (length-map es (λ (x : Ends). x .1) ∙ s .edges ∙ sym r);
+      boundary-are = ap (take v) (in-m ∙ after-accepted q (boundaries vs) m₀ z) ∙ take-over (boundaries vs) m₀ v (length-map vs (λ (x : CodeVertex). x .boundary) ∙ s .vertices ∙ sym p);
     }
+
+create-says : (kind d rounds : ℕ) (lent back : CodeColumns) (v e : ℕ) → CreateCode kind d rounds lent back (Code v e)
+    → BuiltGraph kind d rounds v e (back .endsA) (back .endsB) (back .boundary)
+create-says kind d rounds lent back v e h =
+    let k = created-of (refusalIn kind d rounds lent) (vertexNum kind d rounds) (edgeNum kind d rounds) v e (h .answer) in
+    columns-say kind d rounds (refusalIn kind d rounds lent) v e (lent .endsA) (lent .endsB) (lent .boundary) _ _ _ (accepted-code kind d rounds lent (k .0)) k (h .ends-a) (h .ends-b) (h .boundary)
+
+accepted-new : (kind d rounds : ℕ) (p : Float) (diagonal : DiagonalProbability) (max : ℕ) (c : CodeColumns) → newRefusalIn kind d rounds p diagonal max c ≡ 0 → Buildable kind d rounds
+unfolding newRefusal
+accepted-new kind d rounds p diagonal max c z = buildable kind d rounds _ z
+
+weighted-says : (kind d rounds : ℕ) (p : Float) (diagonal : DiagonalProbability) (max : ℕ) (lent back : CodeColumns) (v e : ℕ)
+    → WeightedCode kind d rounds p diagonal max lent back (Code v e) → BuiltGraph kind d rounds v e (back .endsA) (back .endsB) (back .boundary)
+weighted-says kind d rounds p diagonal max lent back v e h =
+    let q = newRefusalIn kind d rounds p diagonal max lent in
+    let k = created-of q (vertexNum kind d rounds) (edgeNum kind d rounds) v e (h .answer) in
+    columns-say kind d rounds q v e (lent .endsA) (lent .endsB) (lent .boundary) _ _ _ (accepted-new kind d rounds p diagonal max lent (k .0)) k
+    (h .columns .ends-a) (h .columns .ends-b) (h .columns .boundary)
 
 pub built-of : (kind d rounds v e : ℕ) (a b m : List ℕ) → CodeBuilt kind d rounds v e a b m → BuiltGraph kind d rounds v e a b m
 built-of kind d rounds v e a b m (Called.created κs x v′ e′ s h) = create-says _ _ _ _ _ v′ e′ h
+built-of kind d rounds v e a b m (Called.newly κs x v′ e′ s h) = weighted-says _ _ _ _ _ _ _ _ v′ e′ h
+built-of kind d rounds v e a b m (Called.diagonally κs x v′ e′ s h) = weighted-says _ _ _ _ _ _ _ _ v′ e′ h
 
 -- opened, its crossing weight with every weight 1 is d
 pub built-distance : (kind d rounds v e : ℕ) (handed : GraphColumns) → BuiltGraph kind d rounds v e (handed .endsA) (handed .endsB) (handed .boundary)

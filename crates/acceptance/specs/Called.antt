@@ -33,6 +33,10 @@ use Rattle.complete_graph.proofs.crossing.crossing.Kinds as crossing-kinds
 use Rattle.complete_graph.proofs.crossing.crossing.Reads as crossing-reads
 use Rattle.example_codes.proofs.create.create_code.Kinds as create-kinds
 use Rattle.example_codes.proofs.create.create_code.Reads as create-reads
+use Rattle.weighted_codes.proofs.new.Kinds as new-kinds
+use Rattle.weighted_codes.proofs.new.Reads as new-reads
+use Rattle.weighted_codes.proofs.new_diagonal.Kinds as diagonal-kinds
+use Rattle.weighted_codes.proofs.new_diagonal.Reads as diagonal-reads
 
 -- an open that was accepted: the counts, what it was handed, and the engine's columns as it left them, with any log
 pub data OpenCalled : (vertices edges : ℕ) → GraphColumns → Engine → Type 0 where
@@ -85,8 +89,14 @@ pub data Calls : Engine → List ListedCall → List ℕ → Engine → Type 0 w
   crossing : {e e₂ : Engine} {cs : List ListedCall} {ns : List ℕ} (own : OwnLengths) (r : CrossingReply) (column₀ column : List ℤ)
       → CrossingCalled e own r column₀ column → Calls e cs ns e₂ → Calls e (crosses (lengthsOf e) own ∷ cs) (replyNumber r ∷ ns) e₂
 
--- a code that was built: the counts, the ends and the boundary bytes in the columns as the call left them
+-- a code that was built, by any of the three functions that build one: the counts, the ends and the boundary bytes in the columns as the call left them
 pub data CodeBuilt : (kind d rounds vertices edges : ℕ) (endsA endsB boundary : List ℕ) → Type 0 where
   created : (κs : Lfts 13) (a : Dens κs create-kinds.ps) (vertices edges : ℕ) (s : AtExit (endedOf 13 create-kinds.ps create-kinds.r) κs)
       → create-reads.Learnt κs a (Code vertices edges) s
       → CodeBuilt (a .0) (a .1 .0) (a .1 .1 .0) vertices edges (now (s .1 .1 .1 .0)) (now (s .1 .1 .1 .1 .0)) (now (s .1 .1 .1 .1 .1 .1 .1 .1 .1 .1 .1 .1 .0))
+  newly : (κs : Lfts 13) (a : Dens κs new-kinds.ps) (vertices edges : ℕ) (s : AtExit (endedOf 13 new-kinds.ps new-kinds.r) κs)
+      → new-reads.Learnt κs a (Code vertices edges) s
+      → CodeBuilt (a .0) (a .1 .0) (a .1 .1 .0) vertices edges (now (s .1 .1 .1 .1 .1 .0)) (now (s .1 .1 .1 .1 .1 .1 .0)) (now (s .1 .1 .1 .1 .1 .1 .1 .1 .1 .1 .1 .1 .1 .1 .0))
+  diagonally : (κs : Lfts 13) (a : Dens κs diagonal-kinds.ps) (vertices edges : ℕ) (s : AtExit (endedOf 13 diagonal-kinds.ps diagonal-kinds.r) κs)
+      → diagonal-reads.Learnt κs a (Code vertices edges) s
+      → CodeBuilt 4 (a .0) (a .1 .0) vertices edges (now (s .1 .1 .1 .1 .1 .0)) (now (s .1 .1 .1 .1 .1 .1 .0)) (now (s .1 .1 .1 .1 .1 .1 .1 .1 .1 .1 .1 .1 .1 .1 .0))

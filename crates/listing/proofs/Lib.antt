@@ -1,0 +1,3 @@
+-- Putting: bytes one after another. Sizes: how long numbers and lines are.
+pub mod Putting
+pub mod Sizes

@@ -1,4 +1,6 @@
-// The prebuilt complete graph: the row of a vertex, with its least weights to the other vertices that are not virtual.
+// The prebuilt complete graph: the row of a vertex, with its least weights to the other vertices that are not virtual, and its nearest virtual vertex.
+pub mod nearest;
+
 ghost use mathlib.Core.Path.{_≡_};
 ghost use mathlib.Core.Bool.{Bool, not, cond, _||_};
 ghost use mathlib.Core.List.{List};

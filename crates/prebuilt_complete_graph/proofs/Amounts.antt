@@ -6,18 +6,24 @@ use mathlib.Core.List.{List}
 use mathlib.Core.Option.{Option, some, none}
 use Prim.Native.Nat.{ℕ, zero, suc, _+_, _-_, _<_, _≤_}
 use native.Mathlib.Omega.{arith}
-use lib.ListN.{length, getD}
+use lib.ListN.{length, getD, take}
+use lib.Seq.{length-take-le}
 use lib.Dec.{eqb}
 use lib.IntN.{ℤ, pos, negsuc}
 use borrow.Author.Tests.{eq-eqb, ne-eqb}
+use Rattle.columns.specs.Lists.{over}
+use Rattle.columns.proofs.Columns.{take-over, length-over}
 use Rattle.columns.specs.Answers.{done, numberOf}
 use Rattle.columns.specs.declared.Done.{Done}
 use Rattle.columns.specs.declared.Done.the-variants.{Accepted, Refused}
+use Rattle.walks.specs.Graph.{Graph}
 use Rattle.walks.specs.Answers.{weightIn}
 use Rattle.walks.proofs.FirstLeast.{orElse, IsFirst, first-least, pass-by, pass-take, pass-keep}
 use Rattle.complete_graph.specs.Steps.{ScratchColumns, ScratchKept}
 use Rattle.prebuilt_complete_graph.specs.Rows.{rank, isVirtual}
-use Rattle.prebuilt_complete_graph.specs.Nearest.{isReached, amount, nearestIn}
+use Rattle.prebuilt_complete_graph.specs.Nearest.{isReached, amount, nearestIn, boundaryFound, boundaryReply, BoundaryKept}
+use Rattle.prebuilt_complete_graph.specs.declared.nearest.BoundaryAnswer.{BoundaryAnswer}
+use Rattle.prebuilt_complete_graph.specs.declared.nearest.BoundaryAnswer.the-variants as Answer
 
 pub amount-none : (x : ℤ) → rank x ≡ 0 → 0 ≡ amount x
 amount-none (pos k) e = absurd (omega (arith, e))
@@ -72,3 +78,21 @@ place-some bytes least n best e f = go (nearestIn bytes least n) (first-least _ 
     go : (o : Option ℕ) → IsFirst (λ u. isVirtual (getD bytes u 0) && isReached (weightIn least u)) (λ u. amount (weightIn least u)) n o → best ≡ orElse n o → (best < n) × (some best ≡ o)
     go none p e = absurd (f e)
     go (some a) p e = (omega (arith, p .0, e), ap (λ k. some k) e)
+
+-- a table in the first places of a column
+pub cut-fits : {l : List ℤ} (weights column : List ℤ) (n : ℕ) → l ≡ over weights column → length weights ≡ n → n ≤ length column → (n ≤ length l) × (length (take n l) ≡ n) × (take n l ≡ weights)
+cut-fits {l} weights column n e k h =
+    let q : n ≤ length l = omega (arith, ap length e, length-over weights column (omega (arith, k, h)), h) in
+    (q, length-take-le n l q, ap (take n) e ∙ take-over weights column n k)
+
+pub reply-no : (n m : ℕ) (g : Graph) (w : ℕ → ℕ) (v : ℕ) → m ≡ n → (m ≡ 0 → ⊥) → Answer.Refused m ≡ boundaryReply n g w v
+reply-no n zero g w v e f = absurd (f refl)
+reply-no n (suc m) g w v e f = ap (λ k. boundaryReply k g w v) e
+
+-- scratch is free after the table
+pub boundary-free : (r : BoundaryAnswer) (weights : List ℤ) (o : Option ℕ) (least₀ least : List ℤ) (before₀ before : List ℕ) (s₀ s : ScratchColumns) → r ≡ boundaryFound weights o
+    → BoundaryKept r least₀ least before₀ before s₀ s
+boundary-free (Answer.Nearest u x) weights o least₀ least before₀ before s₀ s e = tt
+boundary-free Answer.NoBoundary weights o least₀ least before₀ before s₀ s e = tt
+boundary-free (Answer.Refused n) weights none least₀ least before₀ before s₀ s e = absurd (let z : _≡_ {A = ℕ} 0 1 = cc in omega arith)
+boundary-free (Answer.Refused n) weights (some u) least₀ least before₀ before s₀ s e = absurd (let z : _≡_ {A = ℕ} 0 1 = cc in omega arith)

@@ -13,12 +13,12 @@ ghost use Rattle.complete_graph.specs.declared.End.the-variants.{None};
 ghost use Rattle.complete_graph.specs.Queries.{scratchLong, graphIn, weightsIn};
 ghost use Rattle.complete_graph.specs.Steps.{tableDoor, scratchOf};
 ghost use Rattle.prebuilt_complete_graph.specs.Nearest.{isReached, amount, nearestIn, boundaryIn, boundaryFound, boundaryReply, BoundaryKept};
+use super::rank_of;
 use columns::Done;
 use columns::VertexIndex;
 use columns::Weight;
 use complete_graph::all_edges;
 use edge_modifier::EngineCounts;
-use super::rank_of;
 
 // The nearest virtual vertex and its weight, none, or the number of the question that is not met.
 pub enum BoundaryAnswer {

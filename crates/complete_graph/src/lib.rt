@@ -35,7 +35,7 @@ pub enum End {
 }
 
 // Question 6, of scratch.
-fn scratch_long(
+pub fn scratch_long(
     vertices: u32,
     edges: u32,
     numbers: usize,
@@ -69,7 +69,7 @@ fn scratch_long(
 }
 
 // Questions 6, 7 and 13 of a query, then `next`, the number of its later questions.
-fn query_door(
+pub fn query_door(
     c: EngineCounts,
     ends_a: &[u32],
     ends_b: &[u32],

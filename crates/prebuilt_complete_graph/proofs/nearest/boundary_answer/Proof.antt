@@ -1,0 +1,52 @@
+-- `prebuilt_complete_graph::nearest::boundary_answer` meets its contract. Assumes nothing.
+use mathlib.Core.Path.{_≡_, refl, sym, ap, _∙_, subst}
+use mathlib.Core.Logic.{_⊎_, inl, inr}
+use Prim.Native.Nat.{ℕ, zero, suc, _+_, _*_, _-_, _<_, _≤_}
+use native.Mathlib.Omega.{arith}
+use mathlib.Core.Bool.{Bool, true, false, not, cond, _&&_}
+use mathlib.Core.List.{List}
+use mathlib.Core.Option.{Option, some, none}
+use lib.ListN.{length, getD, take, List·getD-eq-default}
+use lib.Dec.{eqb}
+use lib.IntN.{ℤ, pos, negsuc}
+use borrow.Author.Tests.{eq-eqb, ne-eqb}
+use mir.Syntax.{w32}
+use mir.Val.{SFits, toZ, ofZ}
+use mir.ValLaws.{toZ-ofZ}
+use Rattle.columns.proofs.Columns.{getD-any}
+use Rattle.walks.specs.Answers.{weightIn}
+use Rattle.walks.proofs.FirstLeast.{orElse, IsFirst, first-least}
+use Rattle.prebuilt_complete_graph.specs.Rows.{rank, isVirtual}
+use Rattle.prebuilt_complete_graph.specs.Nearest.{isReached, amount, nearestIn, boundaryIn, boundaryFound}
+use Rattle.prebuilt_complete_graph.proofs.Amounts.{amount-none, amount-some, reached-by, near-by, near-take, near-keep}
+use Rattle.prebuilt_complete_graph.specs.declared.nearest.BoundaryAnswer.the-variants.{Nearest, NoBoundary, Refused}
+use Rattle.prebuilt_complete_graph.proofs.Amounts.{place-none, place-some}
+use borrow.Author.Needs.{needs}
+use Rattle.prebuilt_complete_graph.proofs.nearest.boundary_answer.Statement.{statement}
+use Rattle.prebuilt_complete_graph.proofs.nearest.boundary_answer.Tie as tie
+
+shared-slice-read-if1 : tie.Need-shared-slice-read-if1
+shared-slice-read-if1 c = search needs
+
+returns : tie.Need-returns
+returns c = let s = c .before .before .before in ap (λ k. boundaryFound (s .args .least .now) (cond (not k) none (nearestIn (s .args .boundary .now) (s .args .least .now) (length (s .args .least .now))))) (sym (ne-eqb (getD (s .args .boundary .now) (s .args .v) 0) 0 (c .if1 .taken)))
+
+nearest-place-requires : tie.Need-nearest-place-requires
+nearest-place-requires c κs = search needs
+
+returns-2 : tie.Need-returns-2
+returns-2 c = let s = c .before .before .before .before .before in ap (boundaryFound (s .args .least .now)) (place-none (s .args .boundary .now) (s .args .least .now) (length (s .args .least .now)) (c .before .nearest-place .result) (c .before .nearest-place .ensures) (c .if2 .taken)) ∙ ap (λ k. boundaryFound (s .args .least .now) (cond (not k) none (nearestIn (s .args .boundary .now) (s .args .least .now) (length (s .args .least .now))))) (sym (eq-eqb (getD (s .args .boundary .now) (s .args .v) 0) 0 (c .before .before .if1 .left)))
+
+cast-t10 : tie.Need-cast-t10
+cast-t10 c = let s = c .before .before .before .before .before in let p = place-some (s .args .boundary .now) (s .args .least .now) (length (s .args .least .now)) (c .before .nearest-place .result) (c .before .nearest-place .ensures) (c .if2 .left) in omega (arith, p .0, s .pre .2)
+
+amount-at-requires : tie.Need-amount-at-requires
+amount-at-requires c κs = search needs
+
+returns-3 : tie.Need-returns-3
+returns-3 c = let s = c .before .before .before .before .before .before in let p = place-some (s .args .boundary .now) (s .args .least .now) (length (s .args .least .now)) (c .before .before .nearest-place .result) (c .before .before .nearest-place .ensures) (c .before .if2 .left) in (λ i. Nearest (c .before .before .nearest-place .result) (c .amount-at .ensures i)) ∙ ap (boundaryFound (s .args .least .now)) (p .1) ∙ ap (λ k. boundaryFound (s .args .least .now) (cond (not k) none (nearestIn (s .args .boundary .now) (s .args .least .now) (length (s .args .least .now))))) (sym (eq-eqb (getD (s .args .boundary .now) (s .args .v) 0) 0 (c .before .before .before .if1 .left)))
+
+pub boundary-answer-spec : {M : Type 1} → statement M
+boundary-answer-spec =
+    tie.close
+    (tie.spec shared-slice-read-if1 returns nearest-place-requires returns-2 cast-t10 amount-at-requires returns-3)

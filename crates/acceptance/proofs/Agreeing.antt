@@ -21,14 +21,14 @@ use Rattle.edge_modifier.proofs.Agreement.{Agrees, long-same}
 use Rattle.edge_modifier.proofs.Doors.{sound-from}
 use Rattle.walks.specs.Graph.{Graph, edges, InRange}
 use Rattle.walks.specs.Answers.{crossing, leastFromLeft, weightIn}
-use Rattle.complete_graph.specs.declared.crossing.CrossingReply.{CrossingReply}
-use Rattle.complete_graph.specs.declared.crossing.CrossingReply.the-variants.{Crossed, Refused}
+use Rattle.crossings.specs.declared.CrossingReply.{CrossingReply}
+use Rattle.crossings.specs.declared.CrossingReply.the-variants.{Crossed, Refused}
 use Rattle.complete_graph.specs.Queries as Q
 use Rattle.complete_graph.specs.Queries.{scratchLong}
-use Rattle.complete_graph.specs.Crossing as C
-use Rattle.complete_graph.specs.Crossing.{isJoined, replyOf, replyNumber, replyWeight, CrossingStep}
-use Rattle.complete_graph.proofs.Crossings.{left-length}
-use Rattle.complete_graph.proofs.Walked.{in-range}
+use Rattle.crossings.specs.Crossing as C
+use Rattle.crossings.specs.Crossing.{isJoined, replyOf, replyNumber, replyWeight, CrossingStep}
+use Rattle.crossings.proofs.Crossings.{left-length}
+use Rattle.complete_graph.proofs.Ranges.{in-range}
 use Rattle.acceptance.specs.Listed.{OwnLengths, graphIn, weightsIn, crossingLong, before18, crossingNumber}
 
 -- whether scratch is long enough, from its lengths

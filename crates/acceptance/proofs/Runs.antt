@@ -15,8 +15,8 @@ use Rattle.edge_modifier.specs.Open.{GraphColumns, graphColumns, openDoor, Open
 use Rattle.edge_modifier.specs.Tally.{Tally, tallyOf, lengthsOf, tallyStep}
 use Rattle.edge_modifier.proofs.Agreement.{Agrees, step-agrees, opened-agrees, number-is}
 use Rattle.edge_modifier.proofs.Doors.{opens-of}
-use Rattle.complete_graph.specs.declared.crossing.CrossingReply.{CrossingReply}
-use Rattle.complete_graph.specs.Crossing.{CrossingStep}
+use Rattle.crossings.specs.declared.CrossingReply.{CrossingReply}
+use Rattle.crossings.specs.Crossing.{CrossingStep}
 use Rattle.acceptance.specs.Listed.{OwnLengths, ListedCall, tallyAtEnd, numbers}
 use Rattle.acceptance.specs.Called.{OpenCalled, opened, Called, erased, weighed, undid, CrossingCalled, crossed, Calls, none, modified, crossing}
 use Rattle.acceptance.proofs.Agreeing.{scratchFits, crossing-number}

@@ -16,8 +16,8 @@ use Rattle.edge_modifier.specs.Records.{Engine, engine, kept, numberOf}
 use Rattle.edge_modifier.specs.Step.{Call, loadErasures, loadWeights, reset}
 use Rattle.edge_modifier.specs.Open.{GraphColumns, graphColumns}
 use Rattle.edge_modifier.specs.Tally.{Fed, lengthsOf}
-use Rattle.complete_graph.specs.declared.crossing.CrossingReply.{CrossingReply}
-use Rattle.complete_graph.specs.Crossing.{replyNumber}
+use Rattle.crossings.specs.declared.CrossingReply.{CrossingReply}
+use Rattle.crossings.specs.Crossing.{replyNumber}
 use Rattle.example_codes.specs.declared.Created.{Created}
 use Rattle.example_codes.specs.declared.Created.the-variants.{Code}
 use Rattle.acceptance.specs.Listed.{OwnLengths, ListedCall, modifies, crosses}
@@ -29,8 +29,8 @@ use Rattle.edge_modifier.proofs.load_dynamic_weights.Kinds as weights-kinds
 use Rattle.edge_modifier.proofs.load_dynamic_weights.Reads as weights-reads
 use Rattle.edge_modifier.proofs.reset.Kinds as reset-kinds
 use Rattle.edge_modifier.proofs.reset.Reads as reset-reads
-use Rattle.complete_graph.proofs.crossing.crossing.Kinds as crossing-kinds
-use Rattle.complete_graph.proofs.crossing.crossing.Reads as crossing-reads
+use Rattle.crossings.proofs.crossing.Kinds as crossing-kinds
+use Rattle.crossings.proofs.crossing.Reads as crossing-reads
 use Rattle.example_codes.proofs.create.create_code.Kinds as create-kinds
 use Rattle.example_codes.proofs.create.create_code.Reads as create-reads
 use Rattle.weighted_codes.proofs.new.Kinds as new-kinds

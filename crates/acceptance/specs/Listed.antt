@@ -10,7 +10,7 @@ use Rattle.edge_modifier.specs.Tally.{Lengths, Tally, Fed, tallyLong, tallyDoor
 use Rattle.walks.specs.Graph.{Graph}
 use Rattle.walks.specs.Answers.{crossing}
 use Rattle.complete_graph.specs.Queries.{scratchLong}
-use Rattle.complete_graph.specs.Crossing.{isJoined}
+use Rattle.crossings.specs.Crossing.{isJoined}
 
 -- the lengths of the columns that only a crossing is lent: the weight column and scratch
 pub record OwnLengths : Type 0 where

@@ -36,7 +36,7 @@ use Rattle.edge_modifier.specs.Step.{Call, loadErasures, loadWeights, reset}
 use Rattle.edge_modifier.specs.Open.{GraphColumns, graphColumns}
 use Rattle.edge_modifier.specs.Tally.{Tally, Fed, tallyOf, tallyAfter}
 use Rattle.complete_graph.specs.Queries as Q
-use Rattle.complete_graph.specs.GetPath.{numberOf, pathDoor, pathReply}
+use Rattle.paths.specs.GetPath.{numberOf, pathDoor, pathReply}
 use Rattle.acceptance.specs.Listed.{graphIn, weightsIn}
 use Rattle.checked_examples.specs.Starred.{StarredExamples, listing, fed, crossingAfter, listingEngine}
 

@@ -18,7 +18,7 @@ use Rattle.edge_modifier.specs.Open.{GraphColumns, graphColumns}
 use Rattle.edge_modifier.specs.Tally.{Lengths, Tally, Fed, tallyOf, tallyAfter}
 use Rattle.walks.specs.Answers.{path, crossing}
 use Rattle.complete_graph.specs.Queries as Q
-use Rattle.complete_graph.specs.GetPath.{numberOf, pathDoor, pathReply}
+use Rattle.paths.specs.GetPath.{numberOf, pathDoor, pathReply}
 use Rattle.acceptance.specs.Listed.{graphIn, weightsIn}
 
 -- the listing's graph: kind 1, d 3, every weight 1000

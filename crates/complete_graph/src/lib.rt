@@ -1,7 +1,4 @@
-// Queries of the engine graph: the table of least weights and previous vertices, the path between two vertices, the crossing weight.
-pub mod crossing;
-pub mod path;
-
+// Queries of the engine graph: the table of least weights and previous vertices; what all queries share.
 ghost use mathlib.Core.Path.{_≡_};
 ghost use mathlib.Core.Bool.{cond, _&&_};
 ghost use mathlib.Core.List.{List};
@@ -112,7 +109,7 @@ fn end_in_range(end: End, vertices: u32) -> bool
 }
 
 // Builds the neighbour lists and settles from the vertices that wait.
-fn search(
+pub fn search(
     ends_a: &[u32],
     ends_b: &[u32],
     weights: &[Weight],
@@ -167,7 +164,7 @@ fn row_weight(status: u8, weight: Weight) -> i32
 }
 
 // The weights of the table, from the column's start.
-fn write_weights(status: &[u8], weight: &[Weight], out: &mut [i32])
+pub fn write_weights(status: &[u8], weight: &[Weight], out: &mut [i32])
     requires { ⌜ (length (now weight) ≡ length (now status)) × (length (now status) ≤ length (now out)) × ((v : ℕ) → v < length (now status) → getD (now weight) v 0 < sumLimit) ⌝ }
     ensures { λ _. ⌜ ((p : List ℕ) → now (out .exit) ≡ sets (now (out .entry)) 0 (each (length (now (status .entry))) (tableWeight (stateOf (now (status .entry)) (now (weight .entry)) p)))) ⌝ }
 {

@@ -1,8 +1,8 @@
 // Document 01's checked examples on the listing's graph: paths, and crossings under loads and a reset. And every p 0.5.
 use columns::Done;
 use columns::VertexIndex;
-use complete_graph::crossing::CrossingReply;
-use complete_graph::path::PathAnswer;
+use crossings::CrossingReply;
+use paths::PathAnswer;
 use edge_modifier::EngineAnswer;
 use edge_modifier::EngineCounts;
 use libc::STDOUT_FILENO;
@@ -50,7 +50,7 @@ fn show_crossing(
     let mut previous = [0u32; 4];
     let mut node = [0u64; 4];
     let mut leaf = [0u64; 4];
-    let r = complete_graph::crossing::crossing(
+    let r = crossings::crossing(
         c,
         &[0u32, 1, 0],
         &[1u32, 2, 3],
@@ -111,7 +111,7 @@ fn show_path(c: EngineCounts, weights: &[u32], a: u32, b: u32) {
     let mut previous = [0u32; 4];
     let mut node = [0u64; 4];
     let mut leaf = [0u64; 4];
-    let r = complete_graph::path::get_path(
+    let r = paths::get_path(
         c,
         &[0u32, 1, 0],
         &[1u32, 2, 3],

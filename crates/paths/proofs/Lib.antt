@@ -1,0 +1,4 @@
+-- Back: reading a path back. PathAsked: the questions of a path query. Walked: what a path query's answer says of walks.
+pub mod Back
+pub mod PathAsked
+pub mod Walked

@@ -151,6 +151,7 @@ pub demand-3 : Demand3
 demand-3 = record {
   each-call = λ h. run h .0;
   crossing-then = number;
+  counts = λ h. agrees h .counts-are;
   edge-weighs = λ h k l. sym (tally-weighs h k l) ∙ weighs-last-named (h .vertices) (h .edges) (h .handed) (fresh h .weights-long) (modifying (h .calls)) k l;
   tally-weighs = tally-weighs;
   joined = joined;

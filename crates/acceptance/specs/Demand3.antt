@@ -70,6 +70,8 @@ pub record Demand3 : Type 0 where
   -- "Each call is accepted or refused as document 01's questions say."
   pub each-call : (h : History) → h .answers ≡ numbers (h .calls) (tallyFirst h)
   pub crossing-then : (h : History) (c : CrossingThen h) → replyNumber (c .reply) ≡ crossingNumber (lengthsOf (h .left)) (c .own) (tallyLast h)
+  -- document 01, Engine: the tally's count of log entries, and its other counts, are those that the calls hand back.
+  pub counts : (h : History) → h .left .counts ≡ tallyLast h .counts
   -- "An edge weighs what an accepted load last named for it since the last accepted reset (0 if erased), else its opening weight."
   pub edge-weighs : (h : History) (k : ℕ) → k < h .edges
       → getD (h .left .weights) k 0 ≡ weightBy (callsSay (modifying (h .calls)) (tallyNumbers (modifying (h .calls)) (tallyFirst h)) k) (getD (h .handed .weights) k 0)

@@ -105,10 +105,10 @@ module _ (h : History) where
         → ((k : ℕ) → k < h .edges → weightsLeft h k ≡ 1) → refusedBefore h c ≡ 0 → c .reply ≡ Crossed d
     distance kind d rounds b ones z =
         let same = weights-compare (graphLeft h) (graphLeft h) (weightsLeft h) (λ k. 1) in-range
-            (record { same-vertices = refl; same-edges = refl; same-a = λ e l. refl; same-b = λ e l. refl; same-byte = λ v l. refl }) .1 in
+        (record { same-vertices = refl; same-edges = refl; same-a = λ e l. refl; same-b = λ e l. refl; same-byte = λ v l. refl }) .1 in
         let f : found ≡ some d = same (λ e l. ones e (omega (arith, edges-left, l))) .crossings
-            ∙ ap (λ (g : Graph). crossing g (λ k. 1)) graph-first
-            ∙ built-distance kind d rounds (h .vertices) (h .edges) (h .handed) b in
+        ∙ ap (λ (g : Graph). crossing g (λ k. 1)) graph-first
+        ∙ built-distance kind d rounds (h .vertices) (h .edges) (h .handed) b in
         let (W, q, r, k) = reports (accepted z d f) in
         r ∙ ap Crossed (same-some W d (sym q ∙ f))
       where

@@ -48,7 +48,7 @@ module _ (s : State) (test : ℕ → Bool) where
 
   pub best-next : (v : ℕ) → weightAt s v < sumLimit
       → cond (test v) (cond (ltb (weightAt s v) (codeOf (weightOf s (firstLeast test (weightAt s) v)))) (weightAt s v) (codeOf (weightOf s (firstLeast test (weightAt s) v)))) (codeOf (weightOf s (firstLeast test (weightAt s) v)))
-        ≡ codeOf (weightOf s (firstLeast test (weightAt s) (suc v)))
+      ≡ codeOf (weightOf s (firstLeast test (weightAt s) (suc v)))
   unfolding firstLeast
   best-next v h = next (test v) v (firstLeast test (weightAt s) v) h
 

@@ -20,12 +20,12 @@ use columns::Weight;
 use columns::questions::asked;
 use columns::questions::at_most;
 use columns::questions::both;
-use edge_modifier::EngineCounts;
-use edge_modifier::engine_sound;
-use edge_modifier::long_enough;
 use complete_graph::scratch_long;
 use complete_graph::search;
 use complete_graph::write_weights;
+use edge_modifier::EngineCounts;
+use edge_modifier::engine_sound;
+use edge_modifier::long_enough;
 
 // The crossing weight, or the number of the question that is not met.
 pub enum CrossingReply {

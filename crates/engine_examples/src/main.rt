@@ -2,10 +2,10 @@
 use columns::Done;
 use columns::VertexIndex;
 use crossings::CrossingReply;
-use paths::PathAnswer;
 use edge_modifier::EngineAnswer;
 use edge_modifier::EngineCounts;
 use libc::STDOUT_FILENO;
+use paths::PathAnswer;
 
 fn write_number(n: u32) {
     io::print_decimal(STDOUT_FILENO, n as u64);
@@ -197,7 +197,14 @@ fn erase_and_show(
 ) -> EngineCounts {
     let r = edge_modifier::load_erasures(c, a, b, weights, bytes, log_edges, log_weights, list);
     let after = counts_of(r, c);
-    show_crossing(after, weights, bytes, log_edges, log_weights, &[1000i32, 2000, 2000, 0]);
+    show_crossing(
+        after,
+        weights,
+        bytes,
+        log_edges,
+        log_weights,
+        &[1000i32, 2000, 2000, 0],
+    );
     after
 }
 
@@ -222,7 +229,14 @@ fn load_and_show(
         &[1u32, 1, 1],
     );
     let after = counts_of(r, c);
-    show_crossing(after, weights, bytes, log_edges, log_weights, &[1i32, 2, 3, 0]);
+    show_crossing(
+        after,
+        weights,
+        bytes,
+        log_edges,
+        log_weights,
+        &[1i32, 2, 3, 0],
+    );
     after
 }
 
@@ -237,15 +251,43 @@ fn reset_and_show(
 ) -> EngineCounts {
     let r = edge_modifier::reset(c, a, b, weights, bytes, log_edges, log_weights);
     let after = counts_of(r, c);
-    show_crossing(after, weights, bytes, log_edges, log_weights, &[1000i32, 2000, 3000, 0]);
+    show_crossing(
+        after,
+        weights,
+        bytes,
+        log_edges,
+        log_weights,
+        &[1000i32, 2000, 3000, 0],
+    );
     after
 }
 
 // No right vertex: 18; a boundary byte of 3: 7; a boundary column that is too short: 6.
 fn refusals(c: EngineCounts, weights: &[u32], log_edges: &[u32], log_weights: &[u32]) {
-    show_crossing(c, weights, &[0u8, 0, 0, 1], log_edges, log_weights, &[7i32, 7, 7, 7]);
-    show_crossing(c, weights, &[0u8, 0, 3, 1], log_edges, log_weights, &[7i32, 7, 7, 7]);
-    show_crossing(c, weights, &[0u8, 0, 2], log_edges, log_weights, &[7i32, 7, 7, 7]);
+    show_crossing(
+        c,
+        weights,
+        &[0u8, 0, 0, 1],
+        log_edges,
+        log_weights,
+        &[7i32, 7, 7, 7],
+    );
+    show_crossing(
+        c,
+        weights,
+        &[0u8, 0, 3, 1],
+        log_edges,
+        log_weights,
+        &[7i32, 7, 7, 7],
+    );
+    show_crossing(
+        c,
+        weights,
+        &[0u8, 0, 2],
+        log_edges,
+        log_weights,
+        &[7i32, 7, 7, 7],
+    );
 }
 
 // Edge 1 erased; a load on a log that is not empty: 12.
@@ -259,7 +301,16 @@ fn erasures(
     log_weights: &mut [u32],
 ) -> EngineCounts {
     let erased = erase_and_show(c, a, b, weights, bytes, log_edges, log_weights, &[1u32]);
-    erase_and_show(erased, a, b, weights, bytes, log_edges, log_weights, &[0u32])
+    erase_and_show(
+        erased,
+        a,
+        b,
+        weights,
+        bytes,
+        log_edges,
+        log_weights,
+        &[0u32],
+    )
 }
 
 // Reset; every weight 1.

@@ -12,14 +12,14 @@ ghost use Rattle.complete_graph.specs.Steps.{scratchOf};
 ghost use Rattle.paths.specs.GetPath.{found, verticesAfter, stepsAfter, PathStep, PathScratchKept, GetPathIsLeast};
 ghost use Rattle.paths.specs.Path.{stepBack, entryOf, pathOf};
 ghost use Rattle.complete_graph.specs.Search.{Searchable};
-use complete_graph::query_door;
-use complete_graph::scratch_long;
-use complete_graph::search;
 use columns::VertexIndex;
 use columns::Weight;
 use columns::questions::asked;
 use columns::questions::at_most;
 use columns::questions::both;
+use complete_graph::query_door;
+use complete_graph::scratch_long;
+use complete_graph::search;
 use edge_modifier::EngineCounts;
 
 // An entry of the table: a previous vertex or none.

@@ -48,10 +48,12 @@ loop-less : tie.Need-loop-less Inv-loop μ-loop
 loop-less c = search needs
 
 loop-again : tie.Need-loop-again Inv-loop μ-loop
-loop-again c = let s = c .before .before .before .before .before .before .before .before .before in let at = c .before .before .before .before .before .loop in 
-    (search needs, λ p. c .nearer .ensures ∙ (λ i. cond (eqb (getD (s .args .boundary .now) (at .v) 0) 2 && eqb (getD (s .args .status .now) (at .v) 0) 2) (cond (ltb (getD (s .args .weight .now) (at .v) 0) (at .inv .1 p i)) (getD (s .args .weight .now) (at .v) 0) (at .inv .1 p i)) (at .inv .1 p i))
-    ∙ best-next (stateOf (s .args .status .now) (s .args .weight .now) p) (λ u. eqb (getD (s .args .boundary .now) u 0) 2 && taken (stateOf (s .args .status .now) (s .args .weight .now) p) u) (at .v) (s .pre .2 (at .v) (c .before .before .before .before .loop-test .taken))
-    ∙ ap (λ k. codeOf (weightOf (stateOf (s .args .status .now) (s .args .weight .now) p) (firstLeast (λ u. eqb (getD (s .args .boundary .now) u 0) 2 && taken (stateOf (s .args .status .now) (s .args .weight .now) p) u) (weightAt (stateOf (s .args .status .now) (s .args .weight .now) p)) k))) (sym (add-one (at .v))))
+loop-again c = let s = c .before .before .before .before .before .before .before .before .before in let at = c .before .before .before .before .before .loop in (
+  search needs,
+  λ p. c .nearer .ensures ∙ (λ i. cond (eqb (getD (s .args .boundary .now) (at .v) 0) 2 && eqb (getD (s .args .status .now) (at .v) 0) 2) (cond (ltb (getD (s .args .weight .now) (at .v) 0) (at .inv .1 p i)) (getD (s .args .weight .now) (at .v) 0) (at .inv .1 p i)) (at .inv .1 p i))
+      ∙ best-next (stateOf (s .args .status .now) (s .args .weight .now) p) (λ u. eqb (getD (s .args .boundary .now) u 0) 2 && taken (stateOf (s .args .status .now) (s .args .weight .now) p) u) (at .v) (s .pre .2 (at .v) (c .before .before .before .before .loop-test .taken))
+      ∙ ap (λ k. codeOf (weightOf (stateOf (s .args .status .now) (s .args .weight .now) p) (firstLeast (λ u. eqb (getD (s .args .boundary .now) u 0) 2 && taken (stateOf (s .args .status .now) (s .args .weight .now) p) u) (weightAt (stateOf (s .args .status .now) (s .args .weight .now) p)) k))) (sym (add-one (at .v))),
+)
 
 returns : tie.Need-returns Inv-loop μ-loop
 returns c = let s = c .before .before .before .before .before in let at = c .before .loop in let e : at .v ≡ length (s .args .status .now) = omega arith in λ p. at .inv .1 p ∙ ap (λ k. codeOf (weightOf (stateOf (s .args .status .now) (s .args .weight .now) p) (firstLeast (λ u. eqb (getD (s .args .boundary .now) u 0) 2 && taken (stateOf (s .args .status .now) (s .args .weight .now) p) u) (weightAt (stateOf (s .args .status .now) (s .args .weight .now) p)) k))) e

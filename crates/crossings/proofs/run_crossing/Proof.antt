@@ -20,7 +20,7 @@ begin-left-requires : tie.Need-begin-left-requires
 begin-left-requires c κs = search needs
 
 search-requires : tie.Need-search-requires
-search-requires c κs = 
+search-requires c κs =
     let s = c .before .before .before .before .before .before .before .before .before .before .before .before .before .before .before .before .before .before .before .before .before .before in
     let n = length (s .args .status .now) in
     let b = c .before .before .before .before .before .before .before .before .before .begin-left .ensures in
@@ -29,13 +29,13 @@ search-requires c κs =
     (searchable-as len (s .pre .0), subst (λ l. Waiting (length l) l (s .args .vertices)) (sym b) (waiting-as (sym (w .fits)) w))
 
 nearest-right-requires : tie.Need-nearest-right-requires
-nearest-right-requires c κs = 
+nearest-right-requires c κs =
     let s = c .before .before .before .before .before .before .before .before .before .before .before .before .before .before .before .before .before .before .before .before .before .before .before .before .before .before .before .before .before .before .before .before .before .before .before .before .before .before .before in
     let r = ready-as (c .before .before .before .before .before .before .before .before .before .before .before .before .before .before .before .before .before .before .before .before .before .before .before .before .before .before .begin-left .kept .0) (c .before .before .before .before .before .before .before .before .before .before .before .before .before .before .before .before .search .ensures .1) in
     (r .weight-fits ∙ sym (r .status-fits), s .pre .1 .0 ∙ sym (r .status-fits), λ v h. r .light v (omega (arith, r .status-fits)))
 
 write-found-requires : tie.Need-write-found-requires
-write-found-requires c κs = 
+write-found-requires c κs =
     let s = c .before .before .before .before .before .before .before .before .before .before .before .before .before .before .before .before .before .before .before .before .before .before .before .before .before .before .before .before .before .before .before .before .before .before .before .before .before .before .before .before .before .before .before in
     let r = ready-as (c .before .before .before .before .before .before .before .before .before .before .before .before .before .before .before .before .before .before .before .before .before .before .before .before .before .before .before .before .before .before .begin-left .kept .0) (c .before .before .before .before .before .before .before .before .before .before .before .before .before .before .before .before .before .before .before .before .search .ensures .1) in
     (r .weight-fits ∙ sym (r .status-fits), omega (arith, r .status-fits, s .pre .1 .2), λ v h. r .light v (omega (arith, r .status-fits)))
@@ -65,7 +65,7 @@ same-length-8 : tie.Need-same-length-8
 same-length-8 c = search needs
 
 returns : tie.Need-returns
-returns c = 
+returns c =
     let s = c .before .before .before .before .before .before .before .before .before .before .before .before .before .before .before .before .before .before .before .before .before .before .before .before .before .before .before .before .before .before .before .before .before .before .before .before .before .before .before .before .before .before .before .before .before in
     let n = length (s .args .status .now) in
     let m = s .args .boundary .now in
@@ -76,8 +76,8 @@ returns c =
     let r = ready-as k (c .before .before .before .before .before .before .before .before .before .before .before .before .before .before .before .before .before .before .before .before .before .before .search .ensures .1) in
     let S : State = stateOf (c .before .before .before .before .before .before .before .before .before .before .before .before .before .before .before .before .before .before .before .before .before .before .search .last .1 .1 .1 .1 .1 .0) (c .before .before .before .before .before .before .before .before .before .before .before .before .before .before .before .before .before .before .before .before .before .before .search .last .1 .1 .1 .1 .1 .1 .0) (c .before .before .before .before .before .before .before .before .before .before .before .before .before .before .before .before .before .before .before .before .before .before .search .last .1 .1 .1 .1 .1 .1 .1 .0) in
     let state : S ≡ fromLeft g w = c .before .before .before .before .before .before .before .before .before .before .before .before .before .before .before .before .before .before .before .before .before .before .search .ensures .0 m
-        ∙ (λ i. settled (graphOf (k i) (s .args .ends-a .now) (s .args .ends-b .now) m) w (sources (b i)) (endOf (k i) (s .pre .1 .1 i)))
-        ∙ settled-left n (s .args .ends-a .now) (s .args .ends-b .now) m (s .pre .1 .0) w in
+    ∙ (λ i. settled (graphOf (k i) (s .args .ends-a .now) (s .args .ends-b .now) m) w (sources (b i)) (endOf (k i) (s .pre .1 .1 i)))
+    ∙ settled-left n (s .args .ends-a .now) (s .args .ends-b .now) m (s .pre .1 .0) w in
     let coded : Coded (c .before .before .before .before .before .nearest-right .result) (crossing g w) = found-is g w S state _ _ (r .status-fits) (r .weight-fits) (r .light) (c .before .before .before .before .before .nearest-right .ensures (c .before .before .before .before .before .before .before .before .before .before .before .before .before .before .before .before .before .before .before .before .before .before .search .last .1 .1 .1 .1 .1 .1 .1 .0)) in
     (coded, column-is g w S state _ _ _ _ (r .status-fits) coded (c .before .write-found .ensures (c .before .before .before .before .before .before .before .before .before .before .before .before .before .before .before .before .before .before .before .before .before .before .search .last .1 .1 .1 .1 .1 .1 .1 .0)))
 

@@ -87,6 +87,18 @@ built-of kind d rounds v e a b m (Called.created κs x v′ e′ s h) = create-s
 built-of kind d rounds v e a b m (Called.newly κs x v′ e′ s h) = weighted-says _ _ _ _ _ _ _ _ v′ e′ h
 built-of kind d rounds v e a b m (Called.diagonally κs x v′ e′ s h) = weighted-says _ _ _ _ _ _ _ _ v′ e′ h
 
+-- handed on in other columns
+pub handed-on : {kind d rounds v e : ℕ} {a b m a′ b′ m′ : List ℕ} → BuiltGraph kind d rounds v e a b m → take e a′ ≡ take e a → take e b′ ≡ take e b → take v m′ ≡ take v m
+    → BuiltGraph kind d rounds v e a′ b′ m′
+handed-on g p q r = record {
+  accepted = g .accepted;
+  vertices-are = g .vertices-are;
+  edges-are = g .edges-are;
+  endsA-are = p ∙ g .endsA-are;
+  endsB-are = q ∙ g .endsB-are;
+  boundary-are = r ∙ g .boundary-are;
+}
+
 -- opened, its crossing weight with every weight 1 is d
 pub built-distance : (kind d rounds v e : ℕ) (handed : GraphColumns) → BuiltGraph kind d rounds v e (handed .endsA) (handed .endsB) (handed .boundary)
     → crossing (graphIn (tallyOf v e handed)) (λ k. 1) ≡ some d

@@ -24,7 +24,7 @@ use Rattle.acceptance.specs.Listed.{graphIn, weightsIn, crossingNumber, 
 use Rattle.acceptance.specs.Demand3.{History, CrossingThen, TwoLists, tallyFirst, tallyLast, graphLeft, weightsLeft, refusedBefore, LeftJoinsRight, Demand3}
 use Rattle.acceptance.proofs.Agreeing.{scratchFits, range, edges-are, weight-at, crossing-number, accepted-of, accepted-when, column-at, graph-kept}
 use Rattle.acceptance.proofs.Runs.{FreshGraph, fresh-of, crossing-of, runs}
-use Rattle.acceptance.proofs.Built.{BuiltGraph, built-of, built-distance}
+use Rattle.acceptance.proofs.Built.{BuiltGraph, built-of, handed-on, built-distance}
 
 abbrev valueOf : Option ℕ → ℕ
 valueOf none = 0
@@ -161,5 +161,6 @@ demand-3 = record {
       (crossing-is-least (graphLeft h) (weightsLeft h) (in-range h) .2 v (omega (arith, vertices-kept h, l)));
   equal-weights = equal-weights;
   nowhere-greater = nowhere-greater;
-  distance = λ h c kind d rounds b. distance h c kind d rounds (built-of kind d rounds (h .vertices) (h .edges) (h .handed .endsA) (h .handed .endsB) (h .handed .boundary) b);
+  distance = λ h c kind d rounds a b m built same-a same-b same-m.
+      distance h c kind d rounds (handed-on (built-of kind d rounds (h .vertices) (h .edges) a b m built) same-a same-b same-m);
 }

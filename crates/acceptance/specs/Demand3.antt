@@ -3,7 +3,7 @@ use Prim.Native.Nat.{ℕ, _≤_, _<_}
 use mathlib.Core.Path.{_≡_}
 use mathlib.Core.Logic.{_↔_}
 use mathlib.Core.List.{List}
-use lib.ListN.{getD}
+use lib.ListN.{getD, take}
 use lib.IntN.{ℤ}
 use Rattle.edge_modifier.specs.Records.{Engine}
 use Rattle.edge_modifier.specs.Open.{GraphColumns}
@@ -95,7 +95,11 @@ pub record Demand3 : Type 0 where
   pub nowhere-greater : (h h′ : History) (c : CrossingThen h) (c′ : CrossingThen h′) → TwoLists h h′ c c′
       → ((k : ℕ) → k < h .edges → weightsLeft h k ≤ weightsLeft h′ k)
       → (replyWeight (c .reply) ≤ replyWeight (c′ .reply)) × ((v : ℕ) → v < h .vertices → NotGreater (weightIn (c .column) v) (weightIn (c′ .column) v))
-  -- "With every weight 1, each built code of distance d reports d." Whatever it opened with, however the 1s came about.
-  pub distance : (h : History) (c : CrossingThen h) (kind d rounds : ℕ)
-      → CodeBuilt kind d rounds (h .vertices) (h .edges) (h .handed .endsA) (h .handed .endsB) (h .handed .boundary)
+  -- "With every weight 1, each built code of distance d reports d." The graph was handed the ends and boundary bytes of the code, whatever stands past the counts,
+  -- and any sound weights; the 1s came about by any list of calls.
+  pub distance : (h : History) (c : CrossingThen h) (kind d rounds : ℕ) (endsA endsB boundary : List ℕ)
+      → CodeBuilt kind d rounds (h .vertices) (h .edges) endsA endsB boundary
+      → take (h .edges) (h .handed .endsA) ≡ take (h .edges) endsA
+      → take (h .edges) (h .handed .endsB) ≡ take (h .edges) endsB
+      → take (h .vertices) (h .handed .boundary) ≡ take (h .vertices) boundary
       → ((k : ℕ) → k < h .edges → weightsLeft h k ≡ 1) → refusedBefore h c ≡ 0 → c .reply ≡ Crossed d

@@ -23,6 +23,17 @@ numberOf (Nearest u weight) = 0
 numberOf NoBoundary = 0
 numberOf (Refused n) = n
 
+-- and its values, the vertex and the weight: 0 where there is none and where the call was refused
+abbrev pub vertexOf : BoundaryAnswer → ℕ
+vertexOf (Nearest u weight) = u
+vertexOf NoBoundary = 0
+vertexOf (Refused n) = 0
+
+abbrev pub weightOf : BoundaryAnswer → ℕ
+weightOf (Nearest u weight) = weight
+weightOf NoBoundary = 0
+weightOf (Refused n) = 0
+
 -- a weight of a table: whether there is one, and how much
 abbrev pub isReached : ℤ → Bool
 isReached (pos k) = true

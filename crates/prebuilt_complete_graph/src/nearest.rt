@@ -79,7 +79,7 @@ fn nearer(byte: u8, least: &[i32], u: usize, best: usize) -> usize
 }
 
 // The nearest virtual vertex in a table; the column's length stands for none.
-fn nearest_place(boundary: &[u8], least: &[i32]) -> usize
+pub fn nearest_place(boundary: &[u8], least: &[i32]) -> usize
     requires { ⌜ length (now boundary) ≡ length (now least) ⌝ }
     ensures { λ r. ⌜ r ≡ orElse (length (now (least .entry))) (nearestIn (now (boundary .entry)) (now (least .entry)) (length (now (least .entry)))) ⌝ }
 {

@@ -1,18 +1,19 @@
 -- Document 01's starred examples, by computation. Assumes nothing.
 use mathlib.Core.Path.{_≡_, refl, sym, ap, _∙_}
-use mathlib.Core.Bool.{true}
+use mathlib.Core.Bool.{true, _&&_}
 use mathlib.Core.List.{List, [], _∷_, map}
 use mathlib.Core.Option.{Option, some}
 use Prim.Native.Nat.{ℕ, zero, suc, _^_, _≤_}
 use native.Mathlib.Omega.{arith}
 use lib.ListN.{length, getD, take, replicate, getD-replicate, length-replicate}
 use lib.Dec.{leb}
-use lib.Ieee.{Float}
-use borrow.Author.Tests.{leb-true}
+use lib.Ieee.{Float, toBits, ofBits, lt, eq}
+use borrow.Author.Tests.{leb-true, le-leb}
+use lib.Seq.{take-all}
 use Rattle.columns.specs.Lists.{each, joined, layered}
 use Rattle.columns.specs.Places.{zeroFloat}
-use Rattle.columns.specs.Questions.{all, every}
-use Rattle.columns.proofs.Tests.{and-both}
+use Rattle.columns.specs.Questions.{ask, all, every}
+use Rattle.columns.proofs.Tests.{and-both, both-and}
 use Rattle.code_columns.specs.Edges.{straightEdges, straightRows}
 use Rattle.planar.specs.Planar.{rowEdges, planarRow, planarLayer, planarGap, planarBoundary, flatVertex}
 use Rattle.circuit.specs.Circuit.{circuitCell, circuitRow, circuitGap}
@@ -20,7 +21,11 @@ use Rattle.rotated.specs.Rotated.{rotatedPlace, rotatedEdge, rotatedRow, rotate
 use Rattle.layers.specs.Codes.{rows, width, layerEdges, gapEdges, edgesOf, vertexOf, layerVertices, verticesOf}
 use Rattle.layers.specs.Counts.{layerVertexNum, vertexNum, layerEdgeNum, gapEdgeNum, edgeNum}
 use Rattle.layers.specs.Accepts.{kindKnown, distanceSound, roundsSound, codeRefusal}
-use Rattle.weights.specs.Calls.{isLargestHalfWeight, halfWeights, largestWeight}
+use Rattle.weights.specs.Calls.{isLargestHalfWeight, halfWeights, largestWeight, computeDoor, someAbove, edgeWeights}
+use Rattle.weights.specs.Probabilities.{isProbability}
+use Rattle.columns.specs.Limits.{edgeLimit}
+use Rattle.code_questions.specs.declared.Count.the-variants.{Counted, Refused}
+use Rattle.code_questions.specs.Answers.{vertexNumAnswer}
 use Rattle.weights.specs.Rounding.{halfWeight}
 use Rattle.weights.proofs.Theorems.{zero-among}
 use Rattle.neighbors.specs.Sound.{endsDiffer, pairsApart, endsInRange, graphSound, logSound}
@@ -50,6 +55,29 @@ zeros max (suc n) h =
     let (a, b) = and-both (leb 1 max) (leb max 250000) h in
     same-map (suc n) (λ p. halfWeight max (edgeWeight p) (largestWeight (replicate (suc n) zeroFloat))) zeroFloat
     (zero-among max (replicate (suc n) zeroFloat) 0 (omega (arith, leb-true max 250000 b)) (omega (arith, length-replicate (suc n) zeroFloat)) (getD-replicate (suc n) 0 zeroFloat zeroFloat (omega arith)) (edgeWeight zeroFloat))
+
+-- question 9 is met by each p, question 10 by the first weight, which is +infinity
+all-zero : (n : ℕ) → all isProbability (replicate n zeroFloat) ≡ true
+unfolding all isProbability toBits ofBits
+all-zero zero = refl
+all-zero (suc n) = all-zero n
+
+some-infinite : (n : ℕ) → someAbove (edgeWeights (replicate (suc n) zeroFloat)) ≡ true
+unfolding someAbove edgeWeight lt ofBits eq
+some-infinite n = refl
+
+zeros-asked : (max n : ℕ) (column : List ℕ) → isLargestHalfWeight max ≡ true → 1 ≤ n → n ≤ edgeLimit → n ≤ length column → computeDoor n (replicate n zeroFloat) column max ≡ 0
+zeros-asked max zero column h one few long = absurd (omega arith)
+zeros-asked max (suc n) column h one few long =
+    let ps = replicate (suc n) zeroFloat in
+    let t : take (suc n) ps ≡ ps = take-all (suc n) ps (omega (arith, length-replicate (suc n) zeroFloat)) in
+    let room : (leb (suc n) (length ps) && leb (suc n) (length column)) ≡ true = both-and (le-leb (suc n) (length ps) (omega (arith, length-replicate (suc n) zeroFloat))) (le-leb (suc n) (length column) long) in
+    λ i. ask (room i) 6 (ask (le-leb (suc n) edgeLimit few i) 7 (ask (h i) 8 (ask ((ap (all isProbability) t ∙ all-zero (suc n)) i) 9 (ask ((ap (λ xs. someAbove (edgeWeights xs)) t ∙ some-infinite n) i) 10 0))))
+
+-- an even distance is refused for every kind
+even : (kind rounds : ℕ) → kindKnown kind ≡ true → vertexNumAnswer kind 4 rounds ≡ Refused 3
+unfolding codeRefusal distanceSound
+even kind rounds h = rw h
 
 -- ---- the listing's graph, written out
 
@@ -113,6 +141,13 @@ ones-3 = ap (crossingOf (fed (loadWeights (0 ∷ 1 ∷ 2 ∷ []) (1 ∷ 1 ∷ 1 
 abbrev engineOf : GraphColumns → Engine
 engineOf c = engine (counts 4 3 0) (c .endsA) (c .endsB) (c .weights) (c .boundary) (0 ∷ 0 ∷ 0 ∷ []) (0 ∷ 0 ∷ 0 ∷ [])
 
+door-0 : pathDoor (engineOf written) true 3 2 4 4 ≡ 0
+unfolding all every endsDiffer pairsApart endsInRange graphSound logSound columnsLong longEnough columnsSound sound
+door-0 = refl
+
+asked-0 : pathDoor listingEngine true 3 2 4 4 ≡ 0
+asked-0 = (λ i. pathDoor (engineOf (columns i)) true 3 2 4 4) ∙ door-0
+
 door-16 : pathDoor (engineOf written) true 2 2 4 4 ≡ 16
 unfolding all every endsDiffer pairsApart endsInRange graphSound logSound columnsLong longEnough columnsSound sound
 door-16 = refl
@@ -134,11 +169,13 @@ starred = record {
   kind-2-d-65 = refl;
   kind-3-rounds-340 = refl;
   kind-3-rounds-341 = refl;
-  d-4 = λ rounds. refl;
+  d-4 = even;
   path-3-2 = refl;
+  path-3-2-asked = asked-0;
   edge-1-erased = erased-2000;
   then-reset = reset-3000;
   every-weight-1 = ones-3;
   every-p-0 = zeros;
+  every-p-0-asked = zeros-asked;
   path-2-2 = sixteen;
 }

@@ -3,15 +3,17 @@ use mathlib.Core.Path.{_≡_}
 use mathlib.Core.Bool.{true}
 use mathlib.Core.List.{List, [], _∷_}
 use mathlib.Core.Option.{Option, some}
-use Prim.Native.Nat.{ℕ, suc}
-use lib.ListN.{replicate}
+use Prim.Native.Nat.{ℕ, suc, _≤_}
+use lib.ListN.{length, replicate}
 use Rattle.columns.specs.Places.{zeroFloat}
 use Rattle.code_columns.specs.Edges.{Ends, firsts, seconds, boundaries}
 use Rattle.layers.specs.Codes.{edgesOf, verticesOf}
 use Rattle.code_questions.specs.declared.Count.{Count}
 use Rattle.code_questions.specs.declared.Count.the-variants.{Counted, Refused}
 use Rattle.code_questions.specs.Answers.{vertexNumAnswer, edgeNumAnswer}
-use Rattle.weights.specs.Calls.{isLargestHalfWeight, halfWeights}
+use Rattle.weights.specs.Calls.{isLargestHalfWeight, halfWeights, computeDoor}
+use Rattle.columns.specs.Limits.{edgeLimit}
+use Rattle.layers.specs.Accepts.{kindKnown}
 use Rattle.edge_modifier.specs.Records.{Engine, engine, counts}
 use Rattle.edge_modifier.specs.Step.{Call, loadErasures, loadWeights, reset}
 use Rattle.edge_modifier.specs.Open.{GraphColumns, graphColumns}
@@ -58,11 +60,12 @@ pub record StarredExamples : Type 0 where
   -- "Kind 3, d 3: rounds 340 gives 4,092; 341 refuses 5."
   pub kind-3-rounds-340 : vertexNumAnswer 3 3 340 ≡ Counted 4092
   pub kind-3-rounds-341 : vertexNumAnswer 3 3 341 ≡ Refused 5
-  -- "d 4: 3."
-  pub d-4 : (rounds : ℕ) → vertexNumAnswer 3 4 rounds ≡ Refused 3
+  -- "d 4: 3." For every kind.
+  pub d-4 : (kind rounds : ℕ) → kindKnown kind ≡ true → vertexNumAnswer kind 4 rounds ≡ Refused 3
   -- "The listing's graph: path 3 to 2 is (0,1000) (1,1000) (2,1000), total 3000;"
   pub path-3-2 : path (graphIn (listingAfter [])) (weightsIn (listingAfter [])) 3 2
       ≡ some (record { vertices = 0 ∷ 1 ∷ 2 ∷ []; steps = 1000 ∷ 1000 ∷ 1000 ∷ []; total = 3000 })
+  pub path-3-2-asked : pathDoor listingEngine true 3 2 4 4 ≡ 0
   -- "edge 1 erased, crossing 2000;"
   pub edge-1-erased : crossingAfter (fed (loadErasures (1 ∷ [])) ∷ []) ≡ some 2000
   -- "reset, 3000;"
@@ -71,5 +74,7 @@ pub record StarredExamples : Type 0 where
   pub every-weight-1 : crossingAfter (fed (loadWeights (0 ∷ 1 ∷ 2 ∷ []) (1 ∷ 1 ∷ 1 ∷ [])) ∷ []) ≡ some 3
   -- "Every p 0: half weights 1."
   pub every-p-0 : (max n : ℕ) → isLargestHalfWeight max ≡ true → halfWeights max (replicate n zeroFloat) ≡ replicate n 1
+  pub every-p-0-asked : (max n : ℕ) (column : List ℕ) → isLargestHalfWeight max ≡ true → 1 ≤ n → n ≤ edgeLimit → n ≤ length column
+      → computeDoor n (replicate n zeroFloat) column max ≡ 0
   -- "Path 2 to 2: 16."
   pub path-2-2 : numberOf (pathReply (pathDoor listingEngine true 2 2 4 4) (path (Q.graphIn listingEngine) (Q.weightsIn listingEngine) 2 2)) ≡ 16

@@ -9,6 +9,7 @@ use lib.Dec.{leb}
 use lib.IntN.{ℤ}
 use lib.ListN.{length, getD, take, drop, length-map, length-take, take-append-drop}
 use borrow.Author.Tests.{le-leb}
+use Rattle.columns.specs.Limits.{weightLimit}
 use Rattle.columns.specs.Lists.{over}
 use Rattle.columns.specs.Questions.{ask, all, weightsSound, boundariesSound, allBelow, allWithin}
 use Rattle.columns.proofs.Tests.{both-and}
@@ -77,7 +78,7 @@ module _ (kind d rounds : ℕ) (p : _) (max v e : ℕ) (a b w m : List ℕ) (s :
 
   no-log : (le lw : List ℕ) → logSound e 0 le lw ≡ true
   unfolding logSound all
-  no-log le lw = both-and (none′ (λ x. lib.Dec.ltb x e) le) (none′ (λ x. leb x _) lw)
+  no-log le lw = both-and (none′ (λ x. lib.Dec.ltb x e) le) (none′ (λ x. leb x weightLimit) lw)
     where
       none′ : (test : ℕ → Bool) (xs : List ℕ) → all test (take 0 xs) ≡ true
       none′ test [] = refl

@@ -11,12 +11,14 @@ use Rattle.layers.specs.Counts.{vertexNum, edgeNum}
 use Rattle.layers.specs.Accepts.{Buildable}
 use Rattle.weights.specs.Calls.{halfWeights}
 use Rattle.columns.specs.Questions.{weightsSound}
+use Rattle.example_codes.specs.declared.Created.{Created}
+use Rattle.example_codes.specs.declared.Created.the-variants as made
 use Rattle.example_codes.specs.Columns.{CodeColumns, edgeRoom, vertexRoom}
 use Rattle.complete_graph.specs.declared.crossing.CrossingReply.{CrossingReply}
 use Rattle.complete_graph.specs.declared.crossing.CrossingReply.the-variants.{Crossed, Refused}
 use Rattle.complete_graph.specs.Crossing.{replyOf}
 use Rattle.listing.specs.Text.{refusalLine, listing}
-use Rattle.code_text.specs.Answer.{weightsOf, crossingOf}
+use Rattle.code_text.specs.Answer.{weightsOf, crossingOf, listingOf}
 use Rattle.weighted_codes.specs.Probabilities.{probabilities, diagonalOf}
 
 -- the columns of a code for 1,024 vertices and 6,144 edges
@@ -71,3 +73,13 @@ Replied kind d rounds p max r = r ≡ replyOf 0 (crossingOf kind d rounds p max)
 abbrev pub replyText : (kind d rounds v e : ℕ) (boundary a b weights : List ℕ) → CrossingReply → List ℕ
 replyText kind d rounds v e boundary a b weights (Crossed weight) = listing kind d rounds v e boundary a b weights weight
 replyText kind d rounds v e boundary a b weights (Refused number) = refusalLine number
+
+-- where `new` answers with a code, these columns hold it
+abbrev pub MadeHolds : (kind d rounds : ℕ) (p : Float) (max : ℕ) (a b h m : List ℕ) → Created → Type 0
+MadeHolds kind d rounds p max a b h m (made.Code v e) = HoldsCode kind d rounds p max v e a b h m
+MadeHolds kind d rounds p max a b h m (made.Refused number) = Unit {0}
+
+-- the text for what `new` answers
+abbrev pub madeText : (kind d rounds : ℕ) (p : Float) (max : ℕ) → Created → List ℕ
+madeText kind d rounds p max (made.Code v e) = listingOf kind d rounds p max
+madeText kind d rounds p max (made.Refused number) = refusalLine number

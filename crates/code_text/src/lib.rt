@@ -15,7 +15,7 @@ ghost use Rattle.example_codes.specs.Columns.{CodeColumns};
 ghost use Rattle.listing.specs.Steps.{Put};
 ghost use Rattle.code_text.specs.Answer.{codeText, textOf, answerText, CodeListed};
 ghost use Rattle.code_text.specs.Claims.{EveryCodeCrosses, EveryTextFits};
-ghost use Rattle.code_text.specs.Steps.{CodeRoom};
+ghost use Rattle.code_text.specs.Steps.{CodeRoom, MadeHolds, madeText};
 
 // How many bytes the text has, or the number of the question that was answered no.
 pub enum Listed {
@@ -34,6 +34,42 @@ fn of_bits(n: u64) -> f64
         0.0 / 0.0
     } else {
         f64::from_bits(n)
+    }
+}
+
+// The text for what `new` answers.
+fn write_made(
+    made: Created,
+    kind: u32,
+    d: u32,
+    rounds: u32,
+    probability: f64,
+    max_half_weight: Weight,
+    ends_a: &[u32],
+    ends_b: &[u32],
+    half_weight: &[Weight],
+    boundary: &[u8],
+    text: &mut [u8],
+) -> usize
+    requires { ⌜ MadeHolds kind d rounds probability «max_half_weight» (now «ends_a») (now «ends_b») (now «half_weight») (now boundary) made ⌝ }
+    ensures { λ r. ⌜ Put (now (text .entry)) 0 (madeText kind d rounds probability «max_half_weight» made) (now (text .exit)) r ⌝ }
+{
+    match made {
+        Created::Refused(number) => write_refusal(text, number),
+        Created::Code(v, e) => write_built(
+            kind,
+            d,
+            rounds,
+            probability,
+            max_half_weight,
+            v,
+            e,
+            ends_a,
+            ends_b,
+            half_weight,
+            boundary,
+            text,
+        ),
     }
 }
 
@@ -82,23 +118,19 @@ fn write_code_in(
         list_lengths,
         neighbor_numbers,
     );
-    match made {
-        Created::Refused(number) => write_refusal(text, number),
-        Created::Code(v, e) => write_built(
-            kind,
-            d,
-            rounds,
-            probability,
-            max_half_weight,
-            v,
-            e,
-            ends_a,
-            ends_b,
-            half_weight,
-            boundary,
-            text,
-        ),
-    }
+    write_made(
+        made,
+        kind,
+        d,
+        rounds,
+        probability,
+        max_half_weight,
+        ends_a,
+        ends_b,
+        half_weight,
+        boundary,
+        text,
+    )
 }
 
 // The text for a code.

@@ -1,11 +1,10 @@
+-- `code_text::every_code_crosses` meets its contract, a theorem of `proofs/Crosses.antt`. Assumes nothing.
+use Rattle.code_text.proofs.Crosses.{every-code-crosses}
 use Rattle.code_text.proofs.every_code_crosses.Statement.{statement}
 use Rattle.code_text.proofs.every_code_crosses.Tie as tie
-use Rattle.code_text.proofs.every_code_crosses.Reads as reads
-use Rattle.code_text.proofs.every_code_crosses.Lts as lts
 
--- src/lib.rt:172:1
 returns : tie.Need-returns
-returns c = ?
+returns c = every-code-crosses
 
 pub every-code-crosses-spec : {M : Type 1} → statement M
 every-code-crosses-spec = tie.close (tie.spec returns)

@@ -1,47 +1,39 @@
+-- `code_text::write_answer` meets its contract. Assumes nothing.
+use Rattle.code_text.proofs.Texts.{damaged-line, sound-line}
 use borrow.Author.Needs.{needs}
 use Rattle.code_text.proofs.write_answer.Statement.{statement}
 use Rattle.code_text.proofs.write_answer.Tie as tie
-use Rattle.code_text.proofs.write_answer.Reads as reads
-use Rattle.code_text.proofs.write_answer.Lts as lts
-use Rattle.code_text.proofs.of_bits.Reads as of-bits-reads
-use Rattle.code_text.proofs.write_code.Reads as write-code-reads
-use Rattle.listing.proofs.write_refusal.Reads as write-refusal-reads
 
--- src/lib.rt:156:50
 enum-told : tie.Need-enum-told
 enum-told c = search needs
 
--- src/lib.rt:156:36
 write-refusal-requires : tie.Need-write-refusal-requires
 write-refusal-requires c κs = search needs
 
--- src/lib.rt:157:30
 enum-known-line : tie.Need-enum-known-line
 enum-known-line c = search needs
 
--- src/lib.rt:157:70
 of-bits-requires : tie.Need-of-bits-requires
 of-bits-requires c κs = search needs
 
--- src/lib.rt:157:36
 write-code-requires : tie.Need-write-code-requires
 write-code-requires c κs = search needs
 
--- src/lib.rt:152:1
 same-length : tie.Need-same-length
 same-length c = search needs
 
--- src/lib.rt:152:1
 returns : tie.Need-returns
-returns c = ?
+returns c =
+    let s = c .before .before .before .before .before .before .before .args in
+    damaged-line (s .line) (c .before .before .write-refusal .ensures) (let t = c .before .before .before .before .enum-told .given in cc)
 
--- src/lib.rt:152:1
 same-length-2 : tie.Need-same-length-2
 same-length-2 c = search needs
 
--- src/lib.rt:152:1
 returns-2 : tie.Need-returns-2
-returns-2 c = ?
+returns-2 c =
+    let s = c .before .before .before .before .before .before .before .before .before .args in
+    sound-line (s .line) _ _ (c .before .before .write-code .ensures) (c .before .before .before .before .of-bits .ensures) (let t = c .before .before .before .before .before .before .line .given in let u = c .before .before .before .before .before .known-told .given in cc)
 
 pub write-answer-spec : {M : Type 1} → statement M
 write-answer-spec =

@@ -1,35 +1,40 @@
+-- `code_text::built::write_weighed` meets its contract. Assumes nothing.
+use native.Mathlib.Omega.{arith}
+use Prim.Native.Nat.{ℕ, _≤_}
+use lib.ListN.{length}
+use Rattle.code_text.specs.Steps.{HoldsCode, HoldsWeights}
+use Rattle.code_text.proofs.Holds.{h-few, h-long, holds-weights}
+use Rattle.code_text.proofs.Crossed.{lengths}
+use Rattle.code_text.proofs.Texts.{listed-reply}
 use borrow.Author.Needs.{needs}
 use Rattle.code_text.proofs.built.write_weighed.Statement.{statement}
 use Rattle.code_text.proofs.built.write_weighed.Tie as tie
-use Rattle.code_text.proofs.built.write_weighed.Reads as reads
-use Rattle.code_text.proofs.built.write_weighed.Lts as lts
-use Rattle.code_access.proofs.store_weights.Reads as store-weights-reads
-use Rattle.code_text.proofs.built.crossing_of.Reads as crossing-of-reads
-use Rattle.code_text.proofs.built.write_reply.Reads as write-reply-reads
 
--- src/built.rt:172:5
 store-weights-requires : tie.Need-store-weights-requires
-store-weights-requires c κs = ?
+store-weights-requires c κs =
+    let s = c .before .before .before .before .before .before .before .args in
+    let h = c .before .before .before .before .before .before .before .pre .0 in
+    ((h-long _ _ _ _ _ _ _ _ _ _ _ h, omega (arith, c .before .before .before .before .before .before .before .pre .1, h .few-edges)), h-few _ _ _ _ _ _ _ _ _ _ _ h)
 
--- src/built.rt:173:9
 crossing-of-requires : tie.Need-crossing-of-requires
-crossing-of-requires c κs = ?
+crossing-of-requires c κs = holds-weights _ _ _ _ _ _ _ _ _ _ _ (c .before .before .before .before .before .before .before .before .before .before .before .pre .0) _ _ (c .before .before .before .store-weights .ensures)
 
--- src/built.rt:186:5
 write-reply-requires : tie.Need-write-reply-requires
-write-reply-requires c κs = ?
+write-reply-requires c κs =
+    let h = c .before .before .before .before .before .before .before .before .before .before .before .before .before .before .pre .0 in
+    let w = lengths _ _ _ _ _ _ _ _ _ _ _ (holds-weights _ _ _ _ _ _ _ _ _ _ _ h _ _ (c .before .before .before .before .before .before .store-weights .ensures)) in
+    ((h .few-vertices, w .3, h .few-edges, w .0, w .1), w .2)
 
--- src/built.rt:153:1
 same-length : tie.Need-same-length
 same-length c = search needs
 
--- src/built.rt:153:1
 same-length-2 : tie.Need-same-length-2
 same-length-2 c = search needs
 
--- src/built.rt:153:1
 returns : tie.Need-returns
-returns c = ?
+returns c =
+    let h = c .before .before .before .before .before .before .before .before .before .before .before .before .before .before .before .before .before .pre .0 in
+    listed-reply _ _ _ _ _ _ _ _ _ (c .before .before .before .before .before .crossing-of .result) _ _ (holds-weights _ _ _ _ _ _ _ _ _ _ _ h _ _ (c .before .before .before .before .before .before .before .before .before .store-weights .ensures)) (c .before .before .before .before .before .crossing-of .ensures) (c .before .before .write-reply .ensures)
 
 pub write-weighed-spec : {M : Type 1} → statement M
 write-weighed-spec =

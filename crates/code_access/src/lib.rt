@@ -178,7 +178,7 @@ fn initializer_door(
 }
 
 // Stores twice the half weight of each of the first n edges.
-fn store_weights(half_weight: &[Weight], n: usize, weight: &mut [Weight])
+pub fn store_weights(half_weight: &[Weight], n: usize, weight: &mut [Weight])
     requires { ⌜ (n ≤ length (now «half_weight»)) × (n ≤ length (now weight)) ⌝ }
     requires { ⌜ ((k : ℕ) → k < n → getD (now «half_weight») k 0 ≤ 250000) ⌝ }
     ensures { λ _. ⌜ now (weight .exit) ≡ over (weights n (now («half_weight» .entry))) (now (weight .entry)) ⌝ }

@@ -151,11 +151,10 @@ module _ (d rounds : ℕ) (ok : Accepted 4 d rounds) where
   pub first-plain : (diagonalEdge 4 d rounds (getD (edgesOf 4 d rounds) 0 (0, 0)) ≡ false) × (1 ≤ length (edgesOf 4 d rounds))
   first-plain =
       let s = starts-at (rowEdges d 0) (edgesOf 4 d rounds) (0, 0) 0 (row-first 4 d rounds ok (omega arith)) (omega (arith, row-count d 0 (omega (arith, three)), three)) in
-      let is : getD (edgesOf 4 d rounds) 0 (0, 0) ≡ (0, 0 + 1) = s .0 ∙ along-row d 0 (omega (arith, three)) in
-      (
+      let is : getD (edgesOf 4 d rounds) 0 (0, 0) ≡ (0, 0 + 1) = s .0 ∙ along-row d 0 (omega (arith, three)) in (
         ap (diagonalEdge 4 d rounds) is
-        ∙ by-places 0 (0 + 1) _ _ false (place 0 (omega arith) 0 0 0 (omega (arith, three)) (omega (arith, three)) (omega (arith, zero-mul (d * (d + 1)), zero-mul (d + 1))))
-        (place 0 (omega arith) 0 (0 + 1) (0 + 1) (omega (arith, three)) (omega (arith, three)) (omega (arith, zero-mul (d * (d + 1)), zero-mul (d + 1)))) (along 0 0 0 (omega arith) (omega arith) (omega arith)),
+            ∙ by-places 0 (0 + 1) _ _ false (place 0 (omega arith) 0 0 0 (omega (arith, three)) (omega (arith, three)) (omega (arith, zero-mul (d * (d + 1)), zero-mul (d + 1))))
+            (place 0 (omega arith) 0 (0 + 1) (0 + 1) (omega (arith, three)) (omega (arith, three)) (omega (arith, zero-mul (d * (d + 1)), zero-mul (d + 1)))) (along 0 0 0 (omega arith) (omega arith) (omega arith)),
         s .1,
       )
 

@@ -6,4 +6,3 @@ pub mod Positions
 pub mod Diagonals
 pub mod Largest
 pub mod Outcome
-

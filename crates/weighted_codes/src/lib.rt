@@ -105,11 +105,7 @@ fn build(
     }
     let n = edge_count(kind, d, rounds);
     let straight = weighed(probability, max_half_weight, largest);
-    let other = weighed(
-        diagonal_p(probability, diagonal),
-        max_half_weight,
-        largest,
-    );
+    let other = weighed(diagonal_p(probability, diagonal), max_half_weight, largest);
     let made = create_code(
         kind,
         d,

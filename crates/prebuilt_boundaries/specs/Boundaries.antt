@@ -1,0 +1,58 @@
+-- The boundary weight and the boundary vertex of every vertex in the Rust's `PrebuiltCompleteGraph`.
+use Prim.Native.Nat.{ℕ}
+use mathlib.Core.Path.{_≡_}
+use mathlib.Core.Bool.{Bool, true, _&&_}
+use mathlib.Core.List.{List}
+use mathlib.Core.Option.{Option, some, none}
+use lib.ListN.{length}
+use lib.Dec.{leb}
+use lib.IntN.{ℤ, negsuc}
+use Rattle.columns.specs.Lists.{each, after}
+use Rattle.columns.specs.Answers.{done}
+use Rattle.columns.specs.declared.Done.{Done}
+use Rattle.columns.specs.declared.Done.the-variants.{Accepted, Refused}
+use Rattle.edge_modifier.specs.Records.{Engine}
+use Rattle.walks.specs.Graph.{Graph}
+use Rattle.walks.specs.Answers.{weightIn, table}
+use Rattle.complete_graph.specs.Queries.{graphIn, weightsIn, queryDoor}
+use Rattle.prebuilt_complete_graph.specs.Nearest.{boundaryIn}
+
+-- a vertex of a table: its weight, -1 for none, and its number, 0 for none
+abbrev pub weightTo : List ℤ → Option ℕ → ℤ
+weightTo weights none = negsuc 0
+weightTo weights (some u) = weightIn weights u
+
+abbrev pub vertexTo : Option ℕ → ℕ
+vertexTo none = 0
+vertexTo (some u) = u
+
+-- the weights from v with no end, and in them the nearest virtual vertex of v, as `get_boundary_weight` reports it
+abbrev pub weightsFrom : (g : Graph) (w : ℕ → ℕ) (v : ℕ) → List ℤ
+weightsFrom g w v = table g w v none .weights
+
+abbrev pub nearestOf : (g : Graph) (w : ℕ → ℕ) (v : ℕ) → Option ℕ
+nearestOf g w v = boundaryIn (g .boundary) (weightsFrom g w v) (g .vertices) v
+
+abbrev pub boundaryWeight : (g : Graph) (w : ℕ → ℕ) (v : ℕ) → ℤ
+boundaryWeight g w v = weightTo (weightsFrom g w v) (nearestOf g w v)
+
+abbrev pub boundaryVertex : (g : Graph) (w : ℕ → ℕ) (v : ℕ) → ℕ
+boundaryVertex g w v = vertexTo (nearestOf g w v)
+
+-- the number of the first question that is not met, or 0: 6, 7; `scratch` says whether scratch is long enough
+abbrev pub boundariesDoor : Engine → (scratch : Bool) (weights vertices least before : ℕ) → ℕ
+boundariesDoor e scratch weights vertices least before =
+    queryDoor e (leb (e .counts .vertices) weights && (leb (e .counts .vertices) vertices && (leb (e .counts .vertices) least && (leb (e .counts .vertices) before && scratch)))) true 0
+
+-- the answer, and both columns
+pub record BoundariesStep (e : Engine) (scratch : Bool) (least before : ℕ) (r : Done) (weights₀ : List ℤ) (vertices₀ : List ℕ) (weights : List ℤ) (vertices : List ℕ) : Type 0 where
+  pub answer : r ≡ done (boundariesDoor e scratch (length weights₀) (length vertices₀) least before)
+  pub weights-left : weights
+      ≡ after (boundariesDoor e scratch (length weights₀) (length vertices₀) least before) (each (e .counts .vertices) (boundaryWeight (graphIn e) (weightsIn e))) weights₀
+  pub vertices-left : vertices
+      ≡ after (boundariesDoor e scratch (length weights₀) (length vertices₀) least before) (each (e .counts .vertices) (boundaryVertex (graphIn e) (weightsIn e))) vertices₀
+
+-- a refused call leaves the two first scratch columns as they were
+abbrev pub FirstKept : Done → (least₀ least : List ℤ) (before₀ before : List ℕ) → Type 0
+FirstKept Accepted least₀ least before₀ before = Unit {0}
+FirstKept (Refused n) least₀ least before₀ before = (least ≡ least₀) × (before ≡ before₀)

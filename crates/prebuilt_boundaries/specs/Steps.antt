@@ -1,0 +1,20 @@
+-- What the private functions of this crate promise one another. No public contract cites it.
+use Prim.Native.Nat.{ℕ, _≤_, _<_}
+use mathlib.Core.Path.{_≡_}
+use mathlib.Core.Bool.{true}
+use mathlib.Core.List.{List}
+use lib.ListN.{length}
+use lib.IntN.{ℤ}
+use Rattle.edge_modifier.specs.Records.{Engine}
+use Rattle.edge_modifier.specs.Door.{longEnough, sound}
+use Rattle.complete_graph.specs.Queries.{scratchLong}
+
+-- an engine graph that 6 and 7 accept, with room in every column lent
+pub record Fillable (e : Engine) (weights vertices least before numbers ends status weight previous node leaf : ℕ) : Type 0 where
+  pub long : longEnough 0 e ≡ true
+  pub is-sound : sound e ≡ true
+  pub weights-fit : e .counts .vertices ≤ weights
+  pub vertices-fit : e .counts .vertices ≤ vertices
+  pub least-fits : e .counts .vertices ≤ least
+  pub before-fits : e .counts .vertices ≤ before
+  pub scratch-fits : scratchLong (e .counts .vertices) (e .counts .edges) numbers ends status weight previous node leaf ≡ true

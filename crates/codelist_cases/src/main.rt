@@ -1,5 +1,6 @@
 // Reads inputs of `codelist`, each ended by the byte 7c, and prints for each the first line of its text, how many bytes the text has and a checksum of them.
-ghost use Prim.Native.Nat.{_≤_};
+ghost use mathlib.Core.Path.{_≡_};
+ghost use Prim.Native.Nat.{_+_, _≤_, min};
 ghost use lib.ListN.{length};
 use code_text::Listed;
 use code_text::codelist;
@@ -61,13 +62,23 @@ fn answer(input: &[u8], text: &mut [u8]) {
     }
 }
 
+// The place after `end`, or the length.
+fn past(end: usize, length: usize) -> usize
+    ensures { λ r. ⌜ r ≡ min (end + 1) length ⌝ }
+{
+    if end < length {
+        return end + 1;
+    }
+    length
+}
+
 // Each input of the list.
 fn answer_all(list: &[u8], text: &mut [u8]) {
     let mut at: usize = 0;
     while at < list.len() {
         let end = find(list, at, b'|');
         answer(&list[at..end], text);
-        at = end + 1;
+        at = past(end, list.len());
     }
 }
 

@@ -3,15 +3,15 @@ ghost use Rattle.c_codes.specs.Reports.{ReportsCounts, ReportsList, Repo
 ghost use Rattle.code_access.specs.Calls.{positions, GotPositions, code, initializer, GotInitializer, SetMarks, syndrome, SetSyndrome, GotMarks, GotSyndrome, isMarked};
 ghost use Rattle.columns.specs.Questions.{vertexCountSound, edgeCountSound, boundariesSound, marksSound};
 ghost use mathlib.Core.Path.{_≡_};
-use columns::VertexIndex;
-use columns::Weight;
-use c_reports::OneCount;
 use super::reports::TruthReport;
-use c_reports::TwoCounts;
 use super::reports::counts_report;
-use c_reports::done_number;
 use super::reports::list_report;
 use super::reports::truth_report;
+use c_reports::OneCount;
+use c_reports::TwoCounts;
+use c_reports::done_number;
+use columns::VertexIndex;
+use columns::Weight;
 
 // Copies the position of every vertex.
 #[no_mangle]
@@ -53,7 +53,18 @@ pub extern "C" fn moldingcress_get_initializer(
         (initializer (now («to_a» .exit)) (now («to_b» .exit)) (now («to_weight» .exit)) (now («to_virtual» .exit)))
         r) q ⌝ }
 {
-    list_report(code_access::get_initializer(vertex_num, edge_num, ends_a, ends_b, half_weight, boundary, to_a, to_b, to_weight, to_virtual))
+    list_report(code_access::get_initializer(
+        vertex_num,
+        edge_num,
+        ends_a,
+        ends_b,
+        half_weight,
+        boundary,
+        to_a,
+        to_b,
+        to_weight,
+        to_virtual,
+    ))
 }
 
 // Makes the vertices of the list the defects.
@@ -70,11 +81,7 @@ pub extern "C" fn moldingcress_set_defect_vertices(
 
 // Makes the edges of the list the erasures.
 #[no_mangle]
-pub extern "C" fn moldingcress_set_erasures(
-    edge_num: u32,
-    list: &[u32],
-    erasure: &mut [u8],
-) -> u32
+pub extern "C" fn moldingcress_set_erasures(edge_num: u32, list: &[u32], erasure: &mut [u8]) -> u32
     ensures { λ q. ⌜ Reported ReportsDone (λ r. SetMarks (edgeCountSound «edge_num») «edge_num» (now (list .entry)) (now (erasure .entry)) (now (erasure .exit)) r) q ⌝ }
 {
     done_number(code_access::set_erasures(edge_num, list, erasure))
@@ -96,7 +103,14 @@ pub extern "C" fn moldingcress_set_syndrome(
         (syndrome (now (defect .exit)) (now (erasure .exit)))
         r) q ⌝ }
 {
-    done_number(code_access::set_syndrome(vertex_num, edge_num, defect_list, erasure_list, defect, erasure))
+    done_number(code_access::set_syndrome(
+        vertex_num,
+        edge_num,
+        defect_list,
+        erasure_list,
+        defect,
+        erasure,
+    ))
 }
 
 // The defects, ascending.
@@ -139,7 +153,14 @@ pub extern "C" fn moldingcress_get_syndrome(
         (syndrome (now («defect_list» .exit)) (now («erasure_list» .exit)))
         r) q ⌝ }
 {
-    counts_report(code_access::get_syndrome(vertex_num, edge_num, defect, erasure, defect_list, erasure_list))
+    counts_report(code_access::get_syndrome(
+        vertex_num,
+        edge_num,
+        defect,
+        erasure,
+        defect_list,
+        erasure_list,
+    ))
 }
 
 // Whether a vertex is virtual.
@@ -156,11 +177,7 @@ pub extern "C" fn moldingcress_is_virtual(
 
 // Whether a vertex is a defect.
 #[no_mangle]
-pub extern "C" fn moldingcress_is_defect(
-    vertex_num: u32,
-    defect: &[u8],
-    vertex: u32,
-) -> TruthReport
+pub extern "C" fn moldingcress_is_defect(vertex_num: u32, defect: &[u8], vertex: u32) -> TruthReport
     ensures { λ q. ⌜ Reported ReportsTruth (λ r. r ≡ isMarked (marksSound «vertex_num» (now (defect .entry))) «vertex_num» (now (defect .entry)) vertex) q ⌝ }
 {
     truth_report(code_access::is_defect(vertex_num, defect, VertexIndex(vertex)))

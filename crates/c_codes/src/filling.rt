@@ -22,5 +22,17 @@ pub extern "C" fn moldingcress_fill_vertices(
         (vertices (now («pos_i» .exit)) (now («pos_j» .exit)) (now («pos_t» .exit)) (now (boundary .exit)) (now (defect .exit)) (now («list_lengths» .exit)) (now («neighbor_numbers» .exit)))
         r) q ⌝ }
 {
-    done_number(vertices::fill::fill_vertices(vertex_num, edge_num, ends_a, ends_b, pos_i, pos_j, pos_t, boundary, defect, list_lengths, neighbor_numbers))
+    done_number(vertices::fill::fill_vertices(
+        vertex_num,
+        edge_num,
+        ends_a,
+        ends_b,
+        pos_i,
+        pos_j,
+        pos_t,
+        boundary,
+        defect,
+        list_lengths,
+        neighbor_numbers,
+    ))
 }

@@ -3,6 +3,6 @@ mod access;
 mod codes;
 mod counts;
 mod filling;
+pub mod reports;
 mod sanity;
 mod weighing;
-pub mod reports;

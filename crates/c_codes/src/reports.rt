@@ -1,13 +1,13 @@
 // Answers as structs of numbers.
-use example_codes::Created;
-use code_questions::Count;
-use weights::WeightOfP;
-use vertices::Verdict;
+use c_reports::OneCount;
+use c_reports::TwoCounts;
 use code_access::ListCount;
 use code_access::SyndromeCounts;
 use code_access::Truth;
-use c_reports::OneCount;
-use c_reports::TwoCounts;
+use code_questions::Count;
+use example_codes::Created;
+use vertices::Verdict;
+use weights::WeightOfP;
 ghost use mathlib.Core.Path.{_≡_};
 ghost use Rattle.example_codes.specs.CreateCode as created;
 ghost use Rattle.code_questions.specs.Answers as count;

@@ -17,5 +17,12 @@ pub extern "C" fn moldingcress_sanity_check(
 ) -> VerdictReport
     ensures { λ q. ⌜ Reported ReportsVerdict (λ r. r ≡ sanityAnswer «vertex_num» «edge_num» (now («ends_a» .entry)) (now («ends_b» .entry)) (now («list_lengths» .entry)) (now («neighbor_numbers» .entry))) q ⌝ }
 {
-    verdict_report(vertices::sanity::sanity_check(vertex_num, edge_num, ends_a, ends_b, list_lengths, neighbor_numbers))
+    verdict_report(vertices::sanity::sanity_check(
+        vertex_num,
+        edge_num,
+        ends_a,
+        ends_b,
+        list_lengths,
+        neighbor_numbers,
+    ))
 }

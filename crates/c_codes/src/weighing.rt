@@ -5,16 +5,14 @@ ghost use Rattle.weights.specs.Calls.{weightDoor, ComputedWeights, SetEach};
 ghost use Rattle.weights.specs.Logarithm.{edgeWeight};
 ghost use Rattle.weights.specs.Probabilities.{isProbability, isErasureProbability};
 ghost use mathlib.Core.Path.{_≡_};
-use columns::Weight;
 use super::reports::WeighedReport;
-use c_reports::done_number;
 use super::reports::weighed_report;
+use c_reports::done_number;
+use columns::Weight;
 
 // The weight of an edge with probability p.
 #[no_mangle]
-pub extern "C" fn moldingcress_weight_of_p(
-    p: f64,
-) -> WeighedReport
+pub extern "C" fn moldingcress_weight_of_p(p: f64) -> WeighedReport
     ensures { λ q. ⌜ Reported ReportsWeighed (λ r. r ≡ weighed (weightDoor p) (edgeWeight p)) q ⌝ }
 {
     weighed_report(weights::weight_of_p(p))
@@ -35,11 +33,7 @@ pub extern "C" fn moldingcress_compute_weights(
 
 // Sets the probability of each edge.
 #[no_mangle]
-pub extern "C" fn moldingcress_set_probability(
-    edge_num: u32,
-    p: f64,
-    column: &mut [f64],
-) -> u32
+pub extern "C" fn moldingcress_set_probability(edge_num: u32, p: f64, column: &mut [f64]) -> u32
     ensures { λ q. ⌜ Reported ReportsDone (λ r. SetEach (isProbability p) «edge_num» p (now (column .entry)) (now (column .exit)) r) q ⌝ }
 {
     done_number(weights::set_probability(edge_num, p, column))

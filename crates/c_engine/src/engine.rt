@@ -3,10 +3,10 @@ ghost use Rattle.c_engine.specs.Reports.{ReportsEngine};
 ghost use Rattle.edge_modifier.specs.Open.{OpenStep, graphColumns};
 ghost use Rattle.edge_modifier.specs.Records.{engine, kept, counts};
 ghost use Rattle.edge_modifier.specs.Step.{Step, loadErasures, loadWeights, reset};
-use columns::Weight;
-use edge_modifier::EngineCounts;
 use super::reports::EngineReport;
 use super::reports::engine_report;
+use columns::Weight;
+use edge_modifier::EngineCounts;
 
 // Opens a graph: copies ends, weights and boundary bytes into the engine's own columns, with an empty log.
 #[no_mangle]
@@ -28,7 +28,18 @@ pub extern "C" fn moldingcress_open(
         r
         (graphColumns (now («ends_a» .exit)) (now («ends_b» .exit)) (now (weights .exit)) (now (boundary .exit)))) q ⌝ }
 {
-    engine_report(edge_modifier::open(vertices, edges, in_a, in_b, in_weights, in_boundary, ends_a, ends_b, weights, boundary))
+    engine_report(edge_modifier::open(
+        vertices,
+        edges,
+        in_a,
+        in_b,
+        in_weights,
+        in_boundary,
+        ends_a,
+        ends_b,
+        weights,
+        boundary,
+    ))
 }
 
 // Sets each named edge to weight 0, in list order. It needs an empty log, and keeps the earlier weights there.
@@ -50,7 +61,20 @@ pub extern "C" fn moldingcress_load_erasures(
         r
         (engine (kept (counts vertices edges entries) r) (now («ends_a» .entry)) (now («ends_b» .entry)) (now (weights .exit)) (now (boundary .entry)) (now («log_edges» .exit)) (now («log_weights» .exit)))) q ⌝ }
 {
-    engine_report(edge_modifier::load_erasures(EngineCounts { vertices, edges, entries }, ends_a, ends_b, weights, boundary, log_edges, log_weights, list))
+    engine_report(edge_modifier::load_erasures(
+        EngineCounts {
+            vertices,
+            edges,
+            entries,
+        },
+        ends_a,
+        ends_b,
+        weights,
+        boundary,
+        log_edges,
+        log_weights,
+        list,
+    ))
 }
 
 // Sets each named edge to the weight given for it, in list order. It needs an empty log, and keeps the earlier weights there.
@@ -73,7 +97,21 @@ pub extern "C" fn moldingcress_load_dynamic_weights(
         r
         (engine (kept (counts vertices edges entries) r) (now («ends_a» .entry)) (now («ends_b» .entry)) (now (weights .exit)) (now (boundary .entry)) (now («log_edges» .exit)) (now («log_weights» .exit)))) q ⌝ }
 {
-    engine_report(edge_modifier::load_dynamic_weights(EngineCounts { vertices, edges, entries }, ends_a, ends_b, weights, boundary, log_edges, log_weights, list, values))
+    engine_report(edge_modifier::load_dynamic_weights(
+        EngineCounts {
+            vertices,
+            edges,
+            entries,
+        },
+        ends_a,
+        ends_b,
+        weights,
+        boundary,
+        log_edges,
+        log_weights,
+        list,
+        values,
+    ))
 }
 
 // Undoes the log from its end.
@@ -94,5 +132,17 @@ pub extern "C" fn moldingcress_reset(
         r
         (engine (kept (counts vertices edges entries) r) (now («ends_a» .entry)) (now («ends_b» .entry)) (now (weights .exit)) (now (boundary .entry)) (now («log_edges» .entry)) (now («log_weights» .entry)))) q ⌝ }
 {
-    engine_report(edge_modifier::reset(EngineCounts { vertices, edges, entries }, ends_a, ends_b, weights, boundary, log_edges, log_weights))
+    engine_report(edge_modifier::reset(
+        EngineCounts {
+            vertices,
+            edges,
+            entries,
+        },
+        ends_a,
+        ends_b,
+        weights,
+        boundary,
+        log_edges,
+        log_weights,
+    ))
 }

@@ -4,11 +4,11 @@ ghost use Rattle.complete_graph.specs.Queries.{scratchLong};
 ghost use Rattle.complete_graph.specs.Steps.{TableStep, ScratchKept, scratchOf};
 ghost use Rattle.edge_modifier.specs.Records.{engine, counts};
 ghost use lib.ListN.{length};
+use super::reports::end_of;
+use c_reports::done_number;
 use columns::VertexIndex;
 use columns::Weight;
 use edge_modifier::EngineCounts;
-use c_reports::done_number;
-use super::reports::end_of;
 
 // The least weight from the source and the previous vertex of every vertex, up to the named end: -1 and 0 where a vertex was not taken.
 // The columns from `numbers` on are scratch.
@@ -42,7 +42,30 @@ pub extern "C" fn moldingcress_all_edges_with_terminate(
         (scratchOf (now (numbers .entry)) (now («list_ends» .entry)) (now (status .entry)) (now (weight .entry)) (now (previous .entry)) (now (node .entry)) (now (leaf .entry)))
         (scratchOf (now (numbers .exit)) (now («list_ends» .exit)) (now (status .exit)) (now (weight .exit)) (now (previous .exit)) (now (node .exit)) (now (leaf .exit))))) q ⌝ }
 {
-    done_number(complete_graph::all_edges_with_terminate(EngineCounts { vertices, edges, entries }, ends_a, ends_b, weights, boundary, log_edges, log_weights, VertexIndex(source), end_of(has_end, end), out_weight, out_previous, numbers, list_ends, status, weight, previous, node, leaf))
+    done_number(complete_graph::all_edges_with_terminate(
+        EngineCounts {
+            vertices,
+            edges,
+            entries,
+        },
+        ends_a,
+        ends_b,
+        weights,
+        boundary,
+        log_edges,
+        log_weights,
+        VertexIndex(source),
+        end_of(has_end, end),
+        out_weight,
+        out_previous,
+        numbers,
+        list_ends,
+        status,
+        weight,
+        previous,
+        node,
+        leaf,
+    ))
 }
 
 // The table from the source with no end.
@@ -74,5 +97,27 @@ pub extern "C" fn moldingcress_all_edges(
         (scratchOf (now (numbers .entry)) (now («list_ends» .entry)) (now (status .entry)) (now (weight .entry)) (now (previous .entry)) (now (node .entry)) (now (leaf .entry)))
         (scratchOf (now (numbers .exit)) (now («list_ends» .exit)) (now (status .exit)) (now (weight .exit)) (now (previous .exit)) (now (node .exit)) (now (leaf .exit))))) q ⌝ }
 {
-    done_number(complete_graph::all_edges(EngineCounts { vertices, edges, entries }, ends_a, ends_b, weights, boundary, log_edges, log_weights, VertexIndex(source), out_weight, out_previous, numbers, list_ends, status, weight, previous, node, leaf))
+    done_number(complete_graph::all_edges(
+        EngineCounts {
+            vertices,
+            edges,
+            entries,
+        },
+        ends_a,
+        ends_b,
+        weights,
+        boundary,
+        log_edges,
+        log_weights,
+        VertexIndex(source),
+        out_weight,
+        out_previous,
+        numbers,
+        list_ends,
+        status,
+        weight,
+        previous,
+        node,
+        leaf,
+    ))
 }

@@ -1,7 +1,7 @@
 // Answers as structs of numbers, and enum arguments from numbers.
-use edge_modifier::EngineAnswer;
 use columns::VertexIndex;
 use complete_graph::End;
+use edge_modifier::EngineAnswer;
 use edge_modifier::EngineCounts;
 ghost use mathlib.Core.Path.{_≡_};
 ghost use Rattle.edge_modifier.specs.Records as engine;

@@ -4,11 +4,11 @@ ghost use Rattle.syndromes.specs.Errors.{GeneratedErrors, ClearedErrors};
 ghost use Rattle.syndromes.specs.Records.{codeGraph, syndromeColumns};
 ghost use Rattle.syndromes.specs.Sampling.{GeneratedRandomErrors};
 ghost use Rattle.syndromes.specs.Syndrome.{FoundSyndrome};
+use super::reports::found_report;
+use super::reports::syndrome_report;
 use c_reports::OneCount;
 use c_reports::TwoCounts;
 use c_reports::done_number;
-use super::reports::found_report;
-use super::reports::syndrome_report;
 
 // Two draws of the seeded generator for every edge: its erasure, then its error; standing defects are cleared first. Lists the defects and the erasures.
 #[no_mangle]
@@ -31,7 +31,20 @@ pub extern "C" fn moldingcress_generate_random_errors(
         r
         (syndromeColumns (now (defect .exit)) (now (erasure .exit)) (now («defect_list» .exit)) (now («erasure_list» .exit)))) q ⌝ }
 {
-    syndrome_report(syndromes::generate_random_errors(seed, vertex_num, edge_num, ends_a, ends_b, p, pe, boundary, defect, erasure, defect_list, erasure_list))
+    syndrome_report(syndromes::generate_random_errors(
+        seed,
+        vertex_num,
+        edge_num,
+        ends_a,
+        ends_b,
+        p,
+        pe,
+        boundary,
+        defect,
+        erasure,
+        defect_list,
+        erasure_list,
+    ))
 }
 
 // An error on each listed edge, over the standing defects; lists the defects and the erasures.
@@ -53,7 +66,18 @@ pub extern "C" fn moldingcress_generate_errors(
         r
         (syndromeColumns (now (defect .exit)) (now (erasure .entry)) (now («defect_list» .exit)) (now («erasure_list» .exit)))) q ⌝ }
 {
-    syndrome_report(syndromes::generate_errors(vertex_num, edge_num, ends_a, ends_b, boundary, list, defect, erasure, defect_list, erasure_list))
+    syndrome_report(syndromes::generate_errors(
+        vertex_num,
+        edge_num,
+        ends_a,
+        ends_b,
+        boundary,
+        list,
+        defect,
+        erasure,
+        defect_list,
+        erasure_list,
+    ))
 }
 
 // Clears every defect, and sets every erasure byte to 1.
@@ -82,5 +106,13 @@ pub extern "C" fn moldingcress_syndrome_of(
 ) -> OneCount
     ensures { λ q. ⌜ Reported ReportsFound (λ r. FoundSyndrome (codeGraph «vertex_num» «edge_num» (now («ends_a» .entry)) (now («ends_b» .entry)) (now (boundary .entry))) (now (list .entry)) (now («defect_list» .entry)) r (now («defect_list» .exit))) q ⌝ }
 {
-    found_report(syndromes::syndrome_of(vertex_num, edge_num, ends_a, ends_b, boundary, list, defect_list))
+    found_report(syndromes::syndrome_of(
+        vertex_num,
+        edge_num,
+        ends_a,
+        ends_b,
+        boundary,
+        list,
+        defect_list,
+    ))
 }

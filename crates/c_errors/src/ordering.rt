@@ -3,15 +3,12 @@ ghost use Rattle.c_errors.specs.Reports.{ReportsTranslated};
 ghost use Rattle.reorder.specs.Columns.{codeColumns, ReorderedVertices};
 ghost use Rattle.reorder.specs.Numbers.{BuiltOldToNew, TranslatedDefects};
 use super::reports::LongCount;
-use c_reports::done_number;
 use super::reports::translated_report;
+use c_reports::done_number;
 
 // Stores the new number of each old vertex.
 #[no_mangle]
-pub extern "C" fn moldingcress_build_old_to_new(
-    order: &[u32],
-    column: &mut [u32],
-) -> u32
+pub extern "C" fn moldingcress_build_old_to_new(order: &[u32], column: &mut [u32]) -> u32
     ensures { λ q. ⌜ Reported ReportsDone (λ r. BuiltOldToNew (now (order .entry)) (now (column .entry)) r (now (column .exit))) q ⌝ }
 {
     done_number(reorder::build_old_to_new(order, column))
@@ -51,5 +48,19 @@ pub extern "C" fn moldingcress_reorder_vertices(
         r
         (codeColumns (now («ends_a» .exit)) (now («ends_b» .exit)) (now (boundary .exit)) (now (defect .exit)) (now (is .exit)) (now (js .exit)) (now (ts .exit)) (now (lengths .exit)) (now (numbers .exit)) (now (scratch .exit)))) q ⌝ }
 {
-    done_number(reorder::reorder_vertices(vertex_num, edge_num, order, ends_a, ends_b, boundary, defect, is, js, ts, lengths, numbers, scratch))
+    done_number(reorder::reorder_vertices(
+        vertex_num,
+        edge_num,
+        order,
+        ends_a,
+        ends_b,
+        boundary,
+        defect,
+        is,
+        js,
+        ts,
+        lengths,
+        numbers,
+        scratch,
+    ))
 }

@@ -1,9 +1,9 @@
 // Answers as structs of numbers.
-use syndromes::SyndromeAnswer;
-use syndromes::ListAnswer;
-use reorder::TranslatedAnswer;
 use c_reports::OneCount;
 use c_reports::TwoCounts;
+use reorder::TranslatedAnswer;
+use syndromes::ListAnswer;
+use syndromes::SyndromeAnswer;
 ghost use mathlib.Core.Path.{_≡_};
 ghost use Rattle.syndromes.specs.Answers as syndromes;
 ghost use Rattle.reorder.specs.Numbers as translated;

@@ -1159,7 +1159,7 @@ fn replay_engine(inputs: &mut Inputs) -> (String, String) {
 fn replay_codes(inputs: &mut Inputs) -> (String, String) {
     let (mut input, mut output) = (String::new(), String::new());
     let mut cases = 0;
-    let all = [(1, 3, 0), (1, 7, 0), (1, 61, 0), (5, 3, 0), (5, 5, 0), (5, 7, 0), (2, 3, 0), (2, 5, 0), (2, 7, 0), (6, 3, 1), (6, 3, 5), (3, 3, 1), (3, 3, 4), (4, 3, 1), (4, 3, 3)];
+    let all = [(1, 3, 0), (1, 7, 0), (1, 61, 0), (5, 3, 0), (5, 5, 0), (5, 7, 0), (2, 3, 0), (2, 5, 0), (2, 7, 0), (6, 3, 1), (6, 3, 2), (1, 23, 0), (3, 3, 1), (3, 3, 4), (4, 3, 1), (4, 3, 3)];
     for round in 0..10 {
         for &(kind, d, rounds) in &all {
             let (vertices, edges) = rust_code(kind, d, rounds);
@@ -1169,29 +1169,36 @@ fn replay_codes(inputs: &mut Inputs) -> (String, String) {
             let (p, pe) = (inputs.below(5), inputs.below(5));
             let table = [0., 0.5, 0.1, 0.25, 0.01];
             let list = inputs.list(4, e);
-            let order = inputs.order(v);
             cases += 1;
             input += &line([kind as u64, d as u64, rounds as u64, seed, p as u64, pe as u64]);
             input += &line(&list);
-            input += &line([v]);
+            let order = inputs.order(24);
             input += &line(&order);
+            let fresh = code.clone();
             code.set_probability(table[p]);
             code.set_erasure_probability(table[pe]);
-            output += &format!("{v} {e} \n0 \n0 \n");
+            output += &format!("{v} {e} \n");
             let sampled = code.generate_random_errors(seed);
             output += &(line(&sampled.defect_vertices) + &line(&sampled.erasures));
+            // errors where every vertex is a defect
+            let mut code = fresh.clone();
+            code.set_defect_vertices(&(0..v).map(|k| k as VertexIndex).collect::<Vec<_>>());
             let flipped = code.generate_errors(&wide(&list));
             output += &(line(&flipped.defect_vertices) + &line(&flipped.erasures));
             output += &line(code.get_initializer().syndrome_of(&wide(&list)));
-            let boundary: Vec<u8> = order.iter().map(|&k| boundary_byte(kind, d, k)).collect();
-            code.reorder_vertices(&wide(&order));
-            output += "0 \n";
+            // document 01: an order of another length is refused, where the Rust panics
+            let mut code = fresh;
+            let mut boundary: Vec<u8> = (0..v).map(|k| boundary_byte(kind, d, k as u32)).collect();
+            if v == 24 {
+                code.reorder_vertices(&wide(&order));
+                boundary = order.iter().map(|&k| boundary[k as usize]).collect();
+            }
+            output += if v == 24 { "0 \n" } else { "11 \n" };
             output += &line(code.edges.iter().map(|x| x.vertices.0));
             output += &line(code.edges.iter().map(|x| x.vertices.1));
             // left and right are document 01's; virtual or not is the Rust's
             assert!((0..v).all(|k| (boundary[k] != 0) == code.vertices[k].is_virtual));
             output += &line(&boundary);
-            output += &line(code.vertices.iter().map(|x| u8::from(x.is_defect)));
             output += &line(code.vertices.iter().map(|x| x.neighbor_edges.len()));
             output += &line(code.vertices.iter().flat_map(|x| x.neighbor_edges.clone()));
         }

@@ -38,7 +38,7 @@ fn is_digit(b: u8) -> bool {
 
 // A number with one more digit, modulo 2 to the power 64.
 fn appended(n: u64, b: u8) -> u64 {
-    std::num::wrapping_add_u64((n % 1844674407370955161) * 10, (b as u64) % 16)
+    std::num::wrapping_add_u64((n % 1844674407370955162) * 10, (b as u64) % 16)
 }
 
 // How many numbers have ended, the number that is read, and whether one is.

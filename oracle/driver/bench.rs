@@ -43,7 +43,13 @@ fn row(what: &str, ours: f64, other: f64, asked: &str, met: bool) {
         us(other),
         ours / other,
         other / ours,
-        if met { "yes" } else { "NO" }
+        if asked.is_empty() {
+            ""
+        } else if met {
+            "yes"
+        } else {
+            "NO"
+        }
     );
 }
 
@@ -261,7 +267,6 @@ fn main() {
         },
     );
     row("`all_edges`, Rust", ours, theirs, "at least 4 times as fast", theirs >= 4. * ours);
-    let all_edges_rust = theirs;
     let csr = plain::Csr::new(v, &graph.a, &graph.b);
     let mut search = plain::IndexedHeap::new(v);
     let (mut weight, mut previous) = (vec![0i32; v], vec![0u32; v]);
@@ -289,12 +294,15 @@ fn main() {
     #[cfg(feature = "crossing")]
     {
         let lefts: Vec<u32> = (0..v as u32).filter(|&k| graph.boundary[k as usize] == 1).collect();
-        // the Rust's tables from each left vertex, one pass
-        let started = Instant::now();
-        for &left in &lefts {
-            black_box(rust.all_edges(left as VertexIndex));
+        // the Rust's tables from each left vertex
+        let mut pass = f64::MAX;
+        for _ in 0..times(10) {
+            let started = Instant::now();
+            for &left in &lefts {
+                black_box(rust.all_edges(left as VertexIndex));
+            }
+            pass = pass.min(started.elapsed().as_secs_f64());
         }
-        let pass = started.elapsed().as_secs_f64();
         let mut least = vec![0i32; v];
         let mut across = None;
         let (ours, theirs) = two(
@@ -304,13 +312,10 @@ fn main() {
             },
             || across = plain::crossing(v, &graph.a, &graph.b, &graph.weights, &graph.boundary, &mut least),
         );
-        row(&format!("`crossing`, Rust's `all_edges` from each of {} left vertices, one pass", lefts.len()), ours, pass, "at least 1,000 times as fast", pass >= 1000. * ours);
-        let sum = all_edges_rust * lefts.len() as f64;
-        row(&format!("`crossing`, {} times the least time of the Rust's `all_edges`", lefts.len()), ours, sum, "at least 1,000 times as fast", sum >= 1000. * ours);
+        row(&format!("`crossing`, Rust's `all_edges` from each of {} left vertices", lefts.len()), ours, pass, "at least 1,000 times as fast", pass >= 1000. * ours);
         row("`crossing`, plain CSR and binary heap, lists built", ours, theirs, "at most 2.5", ours <= 2.5 * theirs);
         assert!(Some(engine_2.crossing().count) == across && engine_2.out_weight == least);
     }
-    let _ = all_edges_rust;
 }
 
 /// seeds for the Rust's sampling, as many as ours

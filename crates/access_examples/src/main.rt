@@ -41,9 +41,9 @@ fn show_verdict(v: Verdict) {
     match v {
         Verdict::Sound => write_number(0),
         Verdict::Empty => write_number(1),
-        Verdict::DuplicateEdge(earlier, later) => write_three(2, earlier, later),
-        Verdict::NoEdges(vertex) => write_two(3, vertex),
-        Verdict::EdgeTwice(edge, vertex) => write_three(4, edge, vertex),
+        Verdict::DuplicateEdge(earlier, later) => write_three(2, earlier.0, later.0),
+        Verdict::NoEdges(vertex) => write_two(3, vertex.0),
+        Verdict::EdgeTwice(edge, vertex) => write_three(4, edge.0, vertex.0),
         Verdict::Refused(number) => write_refusal(number),
     }
     end_line();

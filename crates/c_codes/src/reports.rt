@@ -162,9 +162,9 @@ fn verdict_first(answer: Verdict) -> u32
     match answer {
         Verdict::Sound => 0,
         Verdict::Empty => 0,
-        Verdict::DuplicateEdge(earlier, later) => earlier,
-        Verdict::NoEdges(vertex) => vertex,
-        Verdict::EdgeTwice(edge, vertex) => edge,
+        Verdict::DuplicateEdge(earlier, later) => earlier.0,
+        Verdict::NoEdges(vertex) => vertex.0,
+        Verdict::EdgeTwice(edge, vertex) => edge.0,
         Verdict::Refused(number) => 0,
     }
 }
@@ -175,9 +175,9 @@ fn verdict_second(answer: Verdict) -> u32
     match answer {
         Verdict::Sound => 0,
         Verdict::Empty => 0,
-        Verdict::DuplicateEdge(earlier, later) => later,
+        Verdict::DuplicateEdge(earlier, later) => later.0,
         Verdict::NoEdges(vertex) => 0,
-        Verdict::EdgeTwice(edge, vertex) => vertex,
+        Verdict::EdgeTwice(edge, vertex) => vertex.0,
         Verdict::Refused(number) => 0,
     }
 }

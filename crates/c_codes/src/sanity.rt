@@ -1,7 +1,6 @@
 ghost use Rattle.c_reports.specs.Reports.{Reported};
 ghost use Rattle.c_codes.specs.Reports.{ReportsVerdict};
-ghost use Rattle.vertices.specs.Sanity.{sanityAnswer};
-ghost use mathlib.Core.Path.{_≡_};
+ghost use Rattle.vertices.specs.Sanity.{SanityChecked};
 use super::reports::VerdictReport;
 use super::reports::verdict_report;
 
@@ -15,7 +14,7 @@ pub extern "C" fn moldingcress_sanity_check(
     list_lengths: &[u32],
     neighbor_numbers: &[u32],
 ) -> VerdictReport
-    ensures { λ q. ⌜ Reported ReportsVerdict (λ r. r ≡ sanityAnswer «vertex_num» «edge_num» (now («ends_a» .entry)) (now («ends_b» .entry)) (now («list_lengths» .entry)) (now («neighbor_numbers» .entry))) q ⌝ }
+    ensures { λ q. ⌜ Reported ReportsVerdict (λ r. SanityChecked «vertex_num» «edge_num» (now («ends_a» .entry)) (now («ends_b» .entry)) (now («list_lengths» .entry)) (now («neighbor_numbers» .entry)) r) q ⌝ }
 {
     verdict_report(vertices::sanity::sanity_check(
         vertex_num,

@@ -136,7 +136,7 @@ module _ (kind d rounds : ℕ) (ok : Accepted kind d rounds) where
     ]
   ]
 
-  vertex-touched : (v : ℕ) → v < vertexNum kind d rounds → Touches v (edgesOf kind d rounds)
+  pub vertex-touched : (v : ℕ) → v < vertexNum kind d rounds → Touches v (edgesOf kind d rounds)
   unfolding edgesOf
   vertex-touched v h =
       let s : ℕ = layerSize kind d in

@@ -1,5 +1,5 @@
 -- What the calls answer that count the vertices or edges of a code.
-use Prim.Native.Nat.{ℕ, zero, suc}
+use Prim.Native.Nat.{ℕ, zero, suc, min, max}
 use Rattle.code_questions.specs.declared.Count.{Count}
 use Rattle.code_questions.specs.declared.Count.the-variants.{Counted, Refused}
 use Rattle.layers.specs.Counts.{vertexNum, edgeNum}
@@ -25,3 +25,10 @@ vertexNumAnswer kind d rounds = counted (codeRefusal kind d rounds 0) (vertexNum
 
 abbrev pub edgeNumAnswer : (kind d rounds : ℕ) → Count
 edgeNumAnswer kind d rounds = counted (codeRefusal kind d rounds 0) (edgeNum kind d rounds)
+
+-- the number of 3 to 4,095 nearest to d, and the number of 0 to 4,095 nearest to the rounds
+abbrev pub distanceWithin : ℕ → ℕ
+distanceWithin d = max 3 (min d 4095)
+
+abbrev pub roundsWithin : ℕ → ℕ
+roundsWithin rounds = min rounds 4095

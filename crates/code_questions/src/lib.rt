@@ -2,7 +2,7 @@
 ghost use mathlib.Core.Path.{_≡_};
 ghost use Prim.Native.Nat.{_≤_, _<_};
 ghost use Rattle.layers.specs.Accepts.{kindKnown, distanceSound, roundsSound, codeRefusal};
-ghost use Rattle.code_questions.specs.Answers.{vertexNumAnswer, edgeNumAnswer};
+ghost use Rattle.code_questions.specs.Answers.{vertexNumAnswer, edgeNumAnswer, distanceWithin, roundsWithin};
 use columns::VERTEX_LIMIT;
 use columns::questions::asked;
 use columns::questions::both;
@@ -46,9 +46,9 @@ fn rounds_sound(kind: u32, rounds: u32) -> bool
     kind == 6
 }
 
-// A distance within the limits, the one given where it is.
+// The distance within the limits that is nearest to the one given.
 pub fn distance_within(d: u32) -> u32
-    ensures { λ r. ⌜ (3 ≤ r) × (r ≤ 4095) × (3 ≤ d → d ≤ 4095 → r ≡ d) ⌝ }
+    ensures { λ r. ⌜ (3 ≤ r) × (r ≤ 4095) × (3 ≤ d → d ≤ 4095 → r ≡ d) × (r ≡ distanceWithin d) ⌝ }
 {
     if d < 3 {
         return 3;
@@ -59,9 +59,9 @@ pub fn distance_within(d: u32) -> u32
     d
 }
 
-// Rounds within the limits, those given where they are.
+// The rounds within the limits that are nearest to those given.
 pub fn rounds_within(rounds: u32) -> u32
-    ensures { λ r. ⌜ (r ≤ 4095) × (rounds ≤ 4095 → r ≡ rounds) ⌝ }
+    ensures { λ r. ⌜ (r ≤ 4095) × (rounds ≤ 4095 → r ≡ rounds) × (r ≡ roundsWithin rounds) ⌝ }
 {
     if rounds <= 4095 {
         return rounds;

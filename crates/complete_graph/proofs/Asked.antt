@@ -54,15 +54,16 @@ scratch-of v e numbers ends status weight previous node leaf h =
     }
 
 -- 6, 7 and 13 of any query
-pub record QueryAsked (e : Engine) (fits inRange : Bool) : Type 0 where
+pub record QueryAsked (e : Engine) (fits inRange : Bool) (next : ℕ) : Type 0 where
   pub long : Long 0 e
   pub fits-are : fits ≡ true
   pub sound : Sound e
   pub in-range : inRange ≡ true
+  pub last : next ≡ 0
 
-pub query-of : (e : Engine) (fits inRange : Bool) → queryDoor e fits inRange ≡ 0 → QueryAsked e fits inRange
-query-of e fits inRange z =
-    let q3 = ask inRange 13 0 in
+pub query-of : (e : Engine) (fits inRange : Bool) (next : ℕ) → queryDoor e fits inRange next ≡ 0 → QueryAsked e fits inRange next
+query-of e fits inRange next z =
+    let q3 = ask inRange 13 next in
     let q2 = ask (sound e) 7 q3 in
     let (p, q) = and-both (longEnough 0 e) fits (met-of (longEnough 0 e && fits) 6 q2 (omega arith) z) in
     let z2 = next-of (longEnough 0 e && fits) 6 q2 (omega arith) z in
@@ -71,7 +72,8 @@ query-of e fits inRange z =
       long = long-of 0 e p;
       fits-are = q;
       sound = sound-of e (met-of (sound e) 7 q3 (omega arith) z2);
-      in-range = met-of inRange 13 0 (omega arith) z3;
+      in-range = met-of inRange 13 next (omega arith) z3;
+      last = next-of inRange 13 next (omega arith) z3;
     }
 
 pub record TableAsked (e : Engine) (scratch : Bool) (source : ℕ) (end : End) (weights previous : ℕ) : Type 0 where
@@ -87,7 +89,7 @@ module _ (e : Engine) (scratch : Bool) (source : ℕ) (end : End) (weights previ
   pub table-of : tableDoor e scratch source end weights previous ≡ 0 → TableAsked e scratch source end weights previous
   table-of z =
       let v = e .counts .vertices in
-      let q = query-of e _ _ z in
+      let q = query-of e _ _ _ z in
       let (w, f) = and-both (leb v weights) _ (q .fits-are) in
       let (p, s) = and-both (leb v previous) scratch f in
       let (a, b) = and-both (ltb source v) _ (q .in-range) in
@@ -102,11 +104,11 @@ module _ (e : Engine) (scratch : Bool) (source : ℕ) (end : End) (weights previ
       }
 
   -- the number, from the tests as the code makes them
-  pub table-number : {no : ℕ} {fits inner a b sc inr er : Bool} → no ≡ queryDoor e fits inr → fits ≡ (a && inner) → inner ≡ (b && sc)
+  pub table-number : {no : ℕ} {fits inner a b sc inr er : Bool} → no ≡ queryDoor e fits inr 0 → fits ≡ (a && inner) → inner ≡ (b && sc)
       → a ≡ leb (e .counts .vertices) weights → b ≡ leb (e .counts .vertices) previous → sc ≡ scratch → inr ≡ (ltb source (e .counts .vertices) && er)
       → er ≡ endInRange end (e .counts .vertices) → no ≡ tableDoor e scratch source end weights previous
   table-number p q r s t u v w =
-      p ∙ (λ i. queryDoor e ((q ∙ (λ j. s j && (r ∙ (λ k. t k && u k)) j)) i) ((v ∙ (λ j. ltb source (e .counts .vertices) && w j)) i))
+      p ∙ (λ i. queryDoor e ((q ∙ (λ j. s j && (r ∙ (λ k. t k && u k)) j)) i) ((v ∙ (λ j. ltb source (e .counts .vertices) && w j)) i) 0)
 
 -- columns cut to their counts
 cut-graph : (v e : ℕ) (a b : List ℕ) → GraphSound v e a b → GraphSound v e (take e a) (take e b)

@@ -9,11 +9,12 @@ use lib.ListN.{length, getD, set, take, drop, length-append}
 use lib.Seq.{sets, drop-cons, take-suc, set-comm}
 use lib.Dec.{eqb}
 use Rattle.columns.specs.declared.VertexIndex.{VertexIndex}
-use Rattle.walks.specs.Settling.{State, statusAt, previousAt}
-use Rattle.walks.specs.Answers.{entry, behind, readBack, taken, stepInto}
+use Rattle.walks.specs.Graph.{Graph}
+use Rattle.walks.specs.Settling.{State, statusAt, previousAt, settled}
+use Rattle.walks.specs.Answers.{entry, behind, readBack, taken, stepInto, only, path, pathIn}
 use Rattle.complete_graph.specs.declared.path.TableEntry.{TableEntry}
 use Rattle.complete_graph.specs.declared.path.TableEntry.the-variants.{Previous, None}
-use Rattle.complete_graph.specs.Path.{entryOf, stepBack, Written}
+use Rattle.complete_graph.specs.Path.{entryOf, stepBack, Written, pathOf}
 
 -- an entry says which step there was
 pub entry-none : (o : Option ℕ) → entryOf o ≡ None → o ≡ none
@@ -42,6 +43,15 @@ module _ (s : State) (a : ℕ) where
   pub back-zero : (v : ℕ) → readBack s a 0 v ≡ []
   unfolding readBack
   back-zero v = refl
+
+  -- a path read back in at most n steps has at most n vertices
+  pub read-short : (n v : ℕ) → length (readBack s a n v) ≤ n
+  read-short zero v = omega (arith, ap length (back-zero v))
+  read-short (suc n) v = by (read-short n) (stepBack s a v) refl
+    where
+      by : ((p : ℕ) → length (readBack s a n p) ≤ n) → (o : Option ℕ) → stepBack s a v ≡ o → length (readBack s a (suc n) v) ≤ suc n
+      by less none e = omega (arith, ap length (back-none n v e))
+      by less (some p) e = omega (arith, ap length (back-some n v p e), length-append (readBack s a n p) (v ∷ []), less p)
 
   -- one step more of the count
   pub count-more : (n j v p : ℕ) → j < n → stepBack s a v ≡ some p → length (readBack s a (n - j) v) ≡ length (readBack s a (n - (j + 1)) p) + 1
@@ -127,3 +137,8 @@ module _ (s : State) (a n b : ℕ) (vertices₀ steps₀ : List ℕ) where
 
   pub written-steps : (v : ℕ) (vertices steps : List ℕ) → Written s a n b 0 v vertices₀ vertices steps₀ steps → steps ≡ sets steps₀ 0 (map (stepInto s) (readBack s a n b))
   written-steps v vertices steps w = w .in-steps ∙ ap (λ (r : List ℕ). sets steps₀ 0 (map (stepInto s) r)) (all-read v vertices steps w)
+
+-- the path in a state that is the settled one
+pub path-of : (g : Graph) (w : ℕ → ℕ) (a b : ℕ) (s : State) → s ≡ settled g w (only a) (some b) → pathOf s (g .vertices) a b ≡ path g w a b
+unfolding path pathIn
+path-of g w a b s e = ap (λ t. pathOf t (g .vertices) a b) e

@@ -8,8 +8,8 @@ use lib.ListN.{length}
 use lib.Seq.{sets}
 use lib.Dec.{eqb}
 use Rattle.columns.specs.declared.VertexIndex.{VertexIndex}
-use Rattle.walks.specs.Settling.{State}
-use Rattle.walks.specs.Answers.{entry, readBack, stepInto}
+use Rattle.walks.specs.Settling.{State, weightAt}
+use Rattle.walks.specs.Answers.{entry, readBack, stepInto, taken, FoundPath}
 use Rattle.complete_graph.specs.declared.path.TableEntry.{TableEntry}
 use Rattle.complete_graph.specs.declared.path.TableEntry.the-variants.{Previous, None}
 
@@ -30,3 +30,8 @@ pub record Written (s : State) (a n b i v : ℕ) (vertices₀ vertices steps₀ 
   pub count : length (readBack s a room v) ≡ i
   pub in-vertices : vertices ≡ sets vertices₀ i rest
   pub in-steps : steps ≡ sets steps₀ i (map (stepInto s) rest)
+
+-- the path of a to b in s, of n vertices, or none where b was not taken
+abbrev pub pathOf : State → (n a b : ℕ) → Option FoundPath
+pathOf s n a b =
+    cond (taken s b) (some (record { vertices = readBack s a n b; steps = map (stepInto s) (readBack s a n b); total = weightAt s b })) none

@@ -39,6 +39,6 @@ unfoldable pub scratchLong : (v e numbers ends status weight previous node leaf 
 scratchLong v e numbers ends status weight previous node leaf =
     leb (2 * e) numbers && (leb v ends && (leb v status && (leb v weight && (leb v previous && (leb v node && leb v leaf)))))
 
--- 6, 7 and 13 of a query: `fits` says whether output and scratch columns are long enough, `inRange` whether the numbers handed over are
-abbrev pub queryDoor : Engine → (fits inRange : Bool) → ℕ
-queryDoor e fits inRange = ask (longEnough 0 e && fits) 6 (ask (sound e) 7 (ask inRange 13 0))
+-- 6, 7 and 13 of a query, then its later questions: `fits` says whether output and scratch columns are long enough, `inRange` whether the numbers handed over are
+abbrev pub queryDoor : Engine → (fits inRange : Bool) (next : ℕ) → ℕ
+queryDoor e fits inRange next = ask (longEnough 0 e && fits) 6 (ask (sound e) 7 (ask inRange 13 next))

@@ -18,7 +18,7 @@ use Rattle.complete_graph.specs.Queries.{graphIn, weightsIn, endIn, endI
 -- the number of the first question of a table query that is not met, or 0; `scratch` says whether scratch is long enough
 abbrev pub tableDoor : Engine → (scratch : Bool) (source : ℕ) → End → (weights previous : ℕ) → ℕ
 tableDoor e scratch source end weights previous =
-    queryDoor e (leb (e .counts .vertices) weights && (leb (e .counts .vertices) previous && scratch)) (ltb source (e .counts .vertices) && endInRange end (e .counts .vertices))
+    queryDoor e (leb (e .counts .vertices) weights && (leb (e .counts .vertices) previous && scratch)) (ltb source (e .counts .vertices) && endInRange end (e .counts .vertices)) 0
 
 -- the answer, and both columns of the table
 pub record TableStep (e : Engine) (scratch : Bool) (source : ℕ) (end : End) (r : Done) (weights₀ : List ℤ) (previous₀ : List ℕ) (weights : List ℤ) (previous : List ℕ) : Type 0 where

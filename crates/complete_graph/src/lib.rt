@@ -1,4 +1,5 @@
-// Queries of the engine graph: the table of least weights and previous vertices, the path between two vertices.
+// Queries of the engine graph: the table of least weights and previous vertices, the path between two vertices, the crossing weight.
+pub mod crossing;
 pub mod path;
 
 ghost use mathlib.Core.Path.{_≡_};
@@ -67,7 +68,7 @@ fn scratch_long(
     )
 }
 
-// Questions 6, 7 and 13 of a query.
+// Questions 6, 7 and 13 of a query, then `next`, the number of its later questions.
 fn query_door(
     c: EngineCounts,
     ends_a: &[u32],
@@ -78,8 +79,9 @@ fn query_door(
     log_weights: &[Weight],
     fits: bool,
     in_range: bool,
+    next: u32,
 ) -> u32
-    ensures { λ r. ⌜ r ≡ queryDoor (engine c (now («ends_a» .entry)) (now («ends_b» .entry)) (now (weights .entry)) (now (boundary .entry)) (now («log_edges» .entry)) (now («log_weights» .entry))) fits «in_range» ⌝ }
+    ensures { λ r. ⌜ r ≡ queryDoor (engine c (now («ends_a» .entry)) (now («ends_b» .entry)) (now (weights .entry)) (now (boundary .entry)) (now («log_edges» .entry)) (now («log_weights» .entry))) fits «in_range» next ⌝ }
 {
     let long = long_enough(
         c,
@@ -92,7 +94,11 @@ fn query_door(
         0,
     );
     let sound = engine_sound(c, ends_a, ends_b, weights, boundary, log_edges, log_weights);
-    asked(both(long, fits), 6, asked(sound, 7, asked(in_range, 13, 0)))
+    asked(
+        both(long, fits),
+        6,
+        asked(sound, 7, asked(in_range, 13, next)),
+    )
 }
 
 // Question 13, of the named end.
@@ -310,6 +316,7 @@ pub fn all_edges_with_terminate(
         log_weights,
         fits,
         in_range,
+        0,
     );
     if no == 0 {
         let stop = stop_of(end, source.0, c.vertices);

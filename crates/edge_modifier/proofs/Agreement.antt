@@ -40,7 +40,7 @@ pub record Agrees (t : Tally) (e : Engine) : Type 0 where
   pub long : Long 0 e
   pub sound : Sound e
 
-long-same : (n : ℕ) (e : Engine) (c : EngineCounts) → e .counts ≡ c → longEnough n e ≡ tallyLong n (lengthsOf e) c
+pub long-same : (n : ℕ) (e : Engine) (c : EngineCounts) → e .counts ≡ c → longEnough n e ≡ tallyLong n (lengthsOf e) c
 unfolding longEnough columnsLong
 long-same n e c h = rw h
 
@@ -156,7 +156,7 @@ accepted-agrees (loadWeights es xs) t e a z =
     (λ i h. within-at weightLimit xs (w .fit) i (rw (← w .many) h))
 accepted-agrees reset t e a z = reset-agrees t e a
 
-number-is : (n : ℕ) (c : EngineCounts) → numberOf (answered n c) ≡ n
+pub number-is : (n : ℕ) (c : EngineCounts) → numberOf (answered n c) ≡ n
 number-is n c = go (eqb n 0) refl
   where
     go : (b : Bool) → eqb n 0 ≡ b → numberOf (cond b (Counts c) (Refused n)) ≡ n

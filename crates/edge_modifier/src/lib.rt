@@ -7,6 +7,7 @@ ghost use Rattle.edge_modifier.specs.Load.{loaded, earlier, named, undon
 ghost use Rattle.edge_modifier.specs.Door.{columnsLong, longEnough, columnsSound, sound};
 ghost use Rattle.edge_modifier.specs.Step.{Step, door, loadErasures, loadWeights, reset};
 ghost use Rattle.edge_modifier.specs.Open.{OpenStep, openDoor, graphColumns};
+ghost use Rattle.edge_modifier.specs.Readers.{WeighsLastNamed};
 use columns::Weight;
 use columns::questions::asked;
 use columns::questions::at_most;
@@ -464,3 +465,8 @@ pub fn open(
     }
     EngineAnswer::Refused(no)
 }
+
+// After every list of calls the tally's weight of an edge is what an accepted load last named for it since the last accepted reset, else its opening weight.
+pub fn weighs_last_named()
+    ensures { λ _. ⌜ WeighsLastNamed ⌝ }
+{}

@@ -84,11 +84,11 @@ module _ (a b a′ b′ : List ℕ) (e : ℕ) (p : (k : ℕ) → k < e → getD 
   unfolding neighbours
   neighbours-same v = joined-same e _ _ (λ k l. λ i. hits v (p k l i) k ++ hits v (q k l i) k)
 
-  degrees-same : (n : ℕ) → degrees a b e n ≡ degrees a′ b′ e n
+  pub degrees-same : (n : ℕ) → degrees a b e n ≡ degrees a′ b′ e n
   unfolding degrees
   degrees-same n = each-same n _ _ (λ v l. ap length (neighbours-same v))
 
-  lists-same : (n : ℕ) → lists a b e n ≡ lists a′ b′ e n
+  pub lists-same : (n : ℕ) → lists a b e n ≡ lists a′ b′ e n
   unfolding lists
   lists-same n = joined-same n _ _ (λ v l. neighbours-same v)
 

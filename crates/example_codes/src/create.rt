@@ -19,7 +19,7 @@ use columns::stores::fill_u8;
 use columns::stores::fill_u32;
 
 // The least of six lengths.
-fn shortest_of(a: usize, b: usize, c: usize, d: usize, e: usize, f: usize) -> usize
+pub fn shortest_of(a: usize, b: usize, c: usize, d: usize, e: usize, f: usize) -> usize
     ensures { λ r. ⌜ r ≡ shortest a b c d e f ⌝ }
 {
     lesser(a, lesser(b, lesser(c, lesser(d, lesser(e, f)))))
@@ -41,7 +41,7 @@ fn long_enough(
 }
 
 // Questions 2 to 6.
-fn refusal_of(
+pub fn refusal_of(
     kind: u32,
     d: u32,
     rounds: u32,

@@ -16,8 +16,8 @@ use Rattle.neighbors.specs.Sound.{samePair}
 use Rattle.neighbors.specs.Steps.{lowAt, highAt, Last}
 use Rattle.neighbors.proofs.Chains.{fresh-not, fresh-all, le-or-lt}
 use Rattle.vertices.specs.declared.Verdict.{Verdict}
-use Rattle.vertices.specs.declared.Verdict.the-variants.{Sound, DuplicateEdge}
-use Rattle.vertices.specs.Sanity.{firstOf, foundIf, duplicate}
+use Rattle.vertices.specs.declared.Verdict.the-variants.{Sound}
+use Rattle.vertices.specs.Sanity.{verdictOf, firstOf, foundIf, duplicate}
 use Rattle.vertices.specs.Steps.{isSound, FirstSame}
 use Rattle.vertices.proofs.Scans.{first-next, first-stop, first-all, found-true, found-false}
 
@@ -37,20 +37,20 @@ module _ {a b : List ℕ} {i r : ℕ} (s : FirstSame a b i r) where
 
   none-same : (r < i → ⊥) → duplicate a b i ≡ Sound
   unfolding duplicate
-  none-same f = first-all _ i (λ m h. found-false (samePair a b m i) (DuplicateEdge m i) (before m (omega (arith, s .within))))
+  none-same f = first-all _ i (λ m h. found-false (samePair a b m i) (verdictOf 2 m i) (before m (omega (arith, s .within))))
 
-  some-same : r < i → duplicate a b i ≡ DuplicateEdge r i
+  some-same : r < i → duplicate a b i ≡ verdictOf 2 r i
   unfolding duplicate
   some-same h =
-      let f : ℕ → Verdict = λ j. foundIf (samePair a b j i) (DuplicateEdge j i) in
-      let it : f r ≡ DuplicateEdge r i = found-true (samePair a b r i) (DuplicateEdge r i) (here h) in
-      first-stop f i r h (first-all f r (λ m l. found-false (samePair a b m i) (DuplicateEdge m i) (before m l))) (ap isSound it) ∙ it
+      let f : ℕ → Verdict = λ j. foundIf (samePair a b j i) (verdictOf 2 j i) in
+      let it : f r ≡ verdictOf 2 r i = found-true (samePair a b r i) (verdictOf 2 r i) (here h) in
+      first-stop f i r h (first-all f r (λ m l. found-false (samePair a b m i) (verdictOf 2 m i) (before m l))) (ap isSound it) ∙ it
 
   -- the loop over the edges: a turn, and the edge that ends it
   pub scan-more : firstOf i (duplicate a b) ≡ Sound → (r < i → ⊥) → firstOf (i + 1) (duplicate a b) ≡ Sound
   scan-more p f = first-next (duplicate a b) i p (none-same f)
 
-  pub scan-stop : (n : ℕ) → i < n → firstOf i (duplicate a b) ≡ Sound → r < i → DuplicateEdge r i ≡ firstOf n (duplicate a b)
+  pub scan-stop : (n : ℕ) → i < n → firstOf i (duplicate a b) ≡ Sound → r < i → verdictOf 2 r i ≡ firstOf n (duplicate a b)
   scan-stop n h p l = sym (first-stop (duplicate a b) n i h p (ap isSound (some-same l)) ∙ some-same l)
 
 -- ---- walking a chain, later edges first: of the edges at or past k that share the smaller end of edge i, `first` is the first that joins its pair

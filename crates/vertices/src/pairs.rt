@@ -8,6 +8,7 @@ ghost use Rattle.vertices.specs.Sanity.{firstOf, duplicate};
 ghost use Rattle.vertices.specs.Steps.{FirstSame};
 use super::Verdict;
 use columns::EDGE_LIMIT;
+use columns::EdgeIndex;
 use columns::VERTEX_LIMIT;
 use columns::questions::all_below;
 use columns::questions::both;
@@ -89,7 +90,7 @@ fn duplicates_in_chains(
         let h = head[v];
         let first = first_in_chain(a, b, i, next, h);
         if first < i {
-            return Verdict::DuplicateEdge(first as u32, i as u32);
+            return Verdict::DuplicateEdge(EdgeIndex(first as u32), EdgeIndex(i as u32));
         }
         next[i] = h;
         head[v] = (i + 1) as u32;
@@ -136,7 +137,7 @@ fn duplicates_one_by_one(a: &[u32], b: &[u32], n: usize) -> Verdict
     while i < n {
         let earlier = first_same(a, b, i);
         if earlier < i {
-            return Verdict::DuplicateEdge(earlier as u32, i as u32);
+            return Verdict::DuplicateEdge(EdgeIndex(earlier as u32), EdgeIndex(i as u32));
         }
         i += 1;
     }

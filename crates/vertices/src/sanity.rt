@@ -4,7 +4,7 @@ ghost use mathlib.Core.Bool.{Bool};
 ghost use Prim.Native.Nat.{ℕ, _+_, _≤_};
 ghost use lib.ListN.{length, take};
 ghost use lib.Dec.{leb};
-ghost use Rattle.vertices.specs.Sanity.{total, orElse, verdict, sanityLong, sanityAnswer};
+ghost use Rattle.vertices.specs.Sanity.{total, orElse, verdict, sanityLong, SanityChecked};
 use super::Verdict;
 use super::pairs::duplicates;
 use super::pairs::wide;
@@ -92,7 +92,7 @@ pub fn sanity_check(
     list_lengths: &[u32],
     neighbor_numbers: &[u32],
 ) -> Verdict
-    ensures { λ r. ⌜ r ≡ sanityAnswer «vertex_num» «edge_num» (now («ends_a» .entry)) (now («ends_b» .entry)) (now («list_lengths» .entry)) (now («neighbor_numbers» .entry)) ⌝ }
+    ensures { λ r. ⌜ SanityChecked «vertex_num» «edge_num» (now («ends_a» .entry)) (now («ends_b» .entry)) (now («list_lengths» .entry)) (now («neighbor_numbers» .entry)) r ⌝ }
 {
     if !sanity_long(
         vertex_num,

@@ -7,6 +7,8 @@ ghost use Rattle.vertices.specs.Sanity.{firstOf, twice, atVertex, listAt
 ghost use Rattle.vertices.specs.Steps.{isSound, Seen, Stamped, Below};
 use super::Verdict;
 use super::pairs::wide;
+use columns::EdgeIndex;
+use columns::VertexIndex;
 
 // Whether a verdict is no finding.
 pub fn is_sound(v: Verdict) -> bool
@@ -73,7 +75,7 @@ fn twice_in(numbers: &[u32], start: usize, len: usize, v: u32, mark: &mut [u32])
     while i < len {
         let x = numbers[start + i];
         if is_seen(numbers, start, i, x, mark, stamp) {
-            return Verdict::EdgeTwice(x, v);
+            return Verdict::EdgeTwice(EdgeIndex(x), VertexIndex(v));
         }
         stamp_next(numbers, start, i, x, mark, stamp);
         i += 1;
@@ -88,7 +90,7 @@ fn at_vertex(numbers: &[u32], start: usize, len: usize, v: u32, mark: &mut [u32]
     ensures { λ r. ⌜ (r ≡ atVertex (take len (drop start (now (numbers .entry)))) len v) × Below (v + 1) (now (mark .exit)) ⌝ }
 {
     if len == 0 {
-        return Verdict::NoEdges(v);
+        return Verdict::NoEdges(VertexIndex(v));
     }
     twice_in(numbers, start, len, v, mark)
 }

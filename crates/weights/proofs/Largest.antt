@@ -77,7 +77,7 @@ some-above ws = goes zeroFloat ws (inl refl) ∙ ap (λ (b : Bool). b || someAbo
 -- ---- it is the largest: no weight is above it, and it is 0 or one of the weights
 
 -- not negative, and no NaN
-abbrev unsigned : Float → Bool
+abbrev pub unsigned : Float → Bool
 unsigned nan = false
 unsigned (inf s) = not s
 unsigned (fin s m e) = not s
@@ -130,21 +130,21 @@ not-above-itself (fin true m e) = le-ltb (m * up e * down e) (m * up e * down e)
 not-above-itself (fin false m e) = le-ltb (m * up e * down e) (m * up e * down e) (le-refl _)
 
 module _ (m : Float) (t : T (unsigned m)) where
-  taken : (w : Float) → T (unsigned (larger m w))
+  pub taken : (w : Float) → T (unsigned (larger m w))
   taken w = go (lt m w) refl
     where
       go : (b : Bool) → lt m w ≡ b → T (unsigned (cond b w m))
       go true e = above-unsigned m w t e
       go false e = t
 
-  kept : (w v : Float) → lt m v ≡ false → lt (larger m w) v ≡ false
+  pub kept : (w v : Float) → lt m v ≡ false → lt (larger m w) v ≡ false
   kept w v f = go (lt m w) refl
     where
       go : (b : Bool) → lt m w ≡ b → lt (cond b w m) v ≡ false
       go true e = still m w v t e f
       go false e = f
 
-  at-least : (w : Float) → lt (larger m w) w ≡ false
+  pub at-least : (w : Float) → lt (larger m w) w ≡ false
   at-least w = go (lt m w) refl
     where
       go : (b : Bool) → lt m w ≡ b → lt (cond b w m) w ≡ false
@@ -187,7 +187,7 @@ pub record Largest (x : Float) (ws : List Float) : Type 0 where
   pub bound : (i : ℕ) → i < length ws → lt x (getD ws i zeroFloat) ≡ false
   pub among : (x ≡ zeroFloat) ⊎ At x ws
 
-zero-unsigned : T (unsigned zeroFloat)
+pub zero-unsigned : T (unsigned zeroFloat)
 unfolding ofBits
 zero-unsigned = tt
 

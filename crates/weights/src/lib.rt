@@ -1,8 +1,8 @@
 // Weights: document 01's section "Weights" with questions 6 to 10.
 pub mod diagonal;
-mod logarithm;
+pub mod logarithm;
 pub mod probabilities;
-mod rounding;
+pub mod rounding;
 
 use columns::Done;
 use columns::EDGE_LIMIT;
@@ -51,7 +51,7 @@ pub fn weight_of_p(p: f64) -> WeightOfP
 }
 
 // The larger of two weights.
-fn larger_weight(m: f64, w: f64) -> f64
+pub fn larger_weight(m: f64, w: f64) -> f64
     ensures { λ r. ⌜ r ≡ larger m w ⌝ }
 {
     if w > m { w } else { m }
@@ -72,14 +72,14 @@ fn largest_weight(p: &[f64], n: usize) -> f64
 }
 
 // Whether a weight is above 0.
-fn is_above_zero(w: f64) -> bool
+pub fn is_above_zero(w: f64) -> bool
     ensures { λ r. ⌜ r ≡ lt zeroFloat w ⌝ }
 {
     w > 0.0
 }
 
 // Question 8.
-fn is_largest_half_weight(max_half_weight: Weight) -> bool
+pub fn is_largest_half_weight(max_half_weight: Weight) -> bool
     ensures { λ r. ⌜ r ≡ isLargestHalfWeight «max_half_weight» ⌝ }
 {
     both(1 <= max_half_weight, max_half_weight <= HALF_WEIGHT_LIMIT)

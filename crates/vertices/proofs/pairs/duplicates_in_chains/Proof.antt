@@ -69,8 +69,8 @@ first-in-chain-requires c κs =
 cast-t16 : tie.Need-cast-t16 Inv-loop μ-loop
 cast-t16 c = search needs
 
-cast-t17 : tie.Need-cast-t17 Inv-loop μ-loop
-cast-t17 c = search needs
+cast-t18 : tie.Need-cast-t18 Inv-loop μ-loop
+cast-t18 c = search needs
 
 same-length : tie.Need-same-length Inv-loop μ-loop
 same-length c = c .before .before .before .before .before .before .before .loop .inv .1 ∙ sym (c .before .before .before .before .before .before .before .before .before .before .before .before .pre .0 .3)
@@ -147,7 +147,7 @@ duplicates-in-chains-spec =
     slice-read-h
     first-in-chain-requires
     cast-t16
-    cast-t17
+    cast-t18
     same-length
     same-length-2
     returns

@@ -25,8 +25,8 @@ first-same-requires c κs = search needs
 cast-t7 : tie.Need-cast-t7 Inv-loop μ-loop
 cast-t7 c = search needs
 
-cast-t8 : tie.Need-cast-t8 Inv-loop μ-loop
-cast-t8 c = search needs
+cast-t9 : tie.Need-cast-t9 Inv-loop μ-loop
+cast-t9 c = search needs
 
 returns : tie.Need-returns Inv-loop μ-loop
 returns c = scan-stop (c .before .first-same .ensures) (c .before .before .before .before .before .before .args .n) (omega arith) (c .before .before .before .loop .inv .1) (c .if1 .taken)
@@ -56,7 +56,7 @@ duplicates-one-by-one-spec =
     loop-holds
     first-same-requires
     cast-t7
-    cast-t8
+    cast-t9
     returns
     add-i
     loop-less

@@ -4,7 +4,7 @@ use mathlib.Core.Bool.{Bool, true, false, cond}
 use borrow.Author.Tests.{not-true, not-false}
 use Rattle.vertices.specs.declared.Verdict.the-variants.{Refused}
 use Rattle.vertices.specs.Sanity.{verdict, sanityLong}
-use Rattle.vertices.proofs.Verdicts.{long-of}
+use Rattle.vertices.proofs.Verdicts.{long-of, checked}
 use borrow.Author.Needs.{needs}
 use Rattle.vertices.proofs.sanity.sanity_check.Statement.{statement}
 use Rattle.vertices.proofs.sanity.sanity_check.Tie as tie
@@ -16,7 +16,7 @@ returns : tie.Need-returns
 returns c =
     let s = c .before .before .before .before .before .before .args in
     let d : sanityLong (s .vertex-num) (s .edge-num) (s .ends-a .now) (s .ends-b .now) (s .list-lengths .now) (s .neighbor-numbers .now) ≡ false = sym (c .before .sanity-long .ensures) ∙ not-true _ (c .if1 .taken) in
-    sym (ap (λ (t : Bool). cond t (verdict (s .vertex-num) (s .edge-num) (s .ends-a .now) (s .ends-b .now) (s .list-lengths .now) (s .neighbor-numbers .now)) (Refused 6)) d)
+    checked (s .vertex-num) (s .edge-num) (s .ends-a .now) (s .ends-b .now) (s .list-lengths .now) (s .neighbor-numbers .now) _ (sym (ap (λ (t : Bool). cond t (verdict (s .vertex-num) (s .edge-num) (s .ends-a .now) (s .ends-b .now) (s .list-lengths .now) (s .neighbor-numbers .now)) (Refused 6)) d))
 
 verdict-of-requires : tie.Need-verdict-of-requires
 verdict-of-requires c κs =
@@ -28,7 +28,7 @@ returns-2 : tie.Need-returns-2
 returns-2 c =
     let s = c .before .before .before .before .before .before .before .args in
     let d : sanityLong (s .vertex-num) (s .edge-num) (s .ends-a .now) (s .ends-b .now) (s .list-lengths .now) (s .neighbor-numbers .now) ≡ true = sym (c .before .before .sanity-long .ensures) ∙ not-false _ (c .before .if1 .left) in
-    c .verdict-of .ensures ∙ sym (ap (λ (t : Bool). cond t (verdict (s .vertex-num) (s .edge-num) (s .ends-a .now) (s .ends-b .now) (s .list-lengths .now) (s .neighbor-numbers .now)) (Refused 6)) d)
+    checked (s .vertex-num) (s .edge-num) (s .ends-a .now) (s .ends-b .now) (s .list-lengths .now) (s .neighbor-numbers .now) _ (c .verdict-of .ensures ∙ sym (ap (λ (t : Bool). cond t (verdict (s .vertex-num) (s .edge-num) (s .ends-a .now) (s .ends-b .now) (s .list-lengths .now) (s .neighbor-numbers .now)) (Refused 6)) d))
 
 pub sanity-check-spec : {M : Type 1} → statement M
 sanity-check-spec = tie.close (tie.spec sanity-long-requires returns verdict-of-requires returns-2)

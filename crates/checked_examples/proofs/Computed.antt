@@ -1,0 +1,144 @@
+-- Document 01's starred examples, by computation. Assumes nothing.
+use mathlib.Core.Path.{_≡_, refl, sym, ap, _∙_}
+use mathlib.Core.Bool.{true}
+use mathlib.Core.List.{List, [], _∷_, map}
+use mathlib.Core.Option.{Option, some}
+use Prim.Native.Nat.{ℕ, zero, suc, _^_, _≤_}
+use native.Mathlib.Omega.{arith}
+use lib.ListN.{length, getD, take, replicate, getD-replicate, length-replicate}
+use lib.Dec.{leb}
+use lib.Ieee.{Float}
+use borrow.Author.Tests.{leb-true}
+use Rattle.columns.specs.Lists.{each, joined, layered}
+use Rattle.columns.specs.Places.{zeroFloat}
+use Rattle.columns.specs.Questions.{all, every}
+use Rattle.columns.proofs.Tests.{and-both}
+use Rattle.code_columns.specs.Edges.{straightEdges, straightRows}
+use Rattle.planar.specs.Planar.{rowEdges, planarRow, planarLayer, planarGap, planarBoundary, flatVertex}
+use Rattle.circuit.specs.Circuit.{circuitCell, circuitRow, circuitGap}
+use Rattle.rotated.specs.Rotated.{rotatedPlace, rotatedEdge, rotatedRow, rotatedLayer, rotatedGap, rotatedBoundary, rotatedVertex}
+use Rattle.layers.specs.Codes.{rows, width, layerEdges, gapEdges, edgesOf, vertexOf, layerVertices, verticesOf}
+use Rattle.layers.specs.Counts.{layerVertexNum, vertexNum, layerEdgeNum, gapEdgeNum, edgeNum}
+use Rattle.layers.specs.Accepts.{kindKnown, distanceSound, roundsSound, codeRefusal}
+use Rattle.weights.specs.Calls.{isLargestHalfWeight, halfWeights, largestWeight}
+use Rattle.weights.specs.Rounding.{halfWeight}
+use Rattle.weights.proofs.Theorems.{zero-among}
+use Rattle.neighbors.specs.Sound.{endsDiffer, pairsApart, endsInRange, graphSound, logSound}
+use Rattle.edge_modifier.specs.Door.{columnsLong, longEnough, columnsSound, sound}
+use Rattle.walks.specs.Settling as S
+use Rattle.walks.specs.Settling.{firstLeast, start, changes, byStatus, offer, relaxEdge, relax, stopped, next, settle}
+use Rattle.walks.specs.Answers.{readBack, stepInto, pathIn, path, fromLeft, nearestRight, crossing}
+use Rattle.walks.specs.Graph.{Graph}
+use Rattle.code_columns.specs.Edges.{firsts, seconds, boundaries}
+use Rattle.weights.specs.Logarithm.{edgeWeight}
+use Rattle.edge_modifier.specs.Records.{Engine, engine, counts}
+use Rattle.edge_modifier.specs.Step.{Call, loadErasures, loadWeights, reset}
+use Rattle.edge_modifier.specs.Open.{GraphColumns, graphColumns}
+use Rattle.edge_modifier.specs.Tally.{Tally, Fed, tallyOf, tallyAfter}
+use Rattle.complete_graph.specs.Queries as Q
+use Rattle.complete_graph.specs.GetPath.{numberOf, pathDoor, pathReply}
+use Rattle.acceptance.specs.Listed.{graphIn, weightsIn}
+use Rattle.checked_examples.specs.Starred.{StarredExamples, listing, fed, crossingAfter, listingEngine}
+
+same-map : (n : ℕ) (f : Float → ℕ) (x : Float) → f x ≡ 1 → map f (replicate n x) ≡ replicate n 1
+same-map zero f x e = refl
+same-map (suc n) f x e = λ i. e i ∷ same-map n f x e i
+
+zeros : (max n : ℕ) → isLargestHalfWeight max ≡ true → halfWeights max (replicate n zeroFloat) ≡ replicate n 1
+zeros max zero h = refl
+zeros max (suc n) h =
+    let (a, b) = and-both (leb 1 max) (leb max 250000) h in
+    same-map (suc n) (λ p. halfWeight max (edgeWeight p) (largestWeight (replicate (suc n) zeroFloat))) zeroFloat
+    (zero-among max (replicate (suc n) zeroFloat) 0 (omega (arith, leb-true max 250000 b)) (omega (arith, length-replicate (suc n) zeroFloat)) (getD-replicate (suc n) 0 zeroFloat zeroFloat (omega arith)) (edgeWeight zeroFloat))
+
+-- ---- the listing's graph, written out
+
+abbrev graph : Graph
+graph = record { vertices = 4; endsA = 0 ∷ 1 ∷ 0 ∷ []; endsB = 1 ∷ 2 ∷ 3 ∷ []; boundary = 0 ∷ 0 ∷ 2 ∷ 1 ∷ [] }
+
+abbrev weigh : List ℕ → ℕ → ℕ
+weigh ws k = getD ws k 0
+
+ends-a : firsts (edgesOf 1 3 0) ≡ 0 ∷ 1 ∷ 0 ∷ []
+unfolding edgesOf layered each joined rows width layerEdges gapEdges straightRows straightEdges rowEdges planarLayer planarRow planarGap
+ends-a = refl
+
+ends-b : seconds (edgesOf 1 3 0) ≡ 1 ∷ 2 ∷ 3 ∷ []
+unfolding edgesOf layered each joined rows width layerEdges gapEdges straightRows straightEdges rowEdges planarLayer planarRow planarGap
+ends-b = refl
+
+bytes : boundaries (verticesOf 1 3 0) ≡ 0 ∷ 0 ∷ 2 ∷ 1 ∷ []
+unfolding verticesOf layered each joined rows width layerVertices vertexOf flatVertex planarBoundary
+bytes = refl
+
+columns : listing ≡ graphColumns (0 ∷ 1 ∷ 0 ∷ []) (1 ∷ 2 ∷ 3 ∷ []) (1000 ∷ 1000 ∷ 1000 ∷ []) (0 ∷ 0 ∷ 2 ∷ 1 ∷ [])
+columns = λ i. graphColumns (ends-a i) (ends-b i) (1000 ∷ 1000 ∷ 1000 ∷ []) (bytes i)
+
+abbrev written : GraphColumns
+written = graphColumns (0 ∷ 1 ∷ 0 ∷ []) (1 ∷ 2 ∷ 3 ∷ []) (1000 ∷ 1000 ∷ 1000 ∷ []) (0 ∷ 0 ∷ 2 ∷ 1 ∷ [])
+
+abbrev crossingOf : List Fed → GraphColumns → Option ℕ
+crossingOf fs c = crossing (graphIn (tallyAfter fs (tallyOf 4 3 c))) (weightsIn (tallyAfter fs (tallyOf 4 3 c)))
+
+-- the crossing weight from the tally's graph and weights, written out
+by-parts : (t : Tally) (ws : List ℕ) (w : ℕ) → graphIn t ≡ graph → t .weights ≡ ws → crossing graph (weigh ws) ≡ some w → crossing (graphIn t) (weightsIn t) ≡ some w
+by-parts t ws w p q r = (λ i. crossing (p i) (weigh (q i))) ∙ r
+
+crossing-2000 : crossing graph (weigh (1000 ∷ 0 ∷ 1000 ∷ [])) ≡ some 2000
+unfolding each firstLeast start changes byStatus offer relaxEdge relax S.take stopped next settle fromLeft nearestRight crossing
+crossing-2000 = refl
+
+crossing-3000 : crossing graph (weigh (1000 ∷ 1000 ∷ 1000 ∷ [])) ≡ some 3000
+unfolding each firstLeast start changes byStatus offer relaxEdge relax S.take stopped next settle fromLeft nearestRight crossing
+crossing-3000 = refl
+
+crossing-3 : crossing graph (weigh (1 ∷ 1 ∷ 1 ∷ [])) ≡ some 3
+unfolding each firstLeast start changes byStatus offer relaxEdge relax S.take stopped next settle fromLeft nearestRight crossing
+crossing-3 = refl
+
+erased-2000 : crossingAfter (fed (loadErasures (1 ∷ [])) ∷ []) ≡ some 2000
+unfolding all
+erased-2000 = ap (crossingOf (fed (loadErasures (1 ∷ [])) ∷ [])) columns ∙ by-parts (tallyAfter (fed (loadErasures (1 ∷ [])) ∷ []) (tallyOf 4 3 written)) (1000 ∷ 0 ∷ 1000 ∷ []) 2000 refl refl crossing-2000
+
+reset-3000 : crossingAfter (fed (loadErasures (1 ∷ [])) ∷ fed reset ∷ []) ≡ some 3000
+unfolding all
+reset-3000 = ap (crossingOf (fed (loadErasures (1 ∷ [])) ∷ fed reset ∷ [])) columns ∙ by-parts (tallyAfter (fed (loadErasures (1 ∷ [])) ∷ fed reset ∷ []) (tallyOf 4 3 written)) (1000 ∷ 1000 ∷ 1000 ∷ []) 3000 refl refl crossing-3000
+
+ones-3 : crossingAfter (fed (loadWeights (0 ∷ 1 ∷ 2 ∷ []) (1 ∷ 1 ∷ 1 ∷ [])) ∷ []) ≡ some 3
+unfolding all
+ones-3 = ap (crossingOf (fed (loadWeights (0 ∷ 1 ∷ 2 ∷ []) (1 ∷ 1 ∷ 1 ∷ [])) ∷ [])) columns ∙ by-parts (tallyAfter (fed (loadWeights (0 ∷ 1 ∷ 2 ∷ []) (1 ∷ 1 ∷ 1 ∷ [])) ∷ []) (tallyOf 4 3 written)) (1 ∷ 1 ∷ 1 ∷ []) 3 refl refl crossing-3
+
+-- ---- the door of a path from 2 to 2
+
+abbrev engineOf : GraphColumns → Engine
+engineOf c = engine (counts 4 3 0) (c .endsA) (c .endsB) (c .weights) (c .boundary) (0 ∷ 0 ∷ 0 ∷ []) (0 ∷ 0 ∷ 0 ∷ [])
+
+door-16 : pathDoor (engineOf written) true 2 2 4 4 ≡ 16
+unfolding all every endsDiffer pairsApart endsInRange graphSound logSound columnsLong longEnough columnsSound sound
+door-16 = refl
+
+sixteen : numberOf (pathReply (pathDoor listingEngine true 2 2 4 4) (path (Q.graphIn listingEngine) (Q.weightsIn listingEngine) 2 2)) ≡ 16
+sixteen = (λ i. numberOf (pathReply (pathDoor (engineOf (columns i)) true 2 2 4 4) (path (Q.graphIn listingEngine) (Q.weightsIn listingEngine) 2 2)))
+    ∙ (λ i. numberOf (pathReply (door-16 i) (path (Q.graphIn listingEngine) (Q.weightsIn listingEngine) 2 2)))
+
+pub starred : StarredExamples
+unfolding edgesOf layered each joined rows width layerEdges gapEdges rotatedLayer rotatedRow rotatedEdge rotatedPlace rotatedGap straightRows straightEdges rowEdges planarLayer planarRow planarGap circuitGap circuitRow circuitCell verticesOf layerVertices vertexOf rotatedVertex rotatedBoundary layerVertexNum layerEdgeNum gapEdgeNum kindKnown distanceSound roundsSound codeRefusal all every endsDiffer pairsApart endsInRange graphSound logSound columnsLong longEnough columnsSound sound firstLeast start changes byStatus offer relaxEdge relax S.take stopped next settle readBack stepInto pathIn path fromLeft nearestRight crossing
+starred = record {
+  kind-5-edges = refl;
+  kind-5-boundary = refl;
+  kind-4-vertices = refl;
+  kind-4-edges = refl;
+  kind-6-vertices = refl;
+  kind-6-edges = refl;
+  kind-2-d-63 = refl;
+  kind-2-d-65 = refl;
+  kind-3-rounds-340 = refl;
+  kind-3-rounds-341 = refl;
+  d-4 = λ rounds. refl;
+  path-3-2 = refl;
+  edge-1-erased = erased-2000;
+  then-reset = reset-3000;
+  every-weight-1 = ones-3;
+  every-p-0 = zeros;
+  path-2-2 = sixteen;
+}

@@ -1,0 +1,75 @@
+-- Document 01's "Checked examples", those with a star, about the definitions that the contracts cite.
+use mathlib.Core.Path.{_≡_}
+use mathlib.Core.Bool.{true}
+use mathlib.Core.List.{List, [], _∷_}
+use mathlib.Core.Option.{Option, some}
+use Prim.Native.Nat.{ℕ, suc}
+use lib.ListN.{replicate}
+use Rattle.columns.specs.Places.{zeroFloat}
+use Rattle.code_columns.specs.Edges.{Ends, firsts, seconds, boundaries}
+use Rattle.layers.specs.Codes.{edgesOf, verticesOf}
+use Rattle.code_questions.specs.declared.Count.{Count}
+use Rattle.code_questions.specs.declared.Count.the-variants.{Counted, Refused}
+use Rattle.code_questions.specs.Answers.{vertexNumAnswer, edgeNumAnswer}
+use Rattle.weights.specs.Calls.{isLargestHalfWeight, halfWeights}
+use Rattle.edge_modifier.specs.Records.{Engine, engine, counts}
+use Rattle.edge_modifier.specs.Step.{Call, loadErasures, loadWeights, reset}
+use Rattle.edge_modifier.specs.Open.{GraphColumns, graphColumns}
+use Rattle.edge_modifier.specs.Tally.{Lengths, Tally, Fed, tallyOf, tallyAfter}
+use Rattle.walks.specs.Answers.{path, crossing}
+use Rattle.complete_graph.specs.Queries as Q
+use Rattle.complete_graph.specs.GetPath.{numberOf, pathDoor, pathReply}
+use Rattle.acceptance.specs.Listed.{graphIn, weightsIn}
+
+-- the listing's graph: kind 1, d 3, every weight 1000
+abbrev pub listing : GraphColumns
+listing = graphColumns (firsts (edgesOf 1 3 0)) (seconds (edgesOf 1 3 0)) (1000 ∷ 1000 ∷ 1000 ∷ []) (boundaries (verticesOf 1 3 0))
+
+-- columns of 4 vertices and 3 edges, and a log with room for 3 entries
+abbrev pub roomy : Lengths
+roomy = record { endsA = 3; endsB = 3; weights = 3; boundary = 4; logEdges = 3; logWeights = 3 }
+
+abbrev pub fed : Call → Fed
+fed call = record { call = call; lent = roomy }
+
+-- the listing's graph after a list of calls
+abbrev pub listingAfter : List Fed → Tally
+listingAfter fs = tallyAfter fs (tallyOf 4 3 listing)
+
+abbrev pub crossingAfter : List Fed → Option ℕ
+crossingAfter fs = crossing (graphIn (listingAfter fs)) (weightsIn (listingAfter fs))
+
+-- the listing's graph in the engine's columns
+abbrev pub listingEngine : Engine
+listingEngine = engine (counts 4 3 0) (listing .endsA) (listing .endsB) (listing .weights) (listing .boundary) (0 ∷ 0 ∷ 0 ∷ []) (0 ∷ 0 ∷ 0 ∷ [])
+
+pub record StarredExamples : Type 0 where
+  -- "d 3, kind 5: edges (0,2) (0,3) (1,3) (2,4) (3,4) (3,5) (4,6) (4,7) (5,7); left 2, 6; right 1, 5."
+  pub kind-5-edges : edgesOf 5 3 0 ≡ (0, 2) ∷ (0, 3) ∷ (1, 3) ∷ (2, 4) ∷ (3, 4) ∷ (3, 5) ∷ (4, 6) ∷ (4, 7) ∷ (5, 7) ∷ []
+  pub kind-5-boundary : boundaries (verticesOf 5 3 0) ≡ 0 ∷ 2 ∷ 1 ∷ 0 ∷ 0 ∷ 2 ∷ 1 ∷ 0 ∷ []
+  -- "d 3, kind 4, rounds 1: 24 vertices, 41 edges. Kind 6: 16 and 26."
+  pub kind-4-vertices : vertexNumAnswer 4 3 1 ≡ Counted 24
+  pub kind-4-edges : edgeNumAnswer 4 3 1 ≡ Counted 41
+  pub kind-6-vertices : vertexNumAnswer 6 3 1 ≡ Counted 16
+  pub kind-6-edges : edgeNumAnswer 6 3 1 ≡ Counted 26
+  -- "Kind 2: d 63 gives 4,032 vertices; d 65 refuses 5."
+  pub kind-2-d-63 : vertexNumAnswer 2 63 0 ≡ Counted 4032
+  pub kind-2-d-65 : vertexNumAnswer 2 65 0 ≡ Refused 5
+  -- "Kind 3, d 3: rounds 340 gives 4,092; 341 refuses 5."
+  pub kind-3-rounds-340 : vertexNumAnswer 3 3 340 ≡ Counted 4092
+  pub kind-3-rounds-341 : vertexNumAnswer 3 3 341 ≡ Refused 5
+  -- "d 4: 3."
+  pub d-4 : (rounds : ℕ) → vertexNumAnswer 3 4 rounds ≡ Refused 3
+  -- "The listing's graph: path 3 to 2 is (0,1000) (1,1000) (2,1000), total 3000;"
+  pub path-3-2 : path (graphIn (listingAfter [])) (weightsIn (listingAfter [])) 3 2
+      ≡ some (record { vertices = 0 ∷ 1 ∷ 2 ∷ []; steps = 1000 ∷ 1000 ∷ 1000 ∷ []; total = 3000 })
+  -- "edge 1 erased, crossing 2000;"
+  pub edge-1-erased : crossingAfter (fed (loadErasures (1 ∷ [])) ∷ []) ≡ some 2000
+  -- "reset, 3000;"
+  pub then-reset : crossingAfter (fed (loadErasures (1 ∷ [])) ∷ fed reset ∷ []) ≡ some 3000
+  -- "every weight 1, crossing 3."
+  pub every-weight-1 : crossingAfter (fed (loadWeights (0 ∷ 1 ∷ 2 ∷ []) (1 ∷ 1 ∷ 1 ∷ [])) ∷ []) ≡ some 3
+  -- "Every p 0: half weights 1."
+  pub every-p-0 : (max n : ℕ) → isLargestHalfWeight max ≡ true → halfWeights max (replicate n zeroFloat) ≡ replicate n 1
+  -- "Path 2 to 2: 16."
+  pub path-2-2 : numberOf (pathReply (pathDoor listingEngine true 2 2 4 4) (path (Q.graphIn listingEngine) (Q.weightsIn listingEngine) 2 2)) ≡ 16

@@ -1,0 +1,2 @@
+-- Claims: the verdict of `sanity_check` on built codes.
+pub mod Claims

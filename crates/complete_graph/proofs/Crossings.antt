@@ -1,0 +1,203 @@
+-- The search for the nearest right vertex, and the door of a crossing. Assumes nothing.
+use mathlib.Core.Path.{_≡_, refl, sym, ap, _∙_, subst}
+use mathlib.Core.Bool.{Bool, true, false, _&&_, cond}
+use mathlib.Core.List.{List}
+use mathlib.Core.Option.{Option, some, none}
+use Prim.Native.Nat.{ℕ, zero, suc, _+_, _<_, _≤_}
+use native.Mathlib.Omega.{arith}
+use native.Mathlib.Decide.{decLt}
+use lib.ListN.{length, getD, take, List·getD-eq-default}
+use lib.Seq.{sets}
+use lib.Dec.{leb, ltb, eqb}
+use lib.IntN.{ℤ}
+use borrow.Author.Tests.{leb-true, lt-ltb, le-ltb, eq-eqb, ne-eqb}
+use Rattle.columns.specs.Lists.{each, after, over}
+use Rattle.columns.specs.Questions.{ask}
+use Rattle.columns.proofs.Counting.{length-each, getD-each}
+use Rattle.columns.proofs.Columns.{sets-over}
+use Rattle.columns.proofs.Tests.{and-both}
+use Rattle.edge_modifier.specs.Records.{Engine}
+use Rattle.edge_modifier.specs.Door.{longEnough, sound}
+use Rattle.edge_modifier.proofs.Doors.{Long, long-of, Sound, sound-of, met-of, next-of}
+use Rattle.walks.specs.Lists.{bit, delta}
+use Rattle.walks.specs.Graph.{Graph}
+use Rattle.walks.specs.Settling.{State, weightAt, lesser, firstLeast, settled}
+use Rattle.walks.specs.Answers.{left, taken, tableWeight, weightOf, fromLeft, leastFromLeft, nearestRight, crossing}
+use Rattle.settling.specs.Ready.{graphOf, sources, endOf, sumLimit}
+use Rattle.complete_graph.specs.declared.crossing.CrossingReply.{CrossingReply}
+use Rattle.complete_graph.specs.declared.crossing.CrossingReply.the-variants.{Crossed, Refused}
+use Rattle.complete_graph.specs.Search.{Waiting}
+use Rattle.complete_graph.specs.Crossing.{isJoined, replyOf, crossingDoor, CrossingScratch, codeOf, Coded, wherever}
+use Rattle.complete_graph.specs.Steps.{ScratchColumns}
+
+-- ---- the least weight so far
+
+module _ (s : State) (test : ℕ → Bool) where
+  best : ℕ → ℕ
+  best v = codeOf (weightOf s (firstLeast test (weightAt s) v))
+
+  choice : (b : Bool) (v u : ℕ) → cond b (weightAt s v) (weightAt s u) ≡ codeOf (weightOf s (cond b (some v) (some u)))
+  choice true v u = refl
+  choice false v u = refl
+
+  next : (b : Bool) (v : ℕ) (p : Option ℕ) → weightAt s v < sumLimit
+      → cond b (cond (ltb (weightAt s v) (codeOf (weightOf s p))) (weightAt s v) (codeOf (weightOf s p))) (codeOf (weightOf s p)) ≡ codeOf (weightOf s (cond b (lesser (weightAt s) v p) p))
+  next false v p h = refl
+  next true v none h = ap (λ b. cond b (weightAt s v) sumLimit) (lt-ltb (weightAt s v) sumLimit h)
+  next true v (some u) h = choice (ltb (weightAt s v) (weightAt s u)) v u
+
+  pub best-next : (v : ℕ) → weightAt s v < sumLimit
+      → cond (test v) (cond (ltb (weightAt s v) (codeOf (weightOf s (firstLeast test (weightAt s) v)))) (weightAt s v) (codeOf (weightOf s (firstLeast test (weightAt s) v)))) (codeOf (weightOf s (firstLeast test (weightAt s) v)))
+      ≡ codeOf (weightOf s (firstLeast test (weightAt s) (suc v)))
+  unfolding firstLeast
+  best-next v h = next (test v) v (firstLeast test (weightAt s) v) h
+
+pub coded-of : (s : State) (p : Option ℕ) → ((v : ℕ) → weightAt s v < sumLimit) → Coded (codeOf (weightOf s p)) (weightOf s p)
+coded-of s none h = refl
+coded-of s (some v) h = (refl, h v)
+
+-- ---- what becomes of a code
+
+pub reply-of : (r : ℕ) (c : Option ℕ) → Coded r c → cond (eqb r 2147483648) (Refused 18) (Crossed r) ≡ replyOf 0 c
+reply-of r none e = ap (λ b. cond b (Refused 18) (Crossed r)) (eq-eqb r 2147483648 e)
+reply-of r (some w) (e, h) = ap (λ b. cond b (Refused 18) (Crossed r)) (ne-eqb r 2147483648 (λ q. omega arith)) ∙ ap Crossed e
+
+pub column-of : (r : ℕ) (c : Option ℕ) (column weights₀ : List ℤ) → Coded r c → cond (eqb r 2147483648) weights₀ (sets weights₀ 0 column) ≡ wherever c column weights₀
+column-of r none column weights₀ e = ap (λ b. cond b weights₀ (sets weights₀ 0 column)) (eq-eqb r 2147483648 e)
+column-of r (some w) column weights₀ (e, h) = ap (λ b. cond b weights₀ (sets weights₀ 0 column)) (ne-eqb r 2147483648 (λ q. omega arith))
+
+pub column-after : (c : Option ℕ) (column weights₀ : List ℤ) → length column ≤ length weights₀ → wherever c column weights₀ ≡ after (ask (isJoined c) 18 0) column weights₀
+column-after none column weights₀ h = refl
+column-after (some w) column weights₀ h = sets-over weights₀ column h
+
+pub reply-passed : (c : Option ℕ) → replyOf 0 c ≡ replyOf (ask (isJoined c) 18 0) c
+reply-passed none = refl
+reply-passed (some w) = refl
+
+-- ---- the sources
+
+module _ (n : ℕ) (a b m : List ℕ) (fits : length m ≡ n) where
+  abbrev first : List ℕ
+  first = each n (λ v. delta (getD m v 0) 1)
+
+  past : (v : ℕ) → n ≤ v → getD m v 0 ≡ 0
+  past v h = List·getD-eq-default m 0 {n = v} (omega arith)
+
+  past-first : (v : ℕ) → n ≤ v → getD first v 0 ≡ 0
+  past-first v h = List·getD-eq-default first 0 {n = v} (omega (arith, length-each n (λ v. delta (getD m v 0) 1)))
+
+  one-bit : (x : ℕ) → eqb (delta x 1) 1 ≡ eqb x 1
+  one-bit x = go (eqb x 1)
+    where
+      go : (b : Bool) → eqb (bit b) 1 ≡ b
+      go true = refl
+      go false = refl
+
+  pub sources-left : sources first ≡ left (graphOf n a b m)
+  sources-left = λ i v. one v i
+    where
+      one : (v : ℕ) → eqb (getD first v 0) 1 ≡ eqb (getD m v 0) 1
+      one v = elim (decLt v n) [
+        | yes h ↦ ap (λ k. eqb k 1) (getD-each n (λ v. delta (getD m v 0) 1) 0 v h) ∙ one-bit (getD m v 0)
+        | no h ↦ ap (λ k. eqb k 1) (past-first v (omega arith)) ∙ ap (λ k. eqb k 1) (sym (past v (omega arith)))
+      ]
+
+  bit-small : (x : ℕ) → delta x 1 ≤ 1
+  bit-small x = go (eqb x 1)
+    where
+      go : (b : Bool) → bit b ≤ 1
+      go true = omega arith
+      go false = omega arith
+
+  pub waiting-left : (stop : ℕ) → stop ≡ n → Waiting n first stop
+  waiting-left stop e = record {
+    fits = length-each n (λ v. delta (getD m v 0) 1);
+    bytes = λ v. elim (decLt v n) [
+      | yes h ↦ omega (arith, getD-each n (λ v. delta (getD m v 0) 1) 0 v h, bit-small (getD m v 0))
+      | no h ↦ omega (arith, past-first v (omega arith))
+    ];
+    no-source = λ q. omega (arith, past-first stop (omega arith));
+  }
+
+  pub settled-left : (w : ℕ → ℕ) → settled (graphOf n a b m) w (sources first) (endOf n n) ≡ fromLeft (graphOf n a b m) w
+  unfolding fromLeft
+  settled-left w = ap (λ f. settled (graphOf n a b m) w f (endOf n n)) sources-left
+      ∙ ap (λ k. settled (graphOf n a b m) w (left (graphOf n a b m)) (cond k (some n) none)) (le-ltb n n (omega arith))
+
+-- ---- the door
+
+pub door-passed : (e : Engine) (scratch : Bool) (weights next : ℕ) → crossingDoor e scratch weights 0 ≡ 0 → crossingDoor e scratch weights next ≡ next
+door-passed e scratch weights next z = go (longEnough 0 e && (leb (e .counts .vertices) weights && scratch)) (sound e) z
+  where
+    go : (p q : Bool) → ask p 6 (ask q 7 0) ≡ 0 → ask p 6 (ask q 7 next) ≡ next
+    go true true z = refl
+    go true false z = absurd (omega arith)
+    go false q z = absurd (omega arith)
+
+pub door-refused : (e : Engine) (scratch : Bool) (weights next : ℕ) → (crossingDoor e scratch weights 0 ≡ 0 → ⊥) → crossingDoor e scratch weights next ≡ crossingDoor e scratch weights 0
+door-refused e scratch weights next f = go (longEnough 0 e && (leb (e .counts .vertices) weights && scratch)) (sound e) f
+  where
+    go : (p q : Bool) → (ask p 6 (ask q 7 0) ≡ 0 → ⊥) → ask p 6 (ask q 7 next) ≡ ask p 6 (ask q 7 0)
+    go true true f = absurd (f refl)
+    go true false f = refl
+    go false q f = refl
+
+pub reply-refused : (n m : ℕ) (c : Option ℕ) → m ≡ n → (m ≡ 0 → ⊥) → Refused m ≡ replyOf n c
+reply-refused n zero c e f = absurd (f refl)
+reply-refused n (suc m) c e f = ap (λ k. replyOf k c) e
+
+pub record CrossingAsked (e : Engine) (scratch : Bool) (weights : ℕ) : Type 0 where
+  pub long : Long 0 e
+  pub weights-long : e .counts .vertices ≤ weights
+  pub scratch-is : scratch ≡ true
+  pub sound : Sound e
+
+pub crossing-of : (e : Engine) (scratch : Bool) (weights : ℕ) → crossingDoor e scratch weights 0 ≡ 0 → CrossingAsked e scratch weights
+crossing-of e scratch weights z =
+    let fits = leb (e .counts .vertices) weights && scratch in
+    let q2 = ask (sound e) 7 0 in
+    let (p, q) = and-both (longEnough 0 e) fits (met-of (longEnough 0 e && fits) 6 q2 (omega arith) z) in
+    let (w, s) = and-both (leb (e .counts .vertices) weights) scratch q in
+    record {
+      long = long-of 0 e p;
+      weights-long = leb-true _ _ w;
+      scratch-is = s;
+      sound = sound-of e (met-of (sound e) 7 0 (omega arith) (next-of (longEnough 0 e && fits) 6 q2 (omega arith) z));
+    }
+
+-- ---- what a settled state says of the crossing
+
+light-all : (s : State) (n : ℕ) → length (s .weight) ≡ n → ((v : ℕ) → v < n → weightAt s v < sumLimit) → (v : ℕ) → weightAt s v < sumLimit
+light-all s n e h v = elim (decLt v n) [
+  | yes l ↦ h v l
+  | no l ↦ omega (arith, List·getD-eq-default (s .weight) 0 {n = v} (omega arith))
+]
+
+module _ (g : Graph) (w : ℕ → ℕ) (s : State) (state : s ≡ fromLeft g w) where
+  pub found-is : (r k : ℕ) → k ≡ g .vertices → length (s .weight) ≡ g .vertices → ((v : ℕ) → v < g .vertices → weightAt s v < sumLimit)
+      → r ≡ codeOf (weightOf s (firstLeast (λ v. eqb (getD (g .boundary) v 0) 2 && taken s v) (weightAt s) k)) → Coded r (crossing g w)
+  unfolding crossing nearestRight
+  found-is r k e fits light q =
+      subst (λ x. Coded x (weightOf (fromLeft g w) (nearestRight g w)))
+      (sym (q ∙ (λ i. codeOf (weightOf (state i) (firstLeast (λ v. eqb (getD (g .boundary) v 0) 2 && taken (state i) v) (weightAt (state i)) (e i))))))
+      (coded-of (fromLeft g w) (nearestRight g w) (subst (λ t. (v : ℕ) → weightAt t v < sumLimit) state (light-all s (g .vertices) fits light)))
+
+  pub column-is : (r k : ℕ) (out₀ out : List ℤ) → k ≡ g .vertices → Coded r (crossing g w)
+      → out ≡ cond (eqb r 2147483648) out₀ (sets out₀ 0 (each k (tableWeight s))) → out ≡ wherever (crossing g w) (leastFromLeft g w) out₀
+  unfolding leastFromLeft
+  column-is r k out₀ out e coded q =
+      q ∙ (λ i. cond (eqb r 2147483648) out₀ (sets out₀ 0 (each (e i) (tableWeight (state i))))) ∙ column-of r (crossing g w) (leastFromLeft g w) out₀ coded
+
+pub left-length : (g : Graph) (w : ℕ → ℕ) → length (leastFromLeft g w) ≡ g .vertices
+unfolding leastFromLeft
+left-length g w = length-each (g .vertices) (tableWeight (fromLeft g w))
+
+-- ---- scratch
+
+pub scratch-free : (door : ℕ) (s₀ s : ScratchColumns) → door ≡ 0 → CrossingScratch door s₀ s
+scratch-free zero s₀ s z = tt
+scratch-free (suc n) s₀ s z = absurd (omega arith)
+
+pub scratch-same : (door : ℕ) (s : ScratchColumns) → CrossingScratch door s s
+scratch-same zero s = tt
+scratch-same (suc n) s = refl

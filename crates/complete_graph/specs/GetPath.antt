@@ -1,0 +1,82 @@
+-- What `get_path` answers and leaves in the columns that it writes, and what that says of walks.
+use Prim.Native.Nat.{ℕ, zero, suc}
+use mathlib.Core.Path.{_≡_}
+use mathlib.Core.Logic.{_≢_, _↔_}
+use mathlib.Core.Bool.{Bool, not, cond, _&&_}
+use mathlib.Core.List.{List}
+use mathlib.Core.Option.{Option, some, none}
+use lib.ListN.{length, take}
+use lib.Dec.{leb, ltb, eqb}
+use Rattle.columns.specs.Lists.{over}
+use Rattle.columns.specs.Questions.{ask}
+use Rattle.edge_modifier.specs.Records.{Engine}
+use Rattle.walks.specs.Graph.{Joined}
+use Rattle.walks.specs.Answers.{FoundPath, path}
+use Rattle.walks.specs.Claims.{IsPath}
+use Rattle.complete_graph.specs.declared.path.PathAnswer.{PathAnswer}
+use Rattle.complete_graph.specs.declared.path.PathAnswer.the-variants.{Found, Refused}
+use Rattle.complete_graph.specs.Queries.{graphIn, weightsIn, queryDoor}
+use Rattle.complete_graph.specs.Steps.{ScratchColumns}
+
+-- document 01's number for each case of an answer, 0 where there is a path, and its values: length and total, both 0 at a refusal
+abbrev pub numberOf : PathAnswer → ℕ
+numberOf (Found len total) = 0
+numberOf (Refused n) = n
+
+abbrev pub lengthOf : PathAnswer → ℕ
+lengthOf (Found len total) = len
+lengthOf (Refused n) = 0
+
+abbrev pub totalOf : PathAnswer → ℕ
+totalOf (Found len total) = total
+totalOf (Refused n) = 0
+
+-- the number of the first question before 17 that is not met, or 0: 6, 7, 13, 16; `scratch` says whether scratch is long enough
+abbrev pub pathDoor : Engine → (scratch : Bool) (a b vertices steps : ℕ) → ℕ
+pathDoor e scratch a b vertices steps =
+    queryDoor e (leb (e .counts .vertices) vertices && (leb (e .counts .vertices) steps && scratch)) (ltb a (e .counts .vertices) && ltb b (e .counts .vertices))
+    (ask (not (eqb a b)) 16 0)
+
+-- 17 where there is no path, else its length and its total
+abbrev pub found : Option FoundPath → PathAnswer
+found none = Refused 17
+found (some p) = Found (length (p .vertices)) (p .total)
+
+-- the answer for the number of a question before 17
+abbrev pub pathReply : ℕ → Option FoundPath → PathAnswer
+pathReply zero p = found p
+pathReply (suc n) p = Refused (suc n)
+
+-- the columns after a search: places past the path's length are unchanged, and all places where there is no path
+abbrev pub verticesAfter : Option FoundPath → List ℕ → List ℕ
+verticesAfter none column = column
+verticesAfter (some p) column = over (p .vertices) column
+
+abbrev pub stepsAfter : Option FoundPath → List ℕ → List ℕ
+stepsAfter none column = column
+stepsAfter (some p) column = over (p .steps) column
+
+-- the answer, and both columns of the path
+pub record PathStep (e : Engine) (scratch : Bool) (a b : ℕ) (r : PathAnswer) (vertices₀ steps₀ vertices steps : List ℕ) : Type 0 where
+  pub answer : r ≡ pathReply (pathDoor e scratch a b (length vertices₀) (length steps₀)) (path (graphIn e) (weightsIn e) a b)
+  pub vertices-left : vertices ≡ cond (eqb (pathDoor e scratch a b (length vertices₀) (length steps₀)) 0) (verticesAfter (path (graphIn e) (weightsIn e) a b) vertices₀) vertices₀
+  pub steps-left : steps ≡ cond (eqb (pathDoor e scratch a b (length vertices₀) (length steps₀)) 0) (stepsAfter (path (graphIn e) (weightsIn e) a b) steps₀) steps₀
+
+-- a refused call leaves scratch as it was, unless its number is 17; after 17 and after success it may hold anything
+abbrev pub PathScratchKept : PathAnswer → ScratchColumns → ScratchColumns → Type 0
+PathScratchKept (Found len total) s₀ s = Unit {0}
+PathScratchKept (Refused n) s₀ s = n ≢ 17 → s ≡ s₀
+
+-- 17 exactly where the earlier questions are met and no walk joins a and b; a path exactly where they are met and some walk does.
+-- The columns' first places then are a walk from a to b that meets no vertex twice, whose steps sum to the total; no walk weighs less.
+pub record PathSays (e : Engine) (scratch : Bool) (a b : ℕ) (r : PathAnswer) (vertices₀ steps₀ vertices steps : List ℕ) : Type 0 where
+  pub not-reached : numberOf r ≡ 17 ↔ ((pathDoor e scratch a b (length vertices₀) (length steps₀) ≡ 0) × ¬ Joined (graphIn e) a b)
+  pub reached : numberOf r ≡ 0 ↔ ((pathDoor e scratch a b (length vertices₀) (length steps₀) ≡ 0) × Joined (graphIn e) a b)
+  pub least : numberOf r ≡ 0
+      → IsPath (graphIn e) (weightsIn e) a b (record { vertices = take (lengthOf r) vertices; steps = take (lengthOf r) steps; total = totalOf r })
+
+-- whatever `get_path` answers and leaves says this of walks
+abbrev pub GetPathIsLeast : Type 0
+GetPathIsLeast =
+    (e : Engine) (scratch : Bool) (a b : ℕ) (r : PathAnswer) (vertices₀ steps₀ vertices steps : List ℕ)
+    → PathStep e scratch a b r vertices₀ steps₀ vertices steps → PathSays e scratch a b r vertices₀ steps₀ vertices steps

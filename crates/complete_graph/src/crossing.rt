@@ -1,0 +1,227 @@
+// The crossing query: the least weight of a walk from a left to a right vertex, and the least weight from the left of every vertex.
+ghost use mathlib.Core.Path.{_≡_};
+ghost use mathlib.Core.Bool.{cond, _&&_};
+ghost use mathlib.Core.List.{List};
+ghost use Prim.Native.Nat.{ℕ, _<_, _≤_};
+ghost use lib.ListN.{length, getD};
+ghost use lib.Seq.{sets};
+ghost use lib.Dec.{eqb, ltb, leb};
+ghost use lib.IntN.{pos, negsuc};
+ghost use Rattle.columns.specs.Lists.{each};
+ghost use Rattle.edge_modifier.specs.Records.{engine};
+ghost use Rattle.walks.specs.Settling.{firstLeast, weightAt};
+ghost use Rattle.walks.specs.Answers.{taken, tableWeight, weightOf, crossing, leastFromLeft};
+ghost use Rattle.settling.specs.Ready.{graphOf, weighs, stateOf, sumLimit};
+ghost use Rattle.complete_graph.specs.Queries.{scratchLong};
+ghost use Rattle.complete_graph.specs.Steps.{scratchOf};
+ghost use Rattle.complete_graph.specs.Search.{Searchable};
+ghost use Rattle.complete_graph.specs.Crossing.{CrossingStep, CrossingScratch, crossingDoor, codeOf, Coded, wherever};
+use super::scratch_long;
+use super::search;
+use super::write_weights;
+use columns::Weight;
+use columns::questions::asked;
+use columns::questions::at_most;
+use columns::questions::both;
+use edge_modifier::EngineCounts;
+use edge_modifier::engine_sound;
+use edge_modifier::long_enough;
+
+// The crossing weight, or the number of the question that is not met.
+pub enum CrossingReply {
+    Crossed(Weight),
+    Refused(u32),
+}
+
+// A weight that no vertex has.
+const NO_WEIGHT: Weight = 2147483648;
+
+// Questions 6 and 7 of a crossing.
+fn crossing_door(
+    c: EngineCounts,
+    ends_a: &[u32],
+    ends_b: &[u32],
+    weights: &[Weight],
+    boundary: &[u8],
+    log_edges: &[u32],
+    log_weights: &[Weight],
+    out: usize,
+    scratch: bool,
+) -> u32
+    ensures { λ r. ⌜ r ≡ crossingDoor (engine c (now («ends_a» .entry)) (now («ends_b» .entry)) (now (weights .entry)) (now (boundary .entry)) (now («log_edges» .entry)) (now («log_weights» .entry))) scratch out 0 ⌝ }
+{
+    let long = long_enough(
+        c,
+        ends_a,
+        ends_b,
+        weights,
+        boundary,
+        log_edges,
+        log_weights,
+        0,
+    );
+    let fits = both(at_most(c.vertices as usize, out), scratch);
+    let sound = engine_sound(c, ends_a, ends_b, weights, boundary, log_edges, log_weights);
+    asked(both(long, fits), 6, asked(sound, 7, 0))
+}
+
+// The lesser of two weights, where the second is that of a right vertex that was taken.
+fn nearer(best: Weight, boundary: u8, status: u8, weight: Weight) -> Weight
+    ensures { λ r. ⌜ r ≡ cond (eqb boundary 2 && eqb status 2) (cond (ltb weight best) weight best) best ⌝ }
+{
+    if boundary == 2 {
+        if status == 2 {
+            if weight < best {
+                return weight;
+            }
+        }
+    }
+    best
+}
+
+// The least weight of a right vertex that was taken.
+fn nearest_right(status: &[u8], weight: &[Weight], boundary: &[u8]) -> Weight
+    requires { ⌜ (length (now weight) ≡ length (now status)) × (length (now boundary) ≡ length (now status)) × ((v : ℕ) → v < length (now status) → getD (now weight) v 0 < sumLimit) ⌝ }
+    ensures { λ r. ⌜ ((p : List ℕ) → r ≡ codeOf (weightOf (stateOf (now (status .entry)) (now (weight .entry)) p) (firstLeast (λ v. eqb (getD (now (boundary .entry)) v 0) 2 && taken (stateOf (now (status .entry)) (now (weight .entry)) p) v) (weightAt (stateOf (now (status .entry)) (now (weight .entry)) p)) (length (now (status .entry)))))) ⌝ }
+{
+    let mut best: Weight = NO_WEIGHT;
+    let mut v: usize = 0;
+    while v < status.len() {
+        best = nearer(best, boundary[v], status[v], weight[v]);
+        v += 1;
+    }
+    best
+}
+
+// The crossing weight and, where there is one, the weight column, over columns that hold vertices and edges alone.
+fn run_crossing(
+    ends_a: &[u32],
+    ends_b: &[u32],
+    weights: &[Weight],
+    boundary: &[u8],
+    numbers: &mut [u32],
+    list_ends: &mut [u32],
+    status: &mut [u8],
+    weight: &mut [Weight],
+    previous: &mut [u32],
+    node: &mut [u64],
+    leaf: &mut [u64],
+    out_weight: &mut [i32],
+    vertices: u32,
+) -> Weight
+    requires { ⌜ Searchable (length (now status)) (now «ends_a») (now «ends_b») (now weights) (now numbers) (now «list_ends») (now weight) (now previous) (now node) (now leaf) ⌝ }
+    requires { ⌜ (length (now boundary) ≡ length (now status)) × (vertices ≡ length (now status)) × (length (now status) ≤ length (now «out_weight»)) ⌝ }
+    ensures { λ r. ⌜ Coded r (crossing (graphOf (length (now (status .entry))) (now («ends_a» .entry)) (now («ends_b» .entry)) (now (boundary .entry))) (weighs (now (weights .entry)))) ⌝ }
+    ensures { λ r. ⌜ now («out_weight» .exit) ≡ wherever (crossing (graphOf (length (now (status .entry))) (now («ends_a» .entry)) (now («ends_b» .entry)) (now (boundary .entry))) (weighs (now (weights .entry)))) (leastFromLeft (graphOf (length (now (status .entry))) (now («ends_a» .entry)) (now («ends_b» .entry)) (now (boundary .entry))) (weighs (now (weights .entry)))) (now («out_weight» .entry)) ⌝ }
+{
+    settling::begin_left(status, boundary);
+    search(
+        ends_a,
+        ends_b,
+        weights,
+        numbers,
+        list_ends,
+        status,
+        weight,
+        previous,
+        node,
+        leaf,
+        vertices,
+    );
+    let found = nearest_right(status, weight, boundary);
+    write_found(found, status, weight, out_weight);
+    found
+}
+
+// The weight column, where a crossing weight was found.
+fn write_found(found: Weight, status: &[u8], weight: &[Weight], out: &mut [i32])
+    requires { ⌜ (length (now weight) ≡ length (now status)) × (length (now status) ≤ length (now out)) × ((v : ℕ) → v < length (now status) → getD (now weight) v 0 < sumLimit) ⌝ }
+    ensures { λ _. ⌜ ((p : List ℕ) → now (out .exit) ≡ cond (eqb found 2147483648) (now (out .entry)) (sets (now (out .entry)) 0 (each (length (now (status .entry))) (tableWeight (stateOf (now (status .entry)) (now (weight .entry)) p))))) ⌝ }
+{
+    if found == NO_WEIGHT {
+        return;
+    }
+    write_weights(status, weight, out);
+}
+
+// 18, or the crossing weight that was found.
+fn reply(found: Weight) -> CrossingReply
+    ensures { λ r. ⌜ r ≡ cond (eqb found 2147483648) (CrossingReply.Refused 18) (CrossingReply.Crossed found) ⌝ }
+{
+    if found == NO_WEIGHT {
+        return CrossingReply::Refused(18);
+    }
+    CrossingReply::Crossed(found)
+}
+
+// The least weight of a walk from a left to a right vertex; the weight column then holds the least weight from the left, -1 for unreached.
+// The columns from `numbers` on are scratch.
+pub fn crossing(
+    c: EngineCounts,
+    ends_a: &[u32],
+    ends_b: &[u32],
+    weights: &[Weight],
+    boundary: &[u8],
+    log_edges: &[u32],
+    log_weights: &[Weight],
+    out_weight: &mut [i32],
+    numbers: &mut [u32],
+    list_ends: &mut [u32],
+    status: &mut [u8],
+    weight: &mut [Weight],
+    previous: &mut [u32],
+    node: &mut [u64],
+    leaf: &mut [u64],
+) -> CrossingReply
+    ensures { λ r. ⌜ CrossingStep (engine c (now («ends_a» .entry)) (now («ends_b» .entry)) (now (weights .entry)) (now (boundary .entry)) (now («log_edges» .entry)) (now («log_weights» .entry)))
+        (scratchLong (c .vertices) (c .edges) (length (now (numbers .entry))) (length (now («list_ends» .entry))) (length (now (status .entry))) (length (now (weight .entry))) (length (now (previous .entry))) (length (now (node .entry))) (length (now (leaf .entry))))
+        r (now («out_weight» .entry)) (now («out_weight» .exit)) ⌝ }
+    ensures { λ r. ⌜ CrossingScratch (crossingDoor (engine c (now («ends_a» .entry)) (now («ends_b» .entry)) (now (weights .entry)) (now (boundary .entry)) (now («log_edges» .entry)) (now («log_weights» .entry)))
+        (scratchLong (c .vertices) (c .edges) (length (now (numbers .entry))) (length (now («list_ends» .entry))) (length (now (status .entry))) (length (now (weight .entry))) (length (now (previous .entry))) (length (now (node .entry))) (length (now (leaf .entry)))) (length (now («out_weight» .entry))) 0)
+        (scratchOf (now (numbers .entry)) (now («list_ends» .entry)) (now (status .entry)) (now (weight .entry)) (now (previous .entry)) (now (node .entry)) (now (leaf .entry)))
+        (scratchOf (now (numbers .exit)) (now («list_ends» .exit)) (now (status .exit)) (now (weight .exit)) (now (previous .exit)) (now (node .exit)) (now (leaf .exit))) ⌝ }
+{
+    let v = c.vertices as usize;
+    let e = c.edges as usize;
+    let scratch = scratch_long(
+        c.vertices,
+        c.edges,
+        numbers.len(),
+        list_ends.len(),
+        status.len(),
+        weight.len(),
+        previous.len(),
+        node.len(),
+        leaf.len(),
+    );
+    let no = crossing_door(
+        c,
+        ends_a,
+        ends_b,
+        weights,
+        boundary,
+        log_edges,
+        log_weights,
+        out_weight.len(),
+        scratch,
+    );
+    if no == 0 {
+        let found = run_crossing(
+            &ends_a[..e],
+            &ends_b[..e],
+            &weights[..e],
+            &boundary[..v],
+            numbers,
+            list_ends,
+            &mut status[..v],
+            &mut weight[..v],
+            &mut previous[..v],
+            node,
+            &mut leaf[..v],
+            out_weight,
+            c.vertices,
+        );
+        return reply(found);
+    }
+    CrossingReply::Refused(no)
+}

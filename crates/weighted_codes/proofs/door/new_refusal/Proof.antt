@@ -1,0 +1,46 @@
+-- `weighted_codes::door::new_refusal` meets its contract. Assumes nothing.
+use mathlib.Core.Path.{_≡_, refl, sym, ap, _∙_}
+use mathlib.Core.Bool.{_&&_}
+use Rattle.weighted_codes.specs.Steps.{doorNumber}
+use borrow.Author.Needs.{needs}
+use Rattle.weighted_codes.proofs.door.new_refusal.Statement.{statement}
+use Rattle.weighted_codes.proofs.door.new_refusal.Tie as tie
+
+refusal-of-requires : tie.Need-refusal-of-requires
+refusal-of-requires c κs = search needs
+
+is-largest-half-weight-requires : tie.Need-is-largest-half-weight-requires
+is-largest-half-weight-requires c κs = search needs
+
+is-probability-requires : tie.Need-is-probability-requires
+is-probability-requires c κs = search needs
+
+is-diagonal-probability-requires : tie.Need-is-diagonal-probability-requires
+is-diagonal-probability-requires c κs = search needs
+
+both-requires : tie.Need-both-requires
+both-requires c κs = search needs
+
+is-above-zero-requires : tie.Need-is-above-zero-requires
+is-above-zero-requires c κs = search needs
+
+number-of-requires : tie.Need-number-of-requires
+number-of-requires c κs = search needs
+
+returns : tie.Need-returns
+returns c =
+    let nine = c .before .before .both .ensures ∙ (λ k. (c .before .before .before .before .is-probability .ensures k) && (c .before .before .before .is-diagonal-probability .ensures k)) in
+    c .number-of .ensures ∙ (λ k. doorNumber (c .before .before .before .before .before .before .refusal-of .ensures k) (c .before .before .before .before .before .is-largest-half-weight .ensures k) (nine k) (c .before .is-above-zero .ensures k))
+
+pub new-refusal-spec : {M : Type 1} → statement M
+new-refusal-spec =
+    tie.close
+    (tie.spec
+    refusal-of-requires
+    is-largest-half-weight-requires
+    is-probability-requires
+    is-diagonal-probability-requires
+    both-requires
+    is-above-zero-requires
+    number-of-requires
+    returns)

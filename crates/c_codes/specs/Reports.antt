@@ -1,0 +1,51 @@
+-- What is handed to C for each kind of answer.
+use mathlib.Core.Path.{_≡_}
+use Rattle.example_codes.specs.declared.Created.{Created}
+use Rattle.example_codes.specs.CreateCode as created
+use Rattle.code_questions.specs.declared.Count.{Count}
+use Rattle.code_questions.specs.Answers as count
+use Rattle.weights.specs.declared.WeightOfP.{WeightOfP}
+use Rattle.weights.specs.Answers as weighed
+use Rattle.vertices.specs.declared.Verdict.{Verdict}
+use Rattle.vertices.specs.Sanity.{refusalNumber, verdictNumber, firstValue, secondValue}
+use Rattle.code_access.specs.declared.ListCount.{ListCount}
+use Rattle.code_access.specs.declared.SyndromeCounts.{SyndromeCounts}
+use Rattle.code_access.specs.declared.Truth.{Truth}
+use Rattle.code_access.specs.Answers.{listNumber, listCount, syndromeNumber, defectCount, erasureCount, truthNumber, truthValue}
+use Rattle.c_reports.specs.declared.OneCount.{OneCount}
+use Rattle.c_reports.specs.declared.TwoCounts.{TwoCounts}
+use Rattle.c_codes.specs.declared.reports.WeighedReport.{WeighedReport}
+use Rattle.c_codes.specs.declared.reports.TruthReport.{TruthReport}
+use Rattle.c_codes.specs.declared.reports.VerdictReport.{VerdictReport}
+
+pub record ReportsCreated (a : Created) (r : TwoCounts) : Type 0 where
+  pub number : r .number ≡ created.numberOf a
+  pub first : r .first ≡ created.verticesIn a
+  pub second : r .second ≡ created.edgesIn a
+
+pub record ReportsCount (a : Count) (r : OneCount) : Type 0 where
+  pub number : r .number ≡ count.numberOf a
+  pub count : r .count ≡ count.valueOf a
+
+pub record ReportsWeighed (a : WeightOfP) (r : WeighedReport) : Type 0 where
+  pub number : r .number ≡ weighed.numberOf a
+  pub weight : r .weight ≡ weighed.valueOf a
+
+pub record ReportsVerdict (a : Verdict) (r : VerdictReport) : Type 0 where
+  pub number : r .number ≡ refusalNumber a
+  pub verdict : r .verdict ≡ verdictNumber a
+  pub first : r .first ≡ firstValue a
+  pub second : r .second ≡ secondValue a
+
+pub record ReportsList (a : ListCount) (r : OneCount) : Type 0 where
+  pub number : r .number ≡ listNumber a
+  pub count : r .count ≡ listCount a
+
+pub record ReportsCounts (a : SyndromeCounts) (r : TwoCounts) : Type 0 where
+  pub number : r .number ≡ syndromeNumber a
+  pub first : r .first ≡ defectCount a
+  pub second : r .second ≡ erasureCount a
+
+pub record ReportsTruth (a : Truth) (r : TruthReport) : Type 0 where
+  pub number : r .number ≡ truthNumber a
+  pub value : r .value ≡ truthValue a

@@ -1,0 +1,52 @@
+ghost use Rattle.c_reports.specs.Reports.{Reported, ReportsDone};
+ghost use Rattle.c_codes.specs.Reports.{ReportsWeighed};
+ghost use Rattle.weights.specs.Answers.{weighed};
+ghost use Rattle.weights.specs.Calls.{weightDoor, ComputedWeights, SetEach};
+ghost use Rattle.weights.specs.Logarithm.{edgeWeight};
+ghost use Rattle.weights.specs.Probabilities.{isProbability, isErasureProbability};
+ghost use mathlib.Core.Path.{_≡_};
+use super::reports::WeighedReport;
+use super::reports::weighed_report;
+use c_reports::done_number;
+use columns::Weight;
+
+// The weight of an edge with probability p.
+#[no_mangle]
+pub extern "C" fn moldingcress_weight_of_p(p: f64) -> WeighedReport
+    ensures { λ q. ⌜ Reported ReportsWeighed (λ r. r ≡ weighed (weightDoor p) (edgeWeight p)) q ⌝ }
+{
+    weighed_report(weights::weight_of_p(p))
+}
+
+// Sets the half weight of each edge from the edges' probabilities.
+#[no_mangle]
+pub extern "C" fn moldingcress_compute_weights(
+    edge_num: u32,
+    p: &[f64],
+    half_weight: &mut [Weight],
+    max_half_weight: Weight,
+) -> u32
+    ensures { λ q. ⌜ Reported ReportsDone (λ r. ComputedWeights «edge_num» (now (p .entry)) (now («half_weight» .entry)) «max_half_weight» (now («half_weight» .exit)) r) q ⌝ }
+{
+    done_number(weights::compute_weights(edge_num, p, half_weight, max_half_weight))
+}
+
+// Sets the probability of each edge.
+#[no_mangle]
+pub extern "C" fn moldingcress_set_probability(edge_num: u32, p: f64, column: &mut [f64]) -> u32
+    ensures { λ q. ⌜ Reported ReportsDone (λ r. SetEach (isProbability p) «edge_num» p (now (column .entry)) (now (column .exit)) r) q ⌝ }
+{
+    done_number(weights::set_probability(edge_num, p, column))
+}
+
+// Sets the erasure probability of each edge.
+#[no_mangle]
+pub extern "C" fn moldingcress_set_erasure_probability(
+    edge_num: u32,
+    pe: f64,
+    column: &mut [f64],
+) -> u32
+    ensures { λ q. ⌜ Reported ReportsDone (λ r. SetEach (isErasureProbability pe) «edge_num» pe (now (column .entry)) (now (column .exit)) r) q ⌝ }
+{
+    done_number(weights::set_erasure_probability(edge_num, pe, column))
+}

@@ -1,0 +1,16 @@
+-- `c_engine::reports::end_of` meets its contract. Assumes nothing.
+use borrow.Author.Needs.{needs}
+use mathlib.Core.Path.{_≡_, sym, ap}
+use mathlib.Core.Bool.{Bool}
+use Rattle.c_engine.specs.Reports.{endOf}
+use Rattle.c_engine.proofs.reports.end_of.Statement.{statement}
+use Rattle.c_engine.proofs.reports.end_of.Tie as tie
+
+returns : tie.Need-returns
+returns c = ap (λ (b : Bool). endOf b (c .before .args .end)) (sym (c .if1 .taken))
+
+returns-2 : tie.Need-returns-2
+returns-2 c = search needs
+
+pub end-of-spec : {M : Type 1} → statement M
+end-of-spec = tie.close (tie.spec returns returns-2)

@@ -1,0 +1,19 @@
+-- What is handed to C for each kind of answer.
+use mathlib.Core.Path.{_≡_}
+use Rattle.paths.specs.declared.PathAnswer.{PathAnswer}
+use Rattle.paths.specs.GetPath.{numberOf, lengthOf, totalOf}
+use Rattle.crossings.specs.declared.CrossingReply.{CrossingReply}
+use Rattle.crossings.specs.Crossing.{replyNumber, replyWeight}
+use Rattle.c_reports.specs.declared.OneCount.{OneCount}
+use Rattle.c_reports.specs.declared.TwoCounts.{TwoCounts}
+
+-- the path's length and total
+pub record ReportsPath (a : PathAnswer) (r : TwoCounts) : Type 0 where
+  pub number : r .number ≡ numberOf a
+  pub first : r .first ≡ lengthOf a
+  pub second : r .second ≡ totalOf a
+
+-- the crossing weight
+pub record ReportsCrossing (a : CrossingReply) (r : OneCount) : Type 0 where
+  pub number : r .number ≡ replyNumber a
+  pub count : r .count ≡ replyWeight a

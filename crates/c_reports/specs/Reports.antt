@@ -1,0 +1,16 @@
+-- What an exported function hands to C for an answer of the library: document 01's number, 0 where the call was accepted, and its values,
+-- 0 where it was refused. The definitions of the numbers and values are those of the crates.
+use Prim.Native.Nat.{ℕ}
+use mathlib.Core.Path.{_≡_}
+use Rattle.columns.specs.declared.Done.{Done}
+use Rattle.columns.specs.Answers.{numberOf}
+
+-- a call of the library that meets its contract gave an answer, and r is what is reported of it
+pub record Reported {A : Type 0} {B : Type 0} (Reports : A → B → Type 0) (Call : A → Type 0) (r : B) : Type 0 where
+  pub answer : A
+  pub called : Call answer
+  pub reported : Reports answer r
+
+-- an answer that has no value: its number
+abbrev pub ReportsDone : Done → ℕ → Type 0
+ReportsDone a r = r ≡ numberOf a

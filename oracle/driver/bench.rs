@@ -1,0 +1,326 @@
+//! Every figure of the measures, ours and the Rust's in one run: kind 4, d 15, rounds 16 (4,080 vertices, 19,685 edges).
+//! Each figure is the least time of many repeats; the repeats of the things compared take turns.
+#[allow(dead_code)]
+mod common;
+mod plain;
+/// the exported functions of the proved library; oracle/bindings writes this file
+#[allow(dead_code)]
+mod ours {
+    include!(env!("ORACLE_OURS"));
+}
+
+use common::*;
+use fusion::example_codes::*;
+use fusion::util::*;
+use std::hint::black_box;
+use std::time::Instant;
+
+/// the least time in seconds of each of the closures, which take turns for `rounds` rounds
+fn best(rounds: usize, turns: &mut [(&mut dyn FnMut(), f64)]) {
+    for _ in 0..rounds {
+        for (f, least) in turns.iter_mut() {
+            let started = Instant::now();
+            f();
+            *least = least.min(started.elapsed().as_secs_f64());
+        }
+    }
+}
+
+fn two(rounds: usize, mut ours: impl FnMut(), mut other: impl FnMut()) -> (f64, f64) {
+    let mut turns: [(&mut dyn FnMut(), f64); 2] = [(&mut ours, f64::MAX), (&mut other, f64::MAX)];
+    best(rounds, &mut turns);
+    (turns[0].1, turns[1].1)
+}
+
+fn us(seconds: f64) -> String {
+    format!("{:.1}", seconds * 1e6)
+}
+
+fn row(what: &str, ours: f64, other: f64, asked: &str, met: bool) {
+    println!(
+        "| {what} | {} | {} | {:.3} | {:.1} | {asked} | {} |",
+        us(ours),
+        us(other),
+        ours / other,
+        other / ours,
+        if asked.is_empty() {
+            ""
+        } else if met {
+            "yes"
+        } else {
+            "NO"
+        }
+    );
+}
+
+fn main() {
+    const D: u32 = 15;
+    const ROUNDS: u32 = 16;
+    const P: f64 = 0.005;
+    const M: u32 = 500;
+    let quick = std::env::args().any(|x| x == "quick");
+    let times = |n: usize| if quick { (n / 10).max(3) } else { n };
+    let mut inputs = Inputs(1);
+
+    println!("| what | ours, µs | other, µs | ours/other | other/ours | asked | met |");
+    println!("|---|---|---|---|---|---|---|");
+
+    // ---- building
+    let mut columns = Columns::blank();
+    let (ours, rust) = two(
+        times(400),
+        || {
+            black_box(columns.create(4, D, ROUNDS));
+        },
+        || {
+            black_box(CircuitLevelPlanarCode::create_code(D as VertexNum, ROUNDS as VertexNum));
+        },
+    );
+    row("`create_code`, Rust", ours, rust, "", true);
+    let (v, e) = (columns.v as usize, columns.e as usize);
+    let build = |columns: &mut Columns| {
+        columns.create(4, D, ROUNDS);
+        ours::set_probability(columns.e, P, &mut columns.p);
+        ours::compute_weights(columns.e, &columns.p, &mut columns.half_weight, M)
+    };
+    #[cfg(feature = "new")]
+    {
+        let (ours, rust) = two(
+            times(200),
+            || {
+                black_box(columns.new_code(4, D, ROUNDS, P, M));
+            },
+            || {
+                black_box(CircuitLevelPlanarCode::new(D as VertexNum, ROUNDS as VertexNum, P, M as Weight));
+            },
+        );
+        row("`new`, Rust", ours, rust, "faster", ours < rust);
+    }
+    {
+        let (ours, rust) = two(
+            times(200),
+            || {
+                black_box(build(&mut columns));
+            },
+            || {
+                black_box(CircuitLevelPlanarCode::new_diagonal(D as VertexNum, ROUNDS as VertexNum, P, M as Weight, None));
+            },
+        );
+        row("`create_code`, `set_probability`, `compute_weights`, Rust's `new_diagonal` with None", ours, rust, "", true);
+    }
+    let mut code = CircuitLevelPlanarCode::new(D as VertexNum, ROUNDS as VertexNum, P, M as Weight);
+    columns.p[..e].copy_from_slice(&code.edges.iter().map(|x| x.p).collect::<Vec<_>>());
+    let recipe = fusion_recipe::example_codes::CircuitLevelPlanarCode::new(
+        D as fusion_recipe::util::VertexNum,
+        ROUNDS as fusion_recipe::util::VertexNum,
+        P,
+        M as fusion_recipe::util::Weight,
+    );
+    let mut recipe_code = recipe.clone();
+
+    // ---- weights
+    for m in [M, 250_000] {
+        let (ours, rust) = two(
+            times(200),
+            || {
+                black_box(ours::compute_weights(columns.e, &columns.p, &mut columns.half_weight, m));
+            },
+            || code.compute_weights(m as Weight),
+        );
+        row(&format!("`compute_weights`, M {m}, Rust with `ln`"), ours, rust, "", true);
+        let (ours, rust) = two(
+            times(200),
+            || {
+                black_box(ours::compute_weights(columns.e, &columns.p, &mut columns.half_weight, m));
+            },
+            || {
+                use fusion_recipe::example_codes::ExampleCode;
+                recipe_code.compute_weights(m as fusion_recipe::util::Weight)
+            },
+        );
+        row(&format!("`compute_weights`, M {m}, Rust with the recipe"), ours, rust, "", true);
+    }
+    code.compute_weights(M as Weight);
+    ours::compute_weights(columns.e, &columns.p, &mut columns.half_weight, M);
+    assert!((0..e).all(|k| columns.half_weight[k] as i64 == recipe.edges[k].half_weight as i64));
+
+    // ---- sanity_check
+    let (ours, rust) = two(
+        times(400),
+        || {
+            black_box(ours::sanity_check(columns.v, columns.e, &columns.a, &columns.b, &columns.lengths, &columns.numbers));
+        },
+        || {
+            black_box(code.sanity_check().is_ok());
+        },
+    );
+    row("`sanity_check`, Rust", ours, rust, "faster", ours < rust);
+
+    // ---- sampling
+    columns.pe[..e].fill(0.01);
+    code.set_erasure_probability(0.01);
+    let (mut defects, mut erasures) = (vec![0u32; v], vec![0u32; e]);
+    let mut seed = 0;
+    let (ours, rust) = two(
+        times(600),
+        || {
+            seed += 1;
+            black_box(ours::generate_random_errors(
+                seed,
+                columns.v,
+                columns.e,
+                &columns.a,
+                &columns.b,
+                &columns.p,
+                &columns.pe,
+                &columns.boundary,
+                &mut columns.defect,
+                &mut columns.erasure,
+                &mut defects,
+                &mut erasures,
+            ));
+        },
+        || {
+            black_box(code.generate_random_errors(seed_of()));
+        },
+    );
+    row("`generate_random_errors`, Rust", ours, rust, "at most 1.2", ours <= 1.2 * rust);
+
+    // ---- reordering
+    let order = inputs.order(v);
+    let order_wide = wide(&order);
+    let mut scratch = vec![0u32; columns.numbers.len()];
+    let mut moved = columns.clone();
+    let mut moved_code = code.clone();
+    let (ours, rust) = two(
+        times(400),
+        || {
+            black_box(ours::reorder_vertices(
+                moved.v,
+                moved.e,
+                &order,
+                &mut moved.a,
+                &mut moved.b,
+                &mut moved.boundary,
+                &mut moved.defect,
+                &mut moved.i,
+                &mut moved.j,
+                &mut moved.t,
+                &mut moved.lengths,
+                &mut moved.numbers,
+                &mut scratch,
+            ));
+        },
+        || moved_code.reorder_vertices(&order_wide),
+    );
+    row("`reorder_vertices`, Rust", ours, rust, "faster", ours < rust);
+
+    // ---- the engine
+    let weights: Vec<u32> = columns.half_weight[..e].iter().map(|&x| 2 * x).collect();
+    let graph = Graph {
+        v: columns.v,
+        a: columns.a[..e].to_vec(),
+        b: columns.b[..e].to_vec(),
+        weights: weights.clone(),
+        boundary: columns.boundary[..v].to_vec(),
+    };
+    let mut rust = graph.rust();
+    let mut engine = Engine::open(graph.v, &graph.a, &graph.b, &graph.weights, &graph.boundary, e).unwrap();
+    let listed: Vec<u32> = inputs.list(e / 100, e);
+    let listed_wide = wide(&listed);
+    let (ours, theirs) = {
+        let engine = std::cell::RefCell::new(&mut engine);
+        let rust = std::cell::RefCell::new(&mut rust);
+        two(
+            times(600),
+            || {
+                let mut engine = engine.borrow_mut();
+                black_box(engine.load_erasures(&listed));
+                black_box(engine.reset());
+            },
+            || {
+                let mut rust = rust.borrow_mut();
+                rust.load_erasures(&listed_wide);
+                rust.reset();
+            },
+        )
+    };
+    row("load of 1 percent of the edges and reset, Rust", ours, theirs, "under 1,000 µs", ours < 1e-3);
+    let (door, _) = two(
+        times(600),
+        || {
+            black_box(engine.reset());
+        },
+        || {},
+    );
+    println!("| the questions of an engine call (`reset` on an empty log) | {} | | | | | |", us(door));
+
+    let source = 2040;
+    let mut engine_2 = engine.clone();
+    let (ours, theirs) = two(
+        times(150),
+        || {
+            black_box(engine_2.all_edges(source));
+        },
+        || {
+            black_box(rust.all_edges(source as VertexIndex));
+        },
+    );
+    row("`all_edges`, Rust", ours, theirs, "at least 4 times as fast", theirs >= 4. * ours);
+    let csr = plain::Csr::new(v, &graph.a, &graph.b);
+    let mut search = plain::IndexedHeap::new(v);
+    let (mut weight, mut previous) = (vec![0i32; v], vec![0u32; v]);
+    let (ours, lists) = two(
+        times(400),
+        || {
+            black_box(engine_2.all_edges(source));
+        },
+        || {
+            let csr = plain::Csr::new(v, &graph.a, &graph.b);
+            search.all_edges(&csr, &graph.weights, source, &mut weight, &mut previous);
+        },
+    );
+    row("`all_edges`, plain CSR and indexed heap, lists built", ours, lists, "at most 2", ours <= 2. * lists);
+    assert!(weight == engine_2.out_weight && previous == engine_2.out_previous);
+    let (ours, bare) = two(
+        times(400),
+        || {
+            black_box(engine_2.all_edges(source));
+        },
+        || search.all_edges(&csr, &graph.weights, source, &mut weight, &mut previous),
+    );
+    row("`all_edges`, plain CSR and indexed heap, lists at hand", ours, bare, "at most 2", ours <= 2. * bare);
+
+    #[cfg(feature = "crossing")]
+    {
+        let lefts: Vec<u32> = (0..v as u32).filter(|&k| graph.boundary[k as usize] == 1).collect();
+        // the Rust's tables from each left vertex
+        let mut pass = f64::MAX;
+        for _ in 0..times(10) {
+            let started = Instant::now();
+            for &left in &lefts {
+                black_box(rust.all_edges(left as VertexIndex));
+            }
+            pass = pass.min(started.elapsed().as_secs_f64());
+        }
+        let mut least = vec![0i32; v];
+        let mut across = None;
+        let (ours, theirs) = two(
+            times(600),
+            || {
+                black_box(engine_2.crossing());
+            },
+            || across = plain::crossing(v, &graph.a, &graph.b, &graph.weights, &graph.boundary, &mut least),
+        );
+        row(&format!("`crossing`, Rust's `all_edges` from each of {} left vertices", lefts.len()), ours, pass, "at least 1,000 times as fast", pass >= 1000. * ours);
+        row("`crossing`, plain CSR and binary heap, lists built", ours, theirs, "at most 2.5", ours <= 2.5 * theirs);
+        assert!(Some(engine_2.crossing().count) == across && engine_2.out_weight == least);
+    }
+}
+
+/// seeds for the Rust's sampling, as many as ours
+fn seed_of() -> u64 {
+    use std::sync::atomic::{AtomicU64, Ordering};
+    static SEED: AtomicU64 = AtomicU64::new(0);
+    SEED.fetch_add(1, Ordering::Relaxed) + 1
+}

@@ -56,17 +56,32 @@ module _ {A : Type 0} (test : A → Bool) where
         ap (λ (k : ℕ). all test (take k s)) (add-one i) ∙ ap (all test) (take-suc s i d h)
         ∙ all-append (take i s) (getD s i d ∷ []) ∙ both-and p (both-and q refl)
 
+    -- the test of one element more
+    pub all-next : (i : ℕ) → i < length s → all test (take (i + 1) s) ≡ (all test (take i s) && test (getD s i d))
+    unfolding all
+    all-next i h =
+        ap (λ (k : ℕ). all test (take k s)) (add-one i) ∙ ap (all test) (take-suc s i d h)
+        ∙ all-append (take i s) (getD s i d ∷ []) ∙ ap (λ b. all test (take i s) && b) (last (test (getD s i d)))
+      where
+        last : (b : Bool) → (b && true) ≡ b
+        last true = refl
+        last false = refl
+
     pub all-fails : (n i : ℕ) → i < n → i < length s → test (getD s i d) ≡ false → all test (take n s) ≡ false
     all-fails n i k h e = all-not (take n s) d i (omega (arith, length-take n s)) (ap test (getD-take n s i d k) ∙ e)
 
-    pub all-end : (n i : ℕ) → i ≤ n → min n (length s) ≤ i → all test (take i s) ≡ true → all test (take n s) ≡ true
-    all-end n i k h p = ap (all test) (first-min s n i k h) ∙ p
+    -- past the list's end there is nothing to test
+    pub all-whole : (n i : ℕ) → i ≤ n → min n (length s) ≤ i → all test (take n s) ≡ all test (take i s)
+    all-whole n i k h = ap (all test) (first-min s n i k h)
       where
         first-min : (s : List A) (n i : ℕ) → i ≤ n → min n (length s) ≤ i → take n s ≡ take i s
         first-min s n i k h = elim (native.Mathlib.Decide.decLe n i) [
           | yes l ↦ ap (λ (j : ℕ). take j s) (native.Mathlib.Nat.le-antisymm l k)
           | no l ↦ take-all n s (omega arith) ∙ sym (take-all i s (omega arith))
         ]
+
+    pub all-end : (n i : ℕ) → i ≤ n → min n (length s) ≤ i → all test (take i s) ≡ true → all test (take n s) ≡ true
+    all-end n i k h p = all-whole n i k h ∙ p
 
 -- every number below a count
 module _ (test : ℕ → Bool) where

@@ -65,13 +65,12 @@ pub fn all_below(s: &[u32], n: usize, limit: u32) -> bool
 {
     let m = lesser(n, s.len());
     let mut i: usize = 0;
+    let mut below = true;
     while i < m {
-        if limit <= s[i] {
-            return false;
-        }
+        below = both(below, s[i] < limit);
         i += 1;
     }
-    true
+    below
 }
 
 // Question 13, of a list that a caller hands over: whether every number is below the limit.

@@ -55,6 +55,13 @@ node-put node leaf n i x pi li mi e s k p l d =
     (λ other. node-other node leaf n i x k other ∙ s k p l other
     ∙ (λ j. min (sym (node-other node leaf n i x (2 * k) (λ q. d (omega arith))) j) (sym (node-other node leaf n i x (2 * k + 1) (λ q. d (omega arith))) j)))
 
+-- a tree whose stale place turns out to hold the lesser of its children is sound
+pub none-stale : (node leaf : List ℕ) (n i : ℕ) → i < n → getD node i 0 ≡ min (placeOf node leaf n (2 * i)) (placeOf node leaf n (2 * i + 1)) → TreeBut node leaf n i → Tree node leaf n
+none-stale node leaf n i l e s k p h =
+    by-eq k i
+    (λ same. subst (λ (z : ℕ). Inner node leaf n z) (sym same) (inner-is node leaf n i l ∙ e))
+    (λ other. s k p h other)
+
 -- place 1 is at most what any place holds. `f` bounds j, so that the recursion ends
 root-under : (node leaf : List ℕ) (n : ℕ) → Tree node leaf n → (f j : ℕ) → j ≤ f → 0 < j → j < n + n → placeOf node leaf n 1 ≤ placeOf node leaf n j
 root-under node leaf n s zero j b p l = absurd (omega arith)

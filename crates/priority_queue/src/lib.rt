@@ -21,7 +21,7 @@ pub fn place(node: &[u64], leaf: &[u64], n: usize, j: usize) -> u64
     leaf[j - n]
 }
 
-// Makes the places from place `from` upwards hold the lesser of their children again.
+// Makes the places from place `from` upwards hold the lesser of their children again, up to the first that holds it already.
 fn raise(node: &mut [u64], leaf: &[u64], n: usize, from: usize)
     requires { ⌜ Room (now node) (now leaf) n ⌝ ∗ ⌜ from < n ⌝ ∗ ⌜ n ≤ 4096 ⌝ ∗ ⌜ TreeBut (now node) (now leaf) n from ⌝ }
     ensures { λ _. ⌜ Tree (now (node .exit)) (now (leaf .entry)) n ⌝ }
@@ -31,7 +31,11 @@ fn raise(node: &mut [u64], leaf: &[u64], n: usize, from: usize)
     while 0 < i {
         let a = place(node, leaf, n, 2 * i);
         let b = place(node, leaf, n, 2 * i + 1);
-        node[i] = lesser(a, b);
+        let key = lesser(a, b);
+        if node[i] == key {
+            return;
+        }
+        node[i] = key;
         i = i / 2;
     }
 }

@@ -122,7 +122,13 @@ fn fill_one(
         leaf,
     );
     let n = c.vertices as usize;
-    store_boundary(&boundary[..n], &least[..n], v as usize, out_weight, out_vertex);
+    store_boundary(
+        &boundary[..n],
+        &least[..n],
+        v as usize,
+        out_weight,
+        out_vertex,
+    );
 }
 
 // The same for every vertex.
@@ -219,7 +225,10 @@ pub fn fill_boundaries(
         node.len(),
         leaf.len(),
     );
-    let search = both(at_most(v, least.len()), both(at_most(v, before.len()), scratch));
+    let search = both(
+        at_most(v, least.len()),
+        both(at_most(v, before.len()), scratch),
+    );
     let fits = both(
         at_most(v, out_weight.len()),
         both(at_most(v, out_vertex.len()), search),

@@ -37,7 +37,7 @@ same-length-2 : tie.Need-same-length-2
 same-length-2 c = search needs
 
 returns : tie.Need-returns
-returns c = 
+returns c =
     let s = c .before .before .before .before .before in
     let p = place-says (s .args .boundary .now) (s .args .least .now) (s .args .v) (c .before .before .boundary-place .result) (c .before .before .boundary-place .ensures) in
     (ap (set (s .args .out-weight .now) (s .args .v)) (toZ-ofZ {w = w32} (sfits-of (c .before .weight-at .ok)) ∙ c .before .weight-at .ensures ∙ p .0), ap (set (s .args .out-vertex .now) (s .args .v)) (c .number-of .ensures ∙ p .1))

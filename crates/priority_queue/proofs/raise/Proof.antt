@@ -46,7 +46,7 @@ same-length : tie.Need-same-length Inv-loop μ-loop
 same-length c = search needs
 
 returns : tie.Need-returns Inv-loop μ-loop
-returns c = 
+returns c =
     let l = c .before .before .before .before .before .before .before .before .loop in
     let made : c .before .before .lesser .result ≡ min (placeOf (l .node) _ _ (2 * l .i)) (placeOf (l .node) _ _ (2 * l .i + 1)) =
     c .before .before .lesser .ensures ∙ (λ j. min (c .before .before .before .before .before .place .ensures j) (c .before .before .before .place2 .ensures j)) in
@@ -62,7 +62,7 @@ loop-less : tie.Need-loop-less Inv-loop μ-loop
 loop-less c = search needs
 
 loop-again : tie.Need-loop-again Inv-loop μ-loop
-loop-again c = 
+loop-again c =
     let l = c .before .before .before .before .before .before .before .before .loop in
     let made : c .before .before .lesser .result ≡ min (placeOf (l .node) _ _ (2 * l .i)) (placeOf (l .node) _ _ (2 * l .i + 1)) =
     c .before .before .lesser .ensures ∙ (λ j. min (c .before .before .before .before .before .place .ensures j) (c .before .before .before .place2 .ensures j)) in

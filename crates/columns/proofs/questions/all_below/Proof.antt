@@ -43,13 +43,13 @@ loop-less : tie.Need-loop-less Inv-loop μ-loop
 loop-less c = search needs
 
 loop-again : tie.Need-loop-again Inv-loop μ-loop
-loop-again c = 
+loop-again c =
     let s = c .before .before .before .before .before .before .args in
     let at = c .before .before .before .loop in
     (search needs, at .inv .1, c .both .ensures ∙ ap (λ b. b && ltb (getD (s .s .now) (at .i) 0) (s .limit)) (at .inv .2) ∙ sym (all-next (passes (s .limit)) (s .s .now) 0 (at .i) (omega (arith, at .inv .1))))
 
 returns : tie.Need-returns Inv-loop μ-loop
-returns c = 
+returns c =
     let s = c .before .before .before .before .args in
     let at = c .before .loop in
     at .inv .2 ∙ sym (all-whole (passes (s .limit)) (s .s .now) 0 (s .n) (at .i) (omega (arith, at .inv .1)) (omega (arith, at .inv .1)))

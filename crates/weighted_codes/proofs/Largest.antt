@@ -21,7 +21,8 @@ use Rattle.weights.specs.Calls.{larger, largest, largestWeight, edgeWeights}
 use Rattle.weights.specs.declared.diagonal.DiagonalProbability.{DiagonalProbability}
 use Rattle.weights.specs.declared.diagonal.DiagonalProbability.the-variants.{None, Given}
 use Rattle.weighted_codes.specs.Probabilities.{probabilities}
-use Rattle.weighted_codes.specs.Steps.{DiagonalKind, diagonalP, largestOf}
+use Rattle.code_weights.specs.Steps.{diagonalP, largestOf}
+use Rattle.weighted_codes.specs.Steps.{DiagonalKind}
 use Rattle.weighted_codes.proofs.TwoWeights.{weightOf, first-v, all-first, some-either}
 use Rattle.weighted_codes.proofs.Diagonals.{diagonalEdge, some-edge, none-diagonal, first-plain, some-diagonal}
 

@@ -39,10 +39,11 @@ use Rattle.example_codes.specs.declared.Created.the-variants.{Code, Refused}
 use Rattle.example_codes.specs.Columns.{CodeColumns, edgeRoom, vertexRoom, longEnough}
 use Rattle.example_codes.specs.CreateCode.{created, refusal, refusalIn, newColumns, CodeCreated}
 use Rattle.example_codes.proofs.Outcome.{Open, opened, edges-long}
-use Rattle.weighted_codes.specs.declared.Weighed.{Weighed}
+use Rattle.code_weights.specs.declared.Weighed.{Weighed}
 use Rattle.weighted_codes.specs.Probabilities.{positionOf, probabilities, diagonalOf}
 use Rattle.weighted_codes.specs.NewCode.{newRefusal, newRefusalIn, weightedColumns, HandedBack, Weighted}
-use Rattle.weighted_codes.specs.Steps.{DiagonalKind, diagonalP, largestOf, weighedOf, doorNumber, diagonalAt, WeighRoom, EdgesWeighed}
+use Rattle.code_weights.specs.Steps.{diagonalP, largestOf, weighedOf, doorNumber, diagonalAt, WeighRoom, EdgesWeighed}
+use Rattle.weighted_codes.specs.Steps.{DiagonalKind}
 use Rattle.weighted_codes.proofs.Diagonals.{diagonalEdge}
 use Rattle.weighted_codes.proofs.Largest.{by-test, largest-is}
 

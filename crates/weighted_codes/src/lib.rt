@@ -1,31 +1,31 @@
 // Codes with probabilities and half weights: `new` and `new_diagonal`.
-mod door;
-mod weigh;
-
+use code_weights::door::largest_weight;
+use code_weights::door::weights_refusal;
+use code_weights::weigh::diagonal_p;
+use code_weights::weigh::weigh_edges;
+use code_weights::weigh::weighed;
 use columns::Weight;
-use door::largest_weight;
-use door::new_refusal;
 use example_codes::Created;
 use example_codes::create::create_code;
+use example_codes::create::refusal_of;
 use example_codes::create::shortest_of;
-use weigh::diagonal_p;
-use weigh::weigh_edges;
-use weigh::weighed;
 use weights::diagonal::DiagonalProbability;
 use weights::diagonal::new_diagonal_probability;
 ghost use mathlib.Core.Path.{_≡_};
+ghost use mathlib.Core.Bool.{_&&_};
+ghost use lib.Ieee.{lt};
+ghost use Rattle.columns.specs.Places.{zeroFloat};
+ghost use Rattle.weights.specs.Probabilities.{isProbability};
+ghost use Rattle.weights.specs.Diagonal.{isDiagonalProbability};
+ghost use Rattle.weights.specs.Calls.{isLargestHalfWeight};
 ghost use Rattle.layers.specs.Counts.{edgeNum};
 ghost use Rattle.layers.specs.Accepts.{Buildable};
 ghost use Rattle.example_codes.specs.Columns.{CodeColumns};
+ghost use Rattle.example_codes.specs.CreateCode.{refusal};
+ghost use Rattle.code_weights.specs.Steps.{doorNumber};
 ghost use Rattle.weighted_codes.specs.Probabilities.{diagonalOf};
 ghost use Rattle.weighted_codes.specs.NewCode.{WeightedCode, NewCode, NewDiagonal};
 ghost use Rattle.weighted_codes.specs.Steps.{DiagonalKind};
-
-// What an edge gets.
-struct Weighed {
-    p: f64,
-    half: Weight,
-}
 
 // The diagonal probability that `new` gives.
 fn diagonal_of(kind: u32, p: f64) -> DiagonalProbability
@@ -44,6 +44,25 @@ fn edge_count(kind: u32, d: u32, rounds: u32) -> usize
     ensures { λ r. ⌜ r ≡ edgeNum kind d rounds ⌝ }
 {
     layers::counts::edge_num(kind, d, rounds) as usize
+}
+
+// The number of the first question that is not met, 0 where there is none.
+fn new_refusal(
+    kind: u32,
+    d: u32,
+    rounds: u32,
+    p: f64,
+    diagonal: DiagonalProbability,
+    max_half_weight: Weight,
+    largest: f64,
+    vertex_room: usize,
+    edge_room: usize,
+    numbers: usize,
+) -> u32
+    ensures { λ r. ⌜ r ≡ doorNumber (refusal kind d rounds «vertex_room» «edge_room» numbers) (isLargestHalfWeight «max_half_weight») (isProbability p && isDiagonalProbability diagonal) (lt zeroFloat largest) ⌝ }
+{
+    let q = refusal_of(kind, d, rounds, vertex_room, edge_room, numbers);
+    weights_refusal(q, p, diagonal, max_half_weight, largest)
 }
 
 // Builds a code: questions 2 to 6 and 8 to 10, then every column's first places. Question 10 is decided from the two probabilities, before anything is written.

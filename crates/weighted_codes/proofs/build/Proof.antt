@@ -5,7 +5,7 @@ use Rattle.example_codes.specs.Columns.{CodeColumns}
 use Rattle.example_codes.specs.CreateCode.{refusalIn}
 use Rattle.example_codes.proofs.Outcome.{Open, opened}
 use Rattle.weighted_codes.specs.NewCode.{newRefusalIn}
-use Rattle.weighted_codes.specs.Steps.{weighedOf}
+use Rattle.code_weights.specs.Steps.{weighedOf}
 use Rattle.weighted_codes.proofs.Outcome.{number-is, told, created-too, refused, weigh-room, built}
 use borrow.Author.Needs.{needs}
 use Rattle.weighted_codes.proofs.build.Statement.{statement}

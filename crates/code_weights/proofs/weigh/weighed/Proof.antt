@@ -1,10 +1,10 @@
--- `weighted_codes::weigh::weighed` meets its contract. Assumes nothing.
+-- `code_weights::weigh::weighed` meets its contract. Assumes nothing.
 use mathlib.Core.Path.{_≡_, refl, sym, ap, _∙_}
 use lib.Ieee.{Float}
 use Rattle.weights.specs.Rounding.{halfWeight}
 use borrow.Author.Needs.{needs}
-use Rattle.weighted_codes.proofs.weigh.weighed.Statement.{statement}
-use Rattle.weighted_codes.proofs.weigh.weighed.Tie as tie
+use Rattle.code_weights.proofs.weigh.weighed.Statement.{statement}
+use Rattle.code_weights.proofs.weigh.weighed.Tie as tie
 
 edge-weight-requires : tie.Need-edge-weight-requires
 edge-weight-requires c κs = search needs

@@ -1,4 +1,4 @@
--- `weighted_codes::door::largest_weight` meets its contract. Assumes nothing.
+-- `code_weights::door::largest_weight` meets its contract. Assumes nothing.
 use mathlib.Core.Path.{_≡_, refl, sym, ap, _∙_}
 use mathlib.Core.Bool.{Bool, cond}
 use lib.Ieee.{Float}
@@ -6,10 +6,10 @@ use borrow.Author.Tests.{eq-eqb, ne-eqb}
 use Rattle.columns.specs.Places.{zeroFloat}
 use Rattle.weights.specs.Logarithm.{edgeWeight}
 use Rattle.weights.specs.Calls.{larger}
-use Rattle.weighted_codes.specs.Steps.{diagonalP, largestOf}
+use Rattle.code_weights.specs.Steps.{diagonalP, largestOf}
 use borrow.Author.Needs.{needs}
-use Rattle.weighted_codes.proofs.door.largest_weight.Statement.{statement}
-use Rattle.weighted_codes.proofs.door.largest_weight.Tie as tie
+use Rattle.code_weights.proofs.door.largest_weight.Statement.{statement}
+use Rattle.code_weights.proofs.door.largest_weight.Tie as tie
 
 edge-weight-requires : tie.Need-edge-weight-requires
 edge-weight-requires c κs = search needs

@@ -1,13 +1,13 @@
--- `weighted_codes::weigh::diagonal_at` meets its contract. Assumes nothing.
+-- `code_weights::weigh::diagonal_at` meets its contract. Assumes nothing.
 use mathlib.Core.Path.{_≡_, refl, sym, ap, _∙_}
 use Prim.Native.Nat.{ℕ}
 use Rattle.columns.specs.Places.{positionAt}
 use Rattle.columns.specs.declared.VisualizePosition.{VisualizePosition}
 use Rattle.weights.specs.Diagonal.{isDiagonal}
-use Rattle.weighted_codes.specs.Steps.{diagonalAt}
+use Rattle.code_weights.specs.Steps.{diagonalAt}
 use borrow.Author.Needs.{needs}
-use Rattle.weighted_codes.proofs.weigh.diagonal_at.Statement.{statement}
-use Rattle.weighted_codes.proofs.weigh.diagonal_at.Tie as tie
+use Rattle.code_weights.proofs.weigh.diagonal_at.Statement.{statement}
+use Rattle.code_weights.proofs.weigh.diagonal_at.Tie as tie
 
 mul-wide : tie.Need-mul-wide
 mul-wide c = search needs

@@ -1,13 +1,13 @@
--- `weighted_codes::door::number_of` meets its contract. Assumes nothing.
+-- `code_weights::door::number_of` meets its contract. Assumes nothing.
 use mathlib.Core.Path.{_≡_, refl, sym, ap, _∙_}
 use mathlib.Core.Bool.{Bool, cond}
 use Prim.Native.Nat.{ℕ}
 use borrow.Author.Tests.{eq-eqb, ne-eqb}
 use Rattle.columns.specs.Questions.{ask}
-use Rattle.weighted_codes.specs.Steps.{doorNumber}
+use Rattle.code_weights.specs.Steps.{doorNumber}
 use borrow.Author.Needs.{needs}
-use Rattle.weighted_codes.proofs.door.number_of.Statement.{statement}
-use Rattle.weighted_codes.proofs.door.number_of.Tie as tie
+use Rattle.code_weights.proofs.door.number_of.Statement.{statement}
+use Rattle.code_weights.proofs.door.number_of.Tie as tie
 
 asked-requires : tie.Need-asked-requires
 asked-requires c κs = search needs

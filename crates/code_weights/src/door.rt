@@ -1,4 +1,4 @@
-// Questions 2 to 6 and 8 to 10.
+// The largest weight, and questions 8 to 10.
 ghost use mathlib.Core.Path.{_≡_};
 ghost use mathlib.Core.Bool.{_&&_};
 ghost use lib.Ieee.{lt};
@@ -6,13 +6,11 @@ ghost use Rattle.columns.specs.Places.{zeroFloat};
 ghost use Rattle.weights.specs.Probabilities.{isProbability};
 ghost use Rattle.weights.specs.Diagonal.{isDiagonalProbability};
 ghost use Rattle.weights.specs.Calls.{isLargestHalfWeight};
-ghost use Rattle.example_codes.specs.CreateCode.{refusal};
-ghost use Rattle.weighted_codes.specs.Steps.{largestOf, doorNumber};
+ghost use Rattle.code_weights.specs.Steps.{largestOf, doorNumber};
 use super::weigh::diagonal_p;
 use columns::Weight;
 use columns::questions::asked;
 use columns::questions::both;
-use example_codes::create::refusal_of;
 use weights::diagonal::DiagonalProbability;
 use weights::diagonal::is_diagonal_probability;
 use weights::is_above_zero;
@@ -38,22 +36,16 @@ fn number_of(q: u32, eight: bool, nine: bool, ten: bool) -> u32
     if q == 0 { rest } else { q }
 }
 
-// The number of the first question that is not met, 0 where there is none.
-pub fn new_refusal(
-    kind: u32,
-    d: u32,
-    rounds: u32,
+// The number of the first question that is not met, 0 where there is none; q is that of questions 2 to 6.
+pub fn weights_refusal(
+    q: u32,
     p: f64,
     diagonal: DiagonalProbability,
     max_half_weight: Weight,
     largest: f64,
-    vertex_room: usize,
-    edge_room: usize,
-    numbers: usize,
 ) -> u32
-    ensures { λ r. ⌜ r ≡ doorNumber (refusal kind d rounds «vertex_room» «edge_room» numbers) (isLargestHalfWeight «max_half_weight») (isProbability p && isDiagonalProbability diagonal) (lt zeroFloat largest) ⌝ }
+    ensures { λ r. ⌜ r ≡ doorNumber q (isLargestHalfWeight «max_half_weight») (isProbability p && isDiagonalProbability diagonal) (lt zeroFloat largest) ⌝ }
 {
-    let q = refusal_of(kind, d, rounds, vertex_room, edge_room, numbers);
     let eight = is_largest_half_weight(max_half_weight);
     let nine = both(is_probability(p), is_diagonal_probability(diagonal));
     let ten = is_above_zero(largest);

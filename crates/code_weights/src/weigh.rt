@@ -3,7 +3,7 @@ ghost use mathlib.Core.Path.{_≡_};
 ghost use mathlib.Core.Bool.{cond};
 ghost use Prim.Native.Nat.{_<_};
 ghost use lib.ListN.{length, set};
-ghost use Rattle.weighted_codes.specs.Steps.{diagonalP, weighedOf, diagonalAt, WeighRoom, EdgesWeighed};
+ghost use Rattle.code_weights.specs.Steps.{diagonalP, weighedOf, diagonalAt, WeighRoom, EdgesWeighed};
 use super::Weighed;
 use columns::VisualizePosition;
 use columns::Weight;

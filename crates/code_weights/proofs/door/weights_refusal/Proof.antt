@@ -1,13 +1,10 @@
--- `weighted_codes::door::new_refusal` meets its contract. Assumes nothing.
+-- `code_weights::door::weights_refusal` meets its contract. Assumes nothing.
 use mathlib.Core.Path.{_≡_, refl, sym, ap, _∙_}
 use mathlib.Core.Bool.{_&&_}
-use Rattle.weighted_codes.specs.Steps.{doorNumber}
+use Rattle.code_weights.specs.Steps.{doorNumber}
 use borrow.Author.Needs.{needs}
-use Rattle.weighted_codes.proofs.door.new_refusal.Statement.{statement}
-use Rattle.weighted_codes.proofs.door.new_refusal.Tie as tie
-
-refusal-of-requires : tie.Need-refusal-of-requires
-refusal-of-requires c κs = search needs
+use Rattle.code_weights.proofs.door.weights_refusal.Statement.{statement}
+use Rattle.code_weights.proofs.door.weights_refusal.Tie as tie
 
 is-largest-half-weight-requires : tie.Need-is-largest-half-weight-requires
 is-largest-half-weight-requires c κs = search needs
@@ -30,13 +27,12 @@ number-of-requires c κs = search needs
 returns : tie.Need-returns
 returns c =
     let nine = c .before .before .both .ensures ∙ (λ k. (c .before .before .before .before .is-probability .ensures k) && (c .before .before .before .is-diagonal-probability .ensures k)) in
-    c .number-of .ensures ∙ (λ k. doorNumber (c .before .before .before .before .before .before .refusal-of .ensures k) (c .before .before .before .before .before .is-largest-half-weight .ensures k) (nine k) (c .before .is-above-zero .ensures k))
+    c .number-of .ensures ∙ (λ k. doorNumber (c .before .before .before .before .before .before .args .q) (c .before .before .before .before .before .is-largest-half-weight .ensures k) (nine k) (c .before .is-above-zero .ensures k))
 
-pub new-refusal-spec : {M : Type 1} → statement M
-new-refusal-spec =
+pub weights-refusal-spec : {M : Type 1} → statement M
+weights-refusal-spec =
     tie.close
     (tie.spec
-    refusal-of-requires
     is-largest-half-weight-requires
     is-probability-requires
     is-diagonal-probability-requires

@@ -1,4 +1,4 @@
--- `weighted_codes::weigh::weigh_edges` meets its contract. Invariant: the first i edges have what they get. Assumes nothing.
+-- `code_weights::weigh::weigh_edges` meets its contract. Invariant: the first i edges have what they get. Assumes nothing.
 use mathlib.Core.Path.{_≡_, refl, sym, ap, _∙_}
 use mathlib.Core.Bool.{Bool, true, false, cond}
 use mathlib.Core.List.{List}
@@ -9,11 +9,11 @@ use lib.Seq.{sets}
 use lib.Ieee.{Float}
 use Rattle.columns.specs.Lists.{each}
 use Rattle.columns.proofs.Counting.{store-each}
-use Rattle.weighted_codes.specs.declared.Weighed.{Weighed}
-use Rattle.weighted_codes.specs.Steps.{diagonalAt}
+use Rattle.code_weights.specs.declared.Weighed.{Weighed}
+use Rattle.code_weights.specs.Steps.{diagonalAt}
 use borrow.Author.Needs.{needs}
-use Rattle.weighted_codes.proofs.weigh.weigh_edges.Statement.{statement}
-use Rattle.weighted_codes.proofs.weigh.weigh_edges.Tie as tie
+use Rattle.code_weights.proofs.weigh.weigh_edges.Statement.{statement}
+use Rattle.code_weights.proofs.weigh.weigh_edges.Tie as tie
 
 -- the parts of the one that is picked
 p-of : (b : Bool) (x y : Weighed) → cond b x y .p ≡ cond b (x .p) (y .p)

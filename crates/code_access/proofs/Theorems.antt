@@ -16,9 +16,9 @@ use Rattle.code_access.specs.declared.ListCount.the-variants.{Count, Ref
 use Rattle.code_access.specs.declared.SyndromeCounts.the-variants.{Counts}
 use Rattle.code_access.specs.declared.SyndromeCounts.the-variants as syndrome
 use Rattle.code_access.specs.Answers.{counted, bothCounted}
-use Rattle.code_access.specs.Marks.{isSet, listed, names, marks}
+use Rattle.marks.specs.Marks.{isSet, listed, names, marks}
 use Rattle.code_access.specs.Calls.{setDoor, SetMarks, getDoor, GotMarks, Syndrome, setSyndromeDoor, SetSyndrome, getSyndromeDoor, GotSyndrome}
-use Rattle.code_access.proofs.Listing.{Passes, chosen-at, chosen-has, chosen-ascends, chosen-same}
+use Rattle.marks.proofs.Listing.{Passes, chosen-at, chosen-has, chosen-ascends, chosen-same}
 use Rattle.code_access.proofs.Doors.{answer-no}
 
 -- the numbers below n that a list names, each once, ascending

@@ -1,17 +1,18 @@
 -- The calls: which question refuses (0 for none), the answer, and the lent columns afterwards.
-use Prim.Native.Nat.{ℕ, _*_}
+use Prim.Native.Nat.{ℕ}
 use mathlib.Core.Path.{_≡_}
 use mathlib.Core.Bool.{Bool, _&&_}
 use mathlib.Core.List.{List}
 use lib.Dec.{leb, ltb}
 use lib.ListN.{length, take, getD}
 use lib.Ieee.{Float}
-use Rattle.columns.specs.Lists.{each, after}
+use Rattle.columns.specs.Lists.{after}
 use Rattle.columns.specs.Questions.{ask, allBelow, vertexCountSound, edgeCountSound, boundariesSound, marksSound, halfWeightsSound}
 use Rattle.columns.specs.Answers.{done}
 use Rattle.columns.specs.declared.Done.{Done}
 use Rattle.neighbors.specs.Sound.{graphSound}
-use Rattle.code_access.specs.Marks.{isSet, listed, marks}
+use Rattle.marks.specs.Marks.{isSet, listed, marks}
+use Rattle.whole_weights.specs.Weights.{weights}
 use Rattle.code_access.specs.declared.ListCount.{ListCount}
 use Rattle.code_access.specs.declared.SyndromeCounts.{SyndromeCounts}
 use Rattle.code_access.specs.declared.Truth.{Truth}
@@ -81,10 +82,6 @@ codeSound v e c = graphSound v e (c .endsA) (c .endsB) && (halfWeightsSound e (c
 
 abbrev pub initializerDoor : (v e : ℕ) → Code → Initializer → ℕ
 initializerDoor v e c to = ask (initializerLong v e c to) 6 (ask (codeSound v e c) 7 0)
-
--- the weight of each of e edges: twice its half weight
-unfoldable pub weights : (e : ℕ) (halfWeight : List ℕ) → List ℕ
-weights e halfWeight = each e (λ k. 2 * getD halfWeight k 0)
 
 -- the call: its answer, and what stands in the columns that it writes, before it and afterwards
 pub record GotInitializer (v e : ℕ) (c : Code) (before column : Initializer) (answer : ListCount) : Type 0 where

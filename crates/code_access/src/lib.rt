@@ -1,6 +1,4 @@
 // Getters and setters of a code's columns.
-mod marks;
-
 use columns::Done;
 use columns::VertexIndex;
 use columns::Weight;
@@ -20,13 +18,10 @@ use marks::is_set;
 use marks::list_set;
 use marks::set_marks;
 use neighbors::sound::graph_sound;
+use whole_weights::store_weights;
 ghost use mathlib.Core.Path.{_≡_};
-ghost use mathlib.Core.Bool.{Bool, _&&_};
-ghost use Prim.Native.Nat.{ℕ, _<_, _≤_};
-ghost use lib.ListN.{length, take, getD};
-ghost use Rattle.columns.specs.Lists.{over};
 ghost use Rattle.columns.specs.Questions.{vertexCountSound, edgeCountSound, boundariesSound, marksSound};
-ghost use Rattle.code_access.specs.Calls.{threeLong, positions, positionsDoor, GotPositions, code, initializer, initializerLong, codeSound, initializerDoor, weights, GotInitializer, setDoor, SetMarks, syndrome, countsSound, setSyndromeDoor, SetSyndrome, getDoor, GotMarks, getSyndromeDoor, GotSyndrome, isDoor, isMarked};
+ghost use Rattle.code_access.specs.Calls.{threeLong, positions, positionsDoor, GotPositions, code, initializer, initializerLong, codeSound, initializerDoor, GotInitializer, setDoor, SetMarks, syndrome, countsSound, setSyndromeDoor, SetSyndrome, getDoor, GotMarks, getSyndromeDoor, GotSyndrome, isDoor, isMarked};
 
 // What a call answers that hands back a list: how many numbers it has.
 pub enum ListCount {
@@ -175,19 +170,6 @@ fn initializer_door(
     );
     let sound = code_sound(vertex_num, edge_num, ends_a, ends_b, half_weight, boundary);
     asked(long, 6, asked(sound, 7, 0))
-}
-
-// Stores twice the half weight of each of the first n edges.
-pub fn store_weights(half_weight: &[Weight], n: usize, weight: &mut [Weight])
-    requires { ⌜ (n ≤ length (now «half_weight»)) × (n ≤ length (now weight)) ⌝ }
-    requires { ⌜ ((k : ℕ) → k < n → getD (now «half_weight») k 0 ≤ 250000) ⌝ }
-    ensures { λ _. ⌜ now (weight .exit) ≡ over (weights n (now («half_weight» .entry))) (now (weight .entry)) ⌝ }
-{
-    let mut k: usize = 0;
-    while k < n {
-        weight[k] = 2 * half_weight[k];
-        k += 1;
-    }
 }
 
 // The ends and the weight of every edge, and the virtual vertices, ascending. How many virtual vertices there are.

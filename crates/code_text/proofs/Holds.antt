@@ -16,7 +16,7 @@ use Rattle.columns.specs.Questions.{weightsSound, allWithin}
 use Rattle.columns.proofs.Columns.{after-accepted, take-over, getD-any}
 use Rattle.columns.proofs.Counting.{each-same, length-each, getD-each}
 use Rattle.columns.proofs.Tests.{at-within}
-use Rattle.code_access.specs.Calls.{weights}
+use Rattle.whole_weights.specs.Weights.{weights}
 use Rattle.code_columns.specs.declared.CodeVertex.{CodeVertex}
 use Rattle.code_columns.specs.Edges.{Ends, firsts, seconds, boundaries}
 use Rattle.layers.specs.Codes.{edgesOf, verticesOf}

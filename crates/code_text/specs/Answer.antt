@@ -9,7 +9,7 @@ use lib.ListN.{length, getD}
 use lib.Ieee.{Float, binary64, ofBits}
 use Rattle.columns.specs.Lists.{after}
 use Rattle.columns.specs.Questions.{ask}
-use Rattle.code_access.specs.Calls.{weights}
+use Rattle.whole_weights.specs.Weights.{weights}
 use Rattle.code_columns.specs.Edges.{firsts, seconds, boundaries}
 use Rattle.layers.specs.Codes.{edgesOf, verticesOf}
 use Rattle.layers.specs.Counts.{vertexNum, edgeNum}

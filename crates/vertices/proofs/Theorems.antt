@@ -19,7 +19,7 @@ use Rattle.neighbors.specs.Sound.{samePair, graphSound, pairsApart}
 use Rattle.neighbors.proofs.Chains.{at-apart}
 use Rattle.neighbors.proofs.Ends.{GraphSound, graph-says}
 use Rattle.neighbors.proofs.Placing.{length-hit, length-more, length-within, lists-more, lists-count, list-of, neighbours-chosen}
-use Rattle.code_access.proofs.Listing.{chosen-ascends}
+use Rattle.marks.proofs.Listing.{chosen-ascends}
 use Rattle.vertices.specs.declared.Verdict.{Verdict}
 use Rattle.vertices.specs.declared.Verdict.the-variants.{Sound, Refused}
 use Rattle.vertices.specs.Sanity.{verdictOf, orElse, firstOf, foundIf, duplicate, twice, atVertex, listAt, total, verdict, sanityLong, sanityAnswer}

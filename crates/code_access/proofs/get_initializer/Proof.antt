@@ -3,8 +3,9 @@ use mathlib.Core.Path.{_≡_, refl, sym, ap, _∙_}
 use lib.ListN.{length, take}
 use Rattle.columns.proofs.Columns.{copy-after, after-accepted, after-refused}
 use Rattle.code_access.specs.declared.ListCount.the-variants.{Count, Refused}
-use Rattle.code_access.specs.Marks.{listed}
-use Rattle.code_access.specs.Calls.{code, initializer, initializerDoor, weights}
+use Rattle.marks.specs.Marks.{listed}
+use Rattle.whole_weights.specs.Weights.{weights}
+use Rattle.code_access.specs.Calls.{code, initializer, initializerDoor}
 use Rattle.code_access.proofs.Doors.{initializer-met, answer-zero, answer-no}
 use borrow.Author.Needs.{needs}
 use Rattle.code_access.proofs.get_initializer.Statement.{statement}

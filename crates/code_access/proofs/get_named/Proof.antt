@@ -3,7 +3,7 @@ use mathlib.Core.Path.{_≡_, refl, sym, ap, _∙_}
 use lib.ListN.{length}
 use Rattle.columns.proofs.Columns.{after-accepted, after-refused}
 use Rattle.code_access.specs.declared.ListCount.the-variants.{Count, Refused}
-use Rattle.code_access.specs.Marks.{listed}
+use Rattle.marks.specs.Marks.{listed}
 use Rattle.code_access.specs.Calls.{getDoor}
 use Rattle.code_access.proofs.Doors.{get-met, answer-zero, answer-no}
 use borrow.Author.Needs.{needs}

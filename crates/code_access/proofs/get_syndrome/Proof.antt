@@ -3,7 +3,7 @@ use mathlib.Core.Path.{_≡_, refl, sym, ap, _∙_}
 use lib.ListN.{length}
 use Rattle.columns.proofs.Columns.{after-accepted, after-refused}
 use Rattle.code_access.specs.declared.SyndromeCounts.the-variants.{Counts, Refused}
-use Rattle.code_access.specs.Marks.{listed}
+use Rattle.marks.specs.Marks.{listed}
 use Rattle.code_access.specs.Calls.{syndrome, getSyndromeDoor}
 use Rattle.code_access.proofs.Doors.{get-syndrome-met, answer-zero, answer-no}
 use borrow.Author.Needs.{needs}

@@ -3,7 +3,7 @@ use mathlib.Core.Path.{_≡_, refl, sym, ap, _∙_}
 use native.Mathlib.Omega.{arith}
 use lib.ListN.{getD}
 use Rattle.code_access.specs.declared.Truth.the-variants.{Is, Refused}
-use Rattle.code_access.specs.Marks.{isSet}
+use Rattle.marks.specs.Marks.{isSet}
 use Rattle.code_access.specs.Calls.{isDoor}
 use Rattle.code_access.proofs.Doors.{is-met, answer-zero, answer-no}
 use borrow.Author.Needs.{needs}

@@ -2,7 +2,7 @@
 use mathlib.Core.Path.{_≡_, refl, sym, ap, _∙_}
 use Rattle.columns.specs.Answers.{done}
 use Rattle.columns.proofs.Columns.{after-accepted, after-refused}
-use Rattle.code_access.specs.Marks.{marks}
+use Rattle.marks.specs.Marks.{marks}
 use Rattle.code_access.specs.Calls.{setDoor}
 use Rattle.code_access.proofs.Doors.{set-met}
 use borrow.Author.Needs.{needs}

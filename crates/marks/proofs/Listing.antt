@@ -13,7 +13,7 @@ use Rattle.columns.specs.Lists.{joined, when}
 use Rattle.columns.proofs.Columns.{sets-append}
 use Rattle.columns.proofs.Counting.{joined-more, joined-same}
 use Rattle.neighbors.specs.Lists.{chosen}
-use Rattle.code_access.specs.Marks.{isSet, listed}
+use Rattle.marks.specs.Marks.{isSet, listed}
 
 pub when-few : {A : Type 0} (b : Bool) (x : A) → length (when b x) ≤ 1
 when-few true x = omega arith

@@ -1,4 +1,4 @@
--- `code_access::store_weights` meets its contract. Invariant: the weights of the first k edges are stored. Assumes nothing.
+-- `whole_weights::store_weights` meets its contract. Invariant: the weights of the first k edges are stored. Assumes nothing.
 use mathlib.Core.Path.{_≡_, refl, sym, ap, _∙_}
 use Prim.Native.Nat.{ℕ, _+_, _-_, _*_, _≤_, _<_}
 use native.Mathlib.Omega.{arith}
@@ -7,10 +7,10 @@ use lib.Seq.{sets, length-sets}
 use Rattle.columns.specs.Lists.{each, over}
 use Rattle.columns.proofs.Columns.{sets-more, sets-over}
 use Rattle.columns.proofs.Counting.{each-more, length-each}
-use Rattle.code_access.specs.Calls.{weights}
+use Rattle.whole_weights.specs.Weights.{weights}
 use borrow.Author.Needs.{needs}
-use Rattle.code_access.proofs.store_weights.Statement.{statement}
-use Rattle.code_access.proofs.store_weights.Tie as tie
+use Rattle.whole_weights.proofs.store_weights.Statement.{statement}
+use Rattle.whole_weights.proofs.store_weights.Tie as tie
 
 abbrev Inv-loop : tie.InvT-loop
 Inv-loop half-weight n weight₀ k₀ weight k =

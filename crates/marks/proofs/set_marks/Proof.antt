@@ -1,14 +1,14 @@
--- `code_access::marks::set_marks` meets its contract. Invariant: the bytes that the first i numbers name are set. Assumes nothing.
+-- `marks::set_marks` meets its contract. Invariant: the bytes that the first i numbers name are set. Assumes nothing.
 use mathlib.Core.Path.{_≡_, refl, sym, ap, _∙_, subst}
 use mathlib.Core.List.{List}
 use Prim.Native.Nat.{ℕ, _+_, _-_, _≤_, _<_}
 use native.Mathlib.Omega.{arith}
 use lib.ListN.{length, take}
 use lib.Seq.{take-all}
-use Rattle.code_access.proofs.Marking.{Marked, marked-none, marked-start, marked-next, marked-from, marked-all}
+use Rattle.marks.proofs.Marking.{Marked, marked-none, marked-start, marked-next, marked-from, marked-all}
 use borrow.Author.Needs.{needs}
-use Rattle.code_access.proofs.marks.set_marks.Statement.{statement}
-use Rattle.code_access.proofs.marks.set_marks.Tie as tie
+use Rattle.marks.proofs.set_marks.Statement.{statement}
+use Rattle.marks.proofs.set_marks.Tie as tie
 
 abbrev Inv-loop : tie.InvT-loop
 Inv-loop column₀ n list i₀ column i = (i ≤ length list) × Marked n (take i list) column₀ column

@@ -1,9 +1,9 @@
--- `code_access::marks::push_if` meets its contract. Assumes nothing.
+-- `marks::push_if` meets its contract. Assumes nothing.
 use mathlib.Core.Path.{_≡_, refl, sym, ap, _∙_}
 use native.Mathlib.Omega.{arith}
 use borrow.Author.Needs.{needs}
-use Rattle.code_access.proofs.marks.push_if.Statement.{statement}
-use Rattle.code_access.proofs.marks.push_if.Tie as tie
+use Rattle.marks.proofs.push_if.Statement.{statement}
+use Rattle.marks.proofs.push_if.Tie as tie
 
 mul-list : tie.Need-mul-list
 mul-list c = search needs

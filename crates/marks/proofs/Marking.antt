@@ -15,7 +15,7 @@ use Rattle.columns.proofs.Columns.{sets-over}
 use Rattle.columns.proofs.Counting.{length-each, getD-each}
 use Rattle.neighbors.specs.Lists.{chosen}
 use Rattle.neighbors.proofs.Placing.{each-places}
-use Rattle.code_access.specs.Marks.{names, marks, listed, isSet}
+use Rattle.marks.specs.Marks.{names, marks, listed, isSet}
 
 or-false : (b : Bool) → (b || false) ≡ b
 or-false true = refl

@@ -1,15 +1,15 @@
--- `code_access::marks::list_set` meets its contract. Invariant: the numbers below k whose byte is set are listed. Assumes nothing.
+-- `marks::list_set` meets its contract. Invariant: the numbers below k whose byte is set are listed. Assumes nothing.
 use mathlib.Core.Path.{_≡_, refl, sym, ap, _∙_}
 use Prim.Native.Nat.{_+_, _-_, _≤_, _<_}
 use native.Mathlib.Omega.{arith}
 use lib.ListN.{length}
 use lib.Seq.{sets, length-sets}
 use Rattle.columns.proofs.Columns.{sets-over}
-use Rattle.code_access.specs.Marks.{listed}
-use Rattle.code_access.proofs.Listing.{listed-none, listed-few, listed-push}
+use Rattle.marks.specs.Marks.{listed}
+use Rattle.marks.proofs.Listing.{listed-none, listed-few, listed-push}
 use borrow.Author.Needs.{needs}
-use Rattle.code_access.proofs.marks.list_set.Statement.{statement}
-use Rattle.code_access.proofs.marks.list_set.Tie as tie
+use Rattle.marks.proofs.list_set.Statement.{statement}
+use Rattle.marks.proofs.list_set.Tie as tie
 
 abbrev Inv-loop : tie.InvT-loop
 Inv-loop column n list₀ count₀ k₀ list count k =

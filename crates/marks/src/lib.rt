@@ -5,7 +5,7 @@ ghost use Prim.Native.Nat.{ℕ, _+_, _<_, _≤_};
 ghost use lib.ListN.{length, getD, set};
 ghost use lib.Seq.{sets};
 ghost use Rattle.columns.specs.Lists.{when, over};
-ghost use Rattle.code_access.specs.Marks.{isSet, listed, marks};
+ghost use Rattle.marks.specs.Marks.{isSet, listed, marks};
 use columns::stores::fill_u8;
 
 // Whether a byte is set.

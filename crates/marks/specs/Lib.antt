@@ -1,0 +1,2 @@
+-- Marks: bytes that are set, and the numbers that a list names.
+pub mod Marks

@@ -1,0 +1,2 @@
+-- Weights: twice the half weights.
+pub mod Weights

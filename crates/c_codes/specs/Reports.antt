@@ -6,8 +6,8 @@ use Rattle.code_questions.specs.declared.Count.{Count}
 use Rattle.code_questions.specs.Answers as count
 use Rattle.weights.specs.declared.WeightOfP.{WeightOfP}
 use Rattle.weights.specs.Answers as weighed
-use Rattle.vertices.specs.declared.Verdict.{Verdict}
-use Rattle.vertices.specs.Sanity.{refusalNumber, verdictNumber, firstValue, secondValue}
+use Rattle.verdicts.specs.declared.Verdict.{Verdict}
+use Rattle.verdicts.specs.Sanity.{refusalNumber, verdictNumber, firstValue, secondValue}
 use Rattle.code_access.specs.declared.ListCount.{ListCount}
 use Rattle.code_access.specs.declared.SyndromeCounts.{SyndromeCounts}
 use Rattle.code_access.specs.declared.Truth.{Truth}

@@ -12,7 +12,7 @@ ghost use mathlib.Core.Path.{_≡_};
 ghost use Rattle.example_codes.specs.CreateCode as created;
 ghost use Rattle.code_questions.specs.Answers as count;
 ghost use Rattle.weights.specs.Answers as weighed;
-ghost use Rattle.vertices.specs.Sanity.{refusalNumber, verdictNumber, firstValue, secondValue};
+ghost use Rattle.verdicts.specs.Sanity.{refusalNumber, verdictNumber, firstValue, secondValue};
 ghost use Rattle.code_access.specs.Answers.{listNumber, listCount, syndromeNumber, defectCount, erasureCount, truthNumber, truthValue};
 ghost use Rattle.c_codes.specs.Reports.{ReportsCreated, ReportsCount, ReportsWeighed, ReportsVerdict, ReportsList, ReportsCounts, ReportsTruth};
 

@@ -1,6 +1,6 @@
 ghost use Rattle.c_reports.specs.Reports.{Reported};
 ghost use Rattle.c_codes.specs.Reports.{ReportsVerdict};
-ghost use Rattle.vertices.specs.Sanity.{SanityChecked};
+ghost use Rattle.verdicts.specs.Sanity.{SanityChecked};
 use super::reports::VerdictReport;
 use super::reports::verdict_report;
 

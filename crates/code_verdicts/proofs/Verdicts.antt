@@ -20,8 +20,8 @@ use Rattle.layers.proofs.Accepted.{Accepted, accepted, buildable}
 use Rattle.layers.proofs.Counted.{edges-counted}
 use Rattle.code_graphs.proofs.Sound.{first-over, second-over, first-is, second-is, built}
 use Rattle.code_graphs.proofs.Lists.{Touches, vertex-touched}
-use Rattle.vertices.specs.declared.Verdict.{Verdict}
-use Rattle.vertices.specs.Sanity.{verdictOf, sanityAnswer, SanityChecked}
+use Rattle.verdicts.specs.declared.Verdict.{Verdict}
+use Rattle.verdicts.specs.Sanity.{verdictOf, sanityAnswer, SanityChecked}
 use Rattle.vertices.proofs.Theorems.{EndsEdge, sound-verdict}
 use Rattle.weights.specs.declared.diagonal.DiagonalProbability.{DiagonalProbability}
 use Rattle.example_codes.specs.declared.Created.{Created}

@@ -3,8 +3,8 @@ use Prim.Native.Nat.{ℕ}
 use mathlib.Core.Path.{_≡_}
 use lib.Ieee.{Float}
 use Rattle.weights.specs.declared.diagonal.DiagonalProbability.{DiagonalProbability}
-use Rattle.vertices.specs.declared.Verdict.{Verdict}
-use Rattle.vertices.specs.Sanity.{verdictOf, SanityChecked}
+use Rattle.verdicts.specs.declared.Verdict.{Verdict}
+use Rattle.verdicts.specs.Sanity.{verdictOf, SanityChecked}
 use Rattle.example_codes.specs.declared.Created.{Created}
 use Rattle.example_codes.specs.declared.Created.the-variants.{Code}
 use Rattle.example_codes.specs.Columns.{CodeColumns}

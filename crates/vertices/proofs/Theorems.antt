@@ -20,12 +20,12 @@ use Rattle.neighbors.proofs.Chains.{at-apart}
 use Rattle.neighbors.proofs.Ends.{GraphSound, graph-says}
 use Rattle.neighbors.proofs.Placing.{length-hit, length-more, length-within, lists-more, lists-count, list-of, neighbours-chosen}
 use Rattle.marks.proofs.Listing.{chosen-ascends}
-use Rattle.vertices.specs.declared.Verdict.{Verdict}
-use Rattle.vertices.specs.declared.Verdict.the-variants.{Sound, Refused}
-use Rattle.vertices.specs.Sanity.{verdictOf, orElse, firstOf, foundIf, duplicate, twice, atVertex, listAt, total, verdict, sanityLong, sanityAnswer}
-use Rattle.vertices.proofs.Scans.{first-all, found-false, or-sound}
-use Rattle.vertices.proofs.Sums.{total-none, total-more}
-use Rattle.vertices.proofs.Stamping.{some-edges}
+use Rattle.verdicts.specs.declared.Verdict.{Verdict}
+use Rattle.verdicts.specs.declared.Verdict.the-variants.{Sound, Refused}
+use Rattle.verdicts.specs.Sanity.{verdictOf, orElse, firstOf, foundIf, duplicate, twice, atVertex, listAt, total, verdict, sanityLong, sanityAnswer}
+use Rattle.verdicts.proofs.Scans.{first-all, found-false, or-sound}
+use Rattle.verdicts.proofs.Sums.{total-none, total-more}
+use Rattle.list_verdicts.proofs.Stamping.{some-edges}
 use Rattle.vertices.proofs.Verdicts.{scanned, long-from}
 
 -- edge k ends at vertex u

@@ -1,4 +1,2 @@
--- Fill: what fill_vertices leaves. Sanity: the verdict of sanity_check. Steps: what the contracts of private functions cite besides.
+-- Fill: what fill_vertices leaves.
 pub mod Fill
-pub mod Sanity
-pub mod Steps

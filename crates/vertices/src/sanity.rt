@@ -4,15 +4,20 @@ ghost use mathlib.Core.Bool.{Bool};
 ghost use Prim.Native.Nat.{ℕ, _+_, _≤_};
 ghost use lib.ListN.{length, take};
 ghost use lib.Dec.{leb};
-ghost use Rattle.vertices.specs.Sanity.{total, orElse, verdict, sanityLong, SanityChecked};
-use super::Verdict;
-use super::pairs::duplicates;
-use super::pairs::wide;
-use super::stamps::is_sound;
-use super::stamps::vertices_checked;
+ghost use Rattle.verdicts.specs.Sanity.{total, orElse, verdict, sanityLong, SanityChecked};
 use columns::questions::at_most;
 use columns::questions::both;
 use columns::questions::lesser;
+use list_verdicts::vertices_checked;
+use pair_verdicts::duplicates;
+use verdicts::Verdict;
+use verdicts::is_sound;
+
+fn wide(x: u32) -> usize
+    ensures { λ r. ⌜ r ≡ x ⌝ }
+{
+    x as usize
+}
 
 // Whether the first n lengths, or all where there are fewer, sum up to at most the room.
 fn lists_fit(lengths: &[u32], n: usize, room: usize) -> bool

@@ -4,8 +4,8 @@ use Prim.Native.Nat.{_+_, _-_, _≤_, _<_, min}
 use native.Mathlib.Omega.{arith}
 use lib.ListN.{length, take}
 use borrow.Author.Tests.{le-leb, lt-leb}
-use Rattle.vertices.specs.Sanity.{total}
-use Rattle.vertices.proofs.Sums.{total-none, total-more, total-part, total-end}
+use Rattle.verdicts.specs.Sanity.{total}
+use Rattle.verdicts.proofs.Sums.{total-none, total-more, total-part, total-end}
 use borrow.Author.Needs.{needs}
 use Rattle.vertices.proofs.sanity.lists_fit.Statement.{statement}
 use Rattle.vertices.proofs.sanity.lists_fit.Tie as tie

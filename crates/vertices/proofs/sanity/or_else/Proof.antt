@@ -1,6 +1,6 @@
 -- `vertices::sanity::or_else` meets its contract. Assumes nothing.
 use mathlib.Core.Path.{_≡_, refl, sym, ap, _∙_}
-use Rattle.vertices.proofs.Scans.{sound-of, or-sound, or-found}
+use Rattle.verdicts.proofs.Scans.{sound-of, or-sound, or-found}
 use borrow.Author.Needs.{needs}
 use Rattle.vertices.proofs.sanity.or_else.Statement.{statement}
 use Rattle.vertices.proofs.sanity.or_else.Tie as tie

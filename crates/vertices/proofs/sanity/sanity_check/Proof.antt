@@ -2,8 +2,8 @@
 use mathlib.Core.Path.{_≡_, refl, sym, ap, _∙_}
 use mathlib.Core.Bool.{Bool, true, false, cond}
 use borrow.Author.Tests.{not-true, not-false}
-use Rattle.vertices.specs.declared.Verdict.the-variants.{Refused}
-use Rattle.vertices.specs.Sanity.{verdict, sanityLong}
+use Rattle.verdicts.specs.declared.Verdict.the-variants.{Refused}
+use Rattle.verdicts.specs.Sanity.{verdict, sanityLong}
 use Rattle.vertices.proofs.Verdicts.{long-of, checked}
 use borrow.Author.Needs.{needs}
 use Rattle.vertices.proofs.sanity.sanity_check.Statement.{statement}

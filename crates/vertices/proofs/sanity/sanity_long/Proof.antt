@@ -1,5 +1,5 @@
 -- `vertices::sanity::sanity_long` meets its contract. Assumes nothing.
-use Rattle.vertices.specs.Sanity.{sanityLong}
+use Rattle.verdicts.specs.Sanity.{sanityLong}
 use borrow.Author.Needs.{needs}
 use Rattle.vertices.proofs.sanity.sanity_long.Statement.{statement}
 use Rattle.vertices.proofs.sanity.sanity_long.Tie as tie

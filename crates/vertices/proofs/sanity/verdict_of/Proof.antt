@@ -1,6 +1,6 @@
 -- `vertices::sanity::verdict_of` meets its contract. Assumes nothing.
 use mathlib.Core.Path.{_≡_, refl, sym, ap, _∙_}
-use Rattle.vertices.specs.Sanity.{orElse}
+use Rattle.verdicts.specs.Sanity.{orElse}
 use Rattle.vertices.proofs.Verdicts.{no-vertices, no-edge, scanned}
 use borrow.Author.Needs.{needs}
 use Rattle.vertices.proofs.sanity.verdict_of.Statement.{statement}

@@ -1,0 +1,2 @@
+-- Stamping: numbers twice in a list.
+pub mod Stamping

@@ -1,0 +1,2 @@
+-- Steps: what the contracts of private functions cite besides.
+pub mod Steps

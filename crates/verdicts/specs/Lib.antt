@@ -1,0 +1,3 @@
+-- Sanity: the verdict of sanity_check. Steps: what the contracts of other functions cite besides.
+pub mod Sanity
+pub mod Steps

@@ -10,8 +10,9 @@ use Rattle.verdicts.specs.declared.Verdict.{Verdict}
 use Rattle.verdicts.specs.Sanity.{refusalNumber, verdictNumber, firstValue, secondValue}
 use Rattle.code_access.specs.declared.ListCount.{ListCount}
 use Rattle.code_access.specs.declared.SyndromeCounts.{SyndromeCounts}
-use Rattle.code_access.specs.declared.Truth.{Truth}
-use Rattle.code_access.specs.Answers.{listNumber, listCount, syndromeNumber, defectCount, erasureCount, truthNumber, truthValue}
+use Rattle.vertex_marks.specs.declared.Truth.{Truth}
+use Rattle.code_access.specs.Answers.{listNumber, listCount, syndromeNumber, defectCount, erasureCount}
+use Rattle.vertex_marks.specs.Marked.{truthNumber, truthValue}
 use Rattle.c_reports.specs.declared.OneCount.{OneCount}
 use Rattle.c_reports.specs.declared.TwoCounts.{TwoCounts}
 use Rattle.c_codes.specs.declared.reports.WeighedReport.{WeighedReport}

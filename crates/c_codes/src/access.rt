@@ -1,6 +1,8 @@
 ghost use Rattle.c_reports.specs.Reports.{Reported, ReportsDone};
 ghost use Rattle.c_codes.specs.Reports.{ReportsCounts, ReportsList, ReportsTruth};
-ghost use Rattle.code_access.specs.Calls.{positions, GotPositions, code, initializer, GotInitializer, SetMarks, syndrome, SetSyndrome, GotMarks, GotSyndrome, isMarked};
+ghost use Rattle.code_positions.specs.Positions.{positions, GotPositions};
+ghost use Rattle.code_access.specs.Calls.{code, initializer, GotInitializer, SetMarks, syndrome, SetSyndrome, GotMarks, GotSyndrome};
+ghost use Rattle.vertex_marks.specs.Marked.{isMarked};
 ghost use Rattle.columns.specs.Questions.{vertexCountSound, edgeCountSound, boundariesSound, marksSound};
 ghost use mathlib.Core.Path.{_≡_};
 use super::reports::TruthReport;

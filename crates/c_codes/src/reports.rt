@@ -13,7 +13,8 @@ ghost use Rattle.example_codes.specs.CreateCode as created;
 ghost use Rattle.code_questions.specs.Answers as count;
 ghost use Rattle.weights.specs.Answers as weighed;
 ghost use Rattle.verdicts.specs.Sanity.{refusalNumber, verdictNumber, firstValue, secondValue};
-ghost use Rattle.code_access.specs.Answers.{listNumber, listCount, syndromeNumber, defectCount, erasureCount, truthNumber, truthValue};
+ghost use Rattle.code_access.specs.Answers.{listNumber, listCount, syndromeNumber, defectCount, erasureCount};
+ghost use Rattle.vertex_marks.specs.Marked.{truthNumber, truthValue};
 ghost use Rattle.c_codes.specs.Reports.{ReportsCreated, ReportsCount, ReportsWeighed, ReportsVerdict, ReportsList, ReportsCounts, ReportsTruth};
 
 #[repr(C)]

@@ -10,44 +10,11 @@ use borrow.Author.Tests.{leb-true, ltb-true, ne-eqb}
 use Rattle.columns.specs.Questions.{ask, allBelow, vertexCountSound, marksSound, halfWeightsSound, boundariesSound}
 use Rattle.columns.proofs.Tests.{and-both, within-first, below-at}
 use Rattle.neighbors.specs.Sound.{graphSound}
-use Rattle.code_access.specs.Calls.{threeLong, Positions, positionsLong, positionsDoor, Code, Initializer, initializerLong, codeSound, initializerDoor, Syndrome, setSyndromeDoor, countsSound, getSyndromeDoor, setDoor, SetMarks, getDoor, GotMarks, isDoor}
+use Rattle.code_room.specs.Room.{threeLong}
+use Rattle.code_room.proofs.Doors.{met, goes-on, both-long, three-long}
+use Rattle.code_access.specs.Calls.{Code, Initializer, initializerLong, codeSound, initializerDoor, Syndrome, setSyndromeDoor, countsSound, getSyndromeDoor, setDoor, SetMarks, getDoor, GotMarks}
 use Rattle.columns.specs.declared.Done.{Done}
 use Rattle.code_access.specs.declared.ListCount.{ListCount}
-
--- a question that did not stop the call, and those after it
-pub met : (b : Bool) (number next : ℕ) → ask b (suc number) next ≡ 0 → b ≡ true
-met true number next e = refl
-met false number next e = absurd (omega arith)
-
-pub goes-on : (b : Bool) (number next : ℕ) → ask b (suc number) next ≡ 0 → next ≡ 0
-goes-on true number next e = e
-goes-on false number next e = absurd (omega arith)
-
--- an answer with values: accepted, and refused
-module _ {A : Type 0} where
-  pub answer-zero : (q : ℕ) (x : A) (f : ℕ → A) → q ≡ 0 → cond (eqb q 0) x (f q) ≡ x
-  answer-zero q x f e = ap (λ (k : ℕ). cond (eqb k 0) x (f k)) e
-
-  pub answer-no : (q : ℕ) (x : A) (f : ℕ → A) → (q ≡ 0 → ⊥) → cond (eqb q 0) x (f q) ≡ f q
-  answer-no q x f h = simp (ne-eqb q 0 h)
-
-pub both-long : (n a m b : ℕ) → (leb n a && leb m b) ≡ true → (n ≤ a) × (m ≤ b)
-both-long n a m b e = let (p, q) = and-both (leb n a) (leb m b) e in (leb-true n a p, leb-true m b q)
-
-pub three-long : (n a b c : ℕ) → threeLong n a b c ≡ true → (n ≤ a) × (n ≤ b) × (n ≤ c)
-unfolding threeLong
-three-long n a b c e =
-    let (p, e₁) = and-both (leb n a) _ e in
-    let (q, r) = and-both (leb n b) _ e₁ in
-    (leb-true n a p, leb-true n b q, leb-true n c r)
-
--- ---- get_positions
-
-pub positions-long : (v : ℕ) (from to : Positions) → positionsDoor v from to ≡ 0
-    → ((v ≤ length (from .i)) × (v ≤ length (from .j)) × (v ≤ length (from .t))) × ((v ≤ length (to .i)) × (v ≤ length (to .j)) × (v ≤ length (to .t)))
-positions-long v from to z =
-    let (p, q) = and-both (positionsLong v from) (positionsLong v to) (met (positionsLong v from && positionsLong v to) 5 _ z) in
-    (three-long v _ _ _ p, three-long v _ _ _ q)
 
 -- ---- get_initializer
 
@@ -85,14 +52,6 @@ initializer-met v e c to z =
       to-virtual = last .1;
       halves = within-first 250000 e (c .halfWeight) h (from .2);
     }
-
--- ---- is_virtual, is_defect
-
-pub is-met : (sound : Bool) (v : ℕ) (column : List ℕ) (vertex : ℕ) → isDoor sound v column vertex ≡ 0 → (v ≤ length column) × (vertex < v)
-is-met sound v column vertex z =
-    let z₇ = goes-on (leb v (length column)) 5 _ z in
-    let z₁₃ = goes-on (vertexCountSound v && sound) 6 _ z₇ in
-    (leb-true v (length column) (met (leb v (length column)) 5 _ z), ltb-true vertex v (met (ltb vertex v) 12 0 z₁₃))
 
 -- ---- set_defect_vertices, set_erasures
 

@@ -19,7 +19,7 @@ use Rattle.code_access.specs.Answers.{counted, bothCounted}
 use Rattle.marks.specs.Marks.{isSet, listed, names, marks}
 use Rattle.code_access.specs.Calls.{setDoor, SetMarks, getDoor, GotMarks, Syndrome, setSyndromeDoor, SetSyndrome, getSyndromeDoor, GotSyndrome}
 use Rattle.marks.proofs.Listing.{Passes, chosen-at, chosen-has, chosen-ascends, chosen-same}
-use Rattle.code_access.proofs.Doors.{answer-no}
+use Rattle.code_room.proofs.Doors.{answer-no}
 
 -- the numbers below n that a list names, each once, ascending
 pub record SortedNames (n : ℕ) (list xs : List ℕ) : Type 0 where

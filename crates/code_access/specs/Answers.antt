@@ -1,13 +1,11 @@
 -- Document 01's number and values for each case of an answer: 0 where the call was accepted; values are 0 where it was refused.
 use Prim.Native.Nat.{ℕ}
-use mathlib.Core.Bool.{Bool, false, cond}
+use mathlib.Core.Bool.{cond}
 use lib.Dec.{eqb}
 use Rattle.code_access.specs.declared.ListCount.{ListCount}
 use Rattle.code_access.specs.declared.ListCount.the-variants as list
 use Rattle.code_access.specs.declared.SyndromeCounts.{SyndromeCounts}
 use Rattle.code_access.specs.declared.SyndromeCounts.the-variants as syndrome
-use Rattle.code_access.specs.declared.Truth.{Truth}
-use Rattle.code_access.specs.declared.Truth.the-variants as truth
 
 -- ---- a list handed back: how many numbers it has
 
@@ -39,16 +37,3 @@ erasureCount (syndrome.Refused number) = 0
 
 abbrev pub bothCounted : ℕ → ℕ → ℕ → SyndromeCounts
 bothCounted number defects erasures = cond (eqb number 0) (syndrome.Counts defects erasures) (syndrome.Refused number)
-
--- ---- whether a vertex is virtual, or a defect
-
-abbrev pub truthNumber : Truth → ℕ
-truthNumber (truth.Is value) = 0
-truthNumber (truth.Refused number) = number
-
-abbrev pub truthValue : Truth → Bool
-truthValue (truth.Is value) = value
-truthValue (truth.Refused number) = false
-
-abbrev pub told : ℕ → Bool → Truth
-told number value = cond (eqb number 0) (truth.Is value) (truth.Refused number)

@@ -3,49 +3,19 @@ use Prim.Native.Nat.{ℕ}
 use mathlib.Core.Path.{_≡_}
 use mathlib.Core.Bool.{Bool, _&&_}
 use mathlib.Core.List.{List}
-use lib.Dec.{leb, ltb}
-use lib.ListN.{length, take, getD}
-use lib.Ieee.{Float}
+use lib.Dec.{leb}
+use lib.ListN.{length, take}
 use Rattle.columns.specs.Lists.{after}
 use Rattle.columns.specs.Questions.{ask, allBelow, vertexCountSound, edgeCountSound, boundariesSound, marksSound, halfWeightsSound}
 use Rattle.columns.specs.Answers.{done}
 use Rattle.columns.specs.declared.Done.{Done}
 use Rattle.neighbors.specs.Sound.{graphSound}
-use Rattle.marks.specs.Marks.{isSet, listed, marks}
+use Rattle.code_room.specs.Room.{threeLong}
+use Rattle.marks.specs.Marks.{listed, marks}
 use Rattle.whole_weights.specs.Weights.{weights}
 use Rattle.code_access.specs.declared.ListCount.{ListCount}
 use Rattle.code_access.specs.declared.SyndromeCounts.{SyndromeCounts}
-use Rattle.code_access.specs.declared.Truth.{Truth}
-use Rattle.code_access.specs.Answers.{counted, bothCounted, told}
-
--- question 6 of three columns, by their lengths
-unfoldable pub threeLong : (n a b c : ℕ) → Bool
-threeLong n a b c = leb n a && (leb n b && leb n c)
-
--- ---- get_positions
-
--- the three columns of positions
-pub record Positions : Type 0 where
-  pub i : List Float
-  pub j : List Float
-  pub t : List Float
-
-abbrev pub positions : List Float → List Float → List Float → Positions
-positions i j t = record { i = i; j = j; t = t }
-
-abbrev pub positionsLong : ℕ → Positions → Bool
-positionsLong v p = threeLong v (length (p .i)) (length (p .j)) (length (p .t))
-
--- questions 6 and 7, in order
-abbrev pub positionsDoor : ℕ → Positions → Positions → ℕ
-positionsDoor v from to = ask (positionsLong v from && positionsLong v to) 6 (ask (vertexCountSound v) 7 0)
-
--- the call: its answer, and the columns that it copies into, before it and afterwards
-pub record GotPositions (v : ℕ) (from before column : Positions) (answer : Done) : Type 0 where
-  pub answers : answer ≡ done (positionsDoor v from before)
-  pub i-left : column .i ≡ after (positionsDoor v from before) (take v (from .i)) (before .i)
-  pub j-left : column .j ≡ after (positionsDoor v from before) (take v (from .j)) (before .j)
-  pub t-left : column .t ≡ after (positionsDoor v from before) (take v (from .t)) (before .t)
+use Rattle.code_access.specs.Answers.{counted, bothCounted}
 
 -- ---- get_initializer
 
@@ -144,11 +114,3 @@ pub record GotSyndrome (v e : ℕ) (column before lists : Syndrome) (answer : Sy
   pub answers : answer ≡ bothCounted (getSyndromeDoor v e column before) (length (listed v (column .defects))) (length (listed e (column .erasures)))
   pub defects-left : lists .defects ≡ after (getSyndromeDoor v e column before) (listed v (column .defects)) (before .defects)
   pub erasures-left : lists .erasures ≡ after (getSyndromeDoor v e column before) (listed e (column .erasures)) (before .erasures)
-
--- ---- is_virtual, is_defect: `sound` is question 7 of the bytes
-
-abbrev pub isDoor : (sound : Bool) (v : ℕ) (column : List ℕ) (vertex : ℕ) → ℕ
-isDoor sound v column vertex = ask (leb v (length column)) 6 (ask (vertexCountSound v && sound) 7 (ask (ltb vertex v) 13 0))
-
-abbrev pub isMarked : (sound : Bool) (v : ℕ) (column : List ℕ) (vertex : ℕ) → Truth
-isMarked sound v column vertex = told (isDoor sound v column vertex) (isSet (getD column vertex 0))

@@ -1,6 +1,7 @@
 // Getters and setters of a code's columns.
+pub use code_positions::get_positions;
+use code_room::three_long;
 use columns::Done;
-use columns::VertexIndex;
 use columns::Weight;
 use columns::done_of;
 use columns::questions::asked;
@@ -12,16 +13,17 @@ use columns::questions::edge_count_sound;
 use columns::questions::half_weights_sound;
 use columns::questions::marks_sound;
 use columns::questions::vertex_count_sound;
-use columns::stores::copy_f64;
 use columns::stores::copy_u32;
-use marks::is_set;
 use marks::list_set;
 use marks::set_marks;
 use neighbors::sound::graph_sound;
+pub use vertex_marks::Truth;
+pub use vertex_marks::is_defect;
+pub use vertex_marks::is_virtual;
 use whole_weights::store_weights;
 ghost use mathlib.Core.Path.{_≡_};
-ghost use Rattle.columns.specs.Questions.{vertexCountSound, edgeCountSound, boundariesSound, marksSound};
-ghost use Rattle.code_access.specs.Calls.{threeLong, positions, positionsDoor, GotPositions, code, initializer, initializerLong, codeSound, initializerDoor, GotInitializer, setDoor, SetMarks, syndrome, countsSound, setSyndromeDoor, SetSyndrome, getDoor, GotMarks, getSyndromeDoor, GotSyndrome, isDoor, isMarked};
+ghost use Rattle.columns.specs.Questions.{vertexCountSound, edgeCountSound};
+ghost use Rattle.code_access.specs.Calls.{code, initializer, initializerLong, codeSound, initializerDoor, GotInitializer, setDoor, SetMarks, syndrome, countsSound, setSyndromeDoor, SetSyndrome, getDoor, GotMarks, getSyndromeDoor, GotSyndrome};
 
 // What a call answers that hands back a list: how many numbers it has.
 pub enum ListCount {
@@ -33,67 +35,6 @@ pub enum ListCount {
 pub enum SyndromeCounts {
     Counts(u32, u32),
     Refused(u32),
-}
-
-// What a call answers that is asked about one vertex.
-pub enum Truth {
-    Is(bool),
-    Refused(u32),
-}
-
-// Question 6 of three columns, by their lengths.
-fn three_long(n: usize, a: usize, b: usize, c: usize) -> bool
-    ensures { λ r. ⌜ r ≡ threeLong n a b c ⌝ }
-{
-    both(at_most(n, a), both(at_most(n, b), at_most(n, c)))
-}
-
-// The first question of get_positions that is not met, or 0.
-fn positions_door(
-    vertex_num: u32,
-    pos_i: &[f64],
-    pos_j: &[f64],
-    pos_t: &[f64],
-    to_i: &[f64],
-    to_j: &[f64],
-    to_t: &[f64],
-) -> u32
-    ensures { λ r. ⌜ r ≡ positionsDoor «vertex_num»
-        (positions (now («pos_i» .entry)) (now («pos_j» .entry)) (now («pos_t» .entry)))
-        (positions (now («to_i» .entry)) (now («to_j» .entry)) (now («to_t» .entry))) ⌝ }
-{
-    let n = vertex_num as usize;
-    let from = three_long(n, pos_i.len(), pos_j.len(), pos_t.len());
-    let to = three_long(n, to_i.len(), to_j.len(), to_t.len());
-    let sound = vertex_count_sound(vertex_num);
-    asked(both(from, to), 6, asked(sound, 7, 0))
-}
-
-// Copies the position of every vertex.
-pub fn get_positions(
-    vertex_num: u32,
-    pos_i: &[f64],
-    pos_j: &[f64],
-    pos_t: &[f64],
-    to_i: &mut [f64],
-    to_j: &mut [f64],
-    to_t: &mut [f64],
-) -> Done
-    ensures { λ r. ⌜ GotPositions «vertex_num»
-        (positions (now («pos_i» .entry)) (now («pos_j» .entry)) (now («pos_t» .entry)))
-        (positions (now («to_i» .entry)) (now («to_j» .entry)) (now («to_t» .entry)))
-        (positions (now («to_i» .exit)) (now («to_j» .exit)) (now («to_t» .exit)))
-        r ⌝ }
-{
-    let number = positions_door(vertex_num, pos_i, pos_j, pos_t, to_i, to_j, to_t);
-    if number == 0 {
-        let n = vertex_num as usize;
-        copy_f64(to_i, pos_i, n);
-        copy_f64(to_j, pos_j, n);
-        copy_f64(to_t, pos_t, n);
-        return Done::Accepted;
-    }
-    done_of(number)
 }
 
 // Question 6 of get_initializer.
@@ -383,46 +324,4 @@ pub fn get_syndrome(
         return SyndromeCounts::Counts(defects, erasures);
     }
     SyndromeCounts::Refused(number)
-}
-
-// Whether the byte of a vertex is set; `sound` is question 7 of the bytes.
-fn is_marked(sound: bool, vertex_num: u32, column: &[u8], vertex: u32) -> Truth
-    ensures { λ r. ⌜ r ≡ isMarked sound «vertex_num» (now (column .entry)) vertex ⌝ }
-{
-    let long = at_most(vertex_num as usize, column.len());
-    let both_sound = both(vertex_count_sound(vertex_num), sound);
-    let number = asked(
-        long,
-        6,
-        asked(both_sound, 7, asked(vertex < vertex_num, 13, 0)),
-    );
-    if number == 0 {
-        let i = vertex as usize;
-        return Truth::Is(is_set(column[i]));
-    }
-    Truth::Refused(number)
-}
-
-// Whether a vertex is virtual.
-pub fn is_virtual(vertex_num: u32, boundary: &[u8], vertex: VertexIndex) -> Truth
-    ensures { λ r. ⌜ r ≡ isMarked (boundariesSound «vertex_num» (now (boundary .entry))) «vertex_num» (now (boundary .entry)) (vertex .0) ⌝ }
-{
-    is_marked(
-        boundaries_sound(boundary, vertex_num as usize),
-        vertex_num,
-        boundary,
-        vertex.0,
-    )
-}
-
-// Whether a vertex is a defect.
-pub fn is_defect(vertex_num: u32, defect: &[u8], vertex: VertexIndex) -> Truth
-    ensures { λ r. ⌜ r ≡ isMarked (marksSound «vertex_num» (now (defect .entry))) «vertex_num» (now (defect .entry)) (vertex .0) ⌝ }
-{
-    is_marked(
-        marks_sound(defect, vertex_num as usize),
-        vertex_num,
-        defect,
-        vertex.0,
-    )
 }

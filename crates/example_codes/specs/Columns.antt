@@ -1,10 +1,9 @@
 -- The columns of a code, as document 01's "Records" have them, and question 6 about them.
-use Prim.Native.Nat.{ℕ, _*_, min}
-use mathlib.Core.Bool.{Bool, _&&_}
+use Prim.Native.Nat.{ℕ, min}
 use mathlib.Core.List.{List}
 use lib.ListN.{length}
-use lib.Dec.{leb}
 use lib.Ieee.{Float}
+unfoldable pub use Rattle.code_room.specs.Room.{longEnough}
 
 pub record CodeColumns : Type 0 where
   -- edge columns
@@ -33,7 +32,3 @@ edgeRoom c = shortest (length (c .endsA)) (length (c .endsB)) (length (c .p)) (l
 
 abbrev pub vertexRoom : CodeColumns → ℕ
 vertexRoom c = shortest (length (c .posI)) (length (c .posJ)) (length (c .posT)) (length (c .boundary)) (length (c .defect)) (length (c .listLengths))
-
--- question 6: vertex columns: the vertices; edge columns: the edges; neighbour numbers: twice the edges
-unfoldable pub longEnough : (vertices edges vertexRoom edgeRoom numbers : ℕ) → Bool
-longEnough vertices edges vertexRoom edgeRoom numbers = leb vertices vertexRoom && (leb edges edgeRoom && leb (2 * edges) numbers)

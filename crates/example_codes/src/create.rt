@@ -4,15 +4,15 @@ ghost use Prim.Native.Nat.{_+_, _*_, _≤_, _<_};
 ghost use lib.ListN.{length};
 ghost use Rattle.layers.specs.Counts.{vertexNum, edgeNum};
 ghost use Rattle.layers.specs.Accepts.{Buildable};
-ghost use Rattle.example_codes.specs.Columns.{CodeColumns, shortest, longEnough};
+ghost use Rattle.example_codes.specs.Columns.{CodeColumns, shortest};
 ghost use Rattle.example_codes.specs.CreateCode.{refusal, CreateCode};
 ghost use Rattle.example_codes.specs.Steps.{EdgeColumnsLong, EdgeColumnsFilled, VertexColumnsLong, VertexColumnsFilled};
 use super::Created;
 use code_questions::code_refusal;
 use code_questions::distance_within;
 use code_questions::rounds_within;
+use code_room::long_enough;
 use columns::questions::asked;
-use columns::questions::both;
 use columns::questions::lesser;
 use columns::stores::fill_f64;
 use columns::stores::fill_u8;
@@ -23,21 +23,6 @@ pub fn shortest_of(a: usize, b: usize, c: usize, d: usize, e: usize, f: usize) -
     ensures { λ r. ⌜ r ≡ shortest a b c d e f ⌝ }
 {
     lesser(a, lesser(b, lesser(c, lesser(d, lesser(e, f)))))
-}
-
-// Question 6.
-fn long_enough(
-    vertices: u64,
-    edges: u64,
-    vertex_room: usize,
-    edge_room: usize,
-    numbers: usize,
-) -> bool
-    requires { ⌜ edges ≤ 1000000000000 ⌝ }
-    ensures { λ r. ⌜ r ≡ longEnough vertices edges «vertex_room» «edge_room» numbers ⌝ }
-{
-    let rest = both(edges <= edge_room as u64, 2 * edges <= numbers as u64);
-    both(vertices <= vertex_room as u64, rest)
 }
 
 // Questions 2 to 6.

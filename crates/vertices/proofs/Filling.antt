@@ -14,7 +14,8 @@ use Rattle.columns.proofs.Columns.{sets-over, after-accepted}
 use Rattle.columns.proofs.Tests.{and-both}
 use Rattle.neighbors.specs.Sound.{graphSound}
 use Rattle.neighbors.proofs.Ends.{GraphSound, graph-says}
-use Rattle.vertices.specs.Fill.{Vertices, vertexColumnsLong, edgeColumnsLong, fillDoor}
+use Rattle.code_room.specs.Room.{edgeColumnsLong}
+use Rattle.vertices.specs.Fill.{Vertices, vertexColumnsLong, fillDoor}
 
 pub record FillMet (v e : ℕ) (a b : List ℕ) (c : Vertices) : Type 0 where
   pub i : v ≤ length (c .i)

@@ -1,5 +1,5 @@
 -- What fill_vertices asks and leaves.
-use Prim.Native.Nat.{ℕ, _*_}
+use Prim.Native.Nat.{ℕ}
 use mathlib.Core.Path.{_≡_}
 use mathlib.Core.Bool.{Bool, _&&_}
 use mathlib.Core.List.{List}
@@ -11,6 +11,7 @@ use Rattle.columns.specs.Questions.{ask}
 use Rattle.columns.specs.Answers.{done}
 use Rattle.columns.specs.Places.{zeroFloat}
 use Rattle.columns.specs.declared.Done.{Done}
+use Rattle.code_room.specs.Room.{edgeColumnsLong}
 use Rattle.neighbors.specs.Lists.{lists, degrees}
 use Rattle.neighbors.specs.Sound.{graphSound}
 
@@ -33,10 +34,6 @@ unfoldable pub vertexColumnsLong : ℕ → Vertices → Bool
 vertexColumnsLong v c =
     (leb v (length (c .i)) && (leb v (length (c .j)) && leb v (length (c .t))))
     && (leb v (length (c .boundary)) && (leb v (length (c .defect)) && leb v (length (c .lengths))))
-
--- 6: ends as long as the edges, neighbour numbers as long as twice the edges
-unfoldable pub edgeColumnsLong : (e : ℕ) (a b numbers : List ℕ) → Bool
-edgeColumnsLong e a b numbers = leb e (length a) && (leb e (length b) && leb (2 * e) (length numbers))
 
 -- questions 6 and 7, in order
 abbrev pub fillDoor : (v e : ℕ) (a b : List ℕ) → Vertices → ℕ

@@ -5,7 +5,8 @@ ghost use lib.ListN.{length};
 ghost use Rattle.columns.specs.Lists.{over};
 ghost use Rattle.neighbors.specs.Lists.{lists, degrees};
 ghost use Rattle.neighbors.specs.Steps.{InRange};
-ghost use Rattle.vertices.specs.Fill.{vertices, vertexColumnsLong, edgeColumnsLong, fillDoor, FilledVertices};
+ghost use Rattle.vertices.specs.Fill.{vertices, vertexColumnsLong, fillDoor, FilledVertices};
+use code_room::edge_columns_long;
 use columns::Done;
 use columns::done_of;
 use columns::questions::asked;
@@ -37,22 +38,6 @@ fn vertex_columns_long(
     let d = at_most(n, defect.len());
     let l = at_most(n, list_lengths.len());
     both(both(i, both(j, t)), both(b, both(d, l)))
-}
-
-// Question 6 of the ends and the neighbour numbers.
-fn edge_columns_long(
-    edge_num: u32,
-    ends_a: &[u32],
-    ends_b: &[u32],
-    neighbor_numbers: &[u32],
-) -> bool
-    ensures { λ r. ⌜ r ≡ edgeColumnsLong «edge_num» (now («ends_a» .entry)) (now («ends_b» .entry)) (now («neighbor_numbers» .entry)) ⌝ }
-{
-    let n = edge_num as usize;
-    let a = at_most(n, ends_a.len());
-    let b = at_most(n, ends_b.len());
-    let numbers = at_most(2 * n, neighbor_numbers.len());
-    both(a, both(b, numbers))
 }
 
 // The first question of fill_vertices that is not met, or 0.

@@ -6,7 +6,8 @@ use Rattle.code_access.specs.declared.ListCount.the-variants.{Count, Ref
 use Rattle.marks.specs.Marks.{listed}
 use Rattle.whole_weights.specs.Weights.{weights}
 use Rattle.code_access.specs.Calls.{code, initializer, initializerDoor}
-use Rattle.code_access.proofs.Doors.{initializer-met, answer-zero, answer-no}
+use Rattle.code_room.proofs.Doors.{answer-zero, answer-no}
+use Rattle.code_access.proofs.Doors.{initializer-met}
 use borrow.Author.Needs.{needs}
 use Rattle.code_access.proofs.get_initializer.Statement.{statement}
 use Rattle.code_access.proofs.get_initializer.Tie as tie

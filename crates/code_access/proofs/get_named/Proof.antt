@@ -5,7 +5,8 @@ use Rattle.columns.proofs.Columns.{after-accepted, after-refused}
 use Rattle.code_access.specs.declared.ListCount.the-variants.{Count, Refused}
 use Rattle.marks.specs.Marks.{listed}
 use Rattle.code_access.specs.Calls.{getDoor}
-use Rattle.code_access.proofs.Doors.{get-met, answer-zero, answer-no}
+use Rattle.code_room.proofs.Doors.{answer-zero, answer-no}
+use Rattle.code_access.proofs.Doors.{get-met}
 use borrow.Author.Needs.{needs}
 use Rattle.code_access.proofs.get_named.Statement.{statement}
 use Rattle.code_access.proofs.get_named.Tie as tie

@@ -5,7 +5,8 @@ use Rattle.columns.proofs.Columns.{after-accepted, after-refused}
 use Rattle.code_access.specs.declared.SyndromeCounts.the-variants.{Counts, Refused}
 use Rattle.marks.specs.Marks.{listed}
 use Rattle.code_access.specs.Calls.{syndrome, getSyndromeDoor}
-use Rattle.code_access.proofs.Doors.{get-syndrome-met, answer-zero, answer-no}
+use Rattle.code_room.proofs.Doors.{answer-zero, answer-no}
+use Rattle.code_access.proofs.Doors.{get-syndrome-met}
 use borrow.Author.Needs.{needs}
 use Rattle.code_access.proofs.get_syndrome.Statement.{statement}
 use Rattle.code_access.proofs.get_syndrome.Tie as tie

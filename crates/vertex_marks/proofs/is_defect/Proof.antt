@@ -1,7 +1,7 @@
--- `code_access::is_defect` meets its contract. Assumes nothing.
+-- `vertex_marks::is_defect` meets its contract. Assumes nothing.
 use borrow.Author.Needs.{needs}
-use Rattle.code_access.proofs.is_defect.Statement.{statement}
-use Rattle.code_access.proofs.is_defect.Tie as tie
+use Rattle.vertex_marks.proofs.is_defect.Statement.{statement}
+use Rattle.vertex_marks.proofs.is_defect.Tie as tie
 
 marks-sound-requires : tie.Need-marks-sound-requires
 marks-sound-requires c κs = search needs

@@ -1,8 +1,8 @@
--- `vertices::fill::edge_columns_long` meets its contract. Assumes nothing.
-use Rattle.vertices.specs.Fill.{edgeColumnsLong}
+-- `code_room::edge_columns_long` meets its contract. Assumes nothing.
+use Rattle.code_room.specs.Room.{edgeColumnsLong}
 use borrow.Author.Needs.{needs}
-use Rattle.vertices.proofs.fill.edge_columns_long.Statement.{statement}
-use Rattle.vertices.proofs.fill.edge_columns_long.Tie as tie
+use Rattle.code_room.proofs.edge_columns_long.Statement.{statement}
+use Rattle.code_room.proofs.edge_columns_long.Tie as tie
 
 at-most-requires : tie.Need-at-most-requires
 at-most-requires c κs = search needs

@@ -1,7 +1,7 @@
--- `code_access::positions_door` meets its contract. Assumes nothing.
+-- `code_positions::positions_door` meets its contract. Assumes nothing.
 use borrow.Author.Needs.{needs}
-use Rattle.code_access.proofs.positions_door.Statement.{statement}
-use Rattle.code_access.proofs.positions_door.Tie as tie
+use Rattle.code_positions.proofs.positions_door.Statement.{statement}
+use Rattle.code_positions.proofs.positions_door.Tie as tie
 
 three-long-requires : tie.Need-three-long-requires
 three-long-requires c κs = search needs

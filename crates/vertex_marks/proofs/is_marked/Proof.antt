@@ -1,14 +1,15 @@
--- `code_access::is_marked` meets its contract. Assumes nothing.
+-- `vertex_marks::is_marked` meets its contract. Assumes nothing.
 use mathlib.Core.Path.{_≡_, refl, sym, ap, _∙_}
 use native.Mathlib.Omega.{arith}
 use lib.ListN.{getD}
-use Rattle.code_access.specs.declared.Truth.the-variants.{Is, Refused}
+use Rattle.vertex_marks.specs.declared.Truth.the-variants.{Is, Refused}
 use Rattle.marks.specs.Marks.{isSet}
-use Rattle.code_access.specs.Calls.{isDoor}
-use Rattle.code_access.proofs.Doors.{is-met, answer-zero, answer-no}
+use Rattle.vertex_marks.specs.Marked.{isDoor}
+use Rattle.code_room.proofs.Doors.{answer-zero, answer-no}
+use Rattle.vertex_marks.proofs.Below.{is-met}
 use borrow.Author.Needs.{needs}
-use Rattle.code_access.proofs.is_marked.Statement.{statement}
-use Rattle.code_access.proofs.is_marked.Tie as tie
+use Rattle.vertex_marks.proofs.is_marked.Statement.{statement}
+use Rattle.vertex_marks.proofs.is_marked.Tie as tie
 
 -- the number that the questions give
 number : (c : tie.After-asked3) → let s = c .before .before .before .before .before .before .before .args in c .asked3 .result ≡ isDoor (s .sound) (s .vertex-num) (s .column .now) (s .vertex)

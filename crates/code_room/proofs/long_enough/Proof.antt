@@ -1,11 +1,11 @@
--- `example_codes::create::long_enough` meets its contract. Assumes nothing.
+-- `code_room::long_enough` meets its contract. Assumes nothing.
 use mathlib.Core.Path.{ap, _∙_}
 use mathlib.Core.Bool.{Bool, _&&_}
 use lib.Dec.{leb}
-use Rattle.example_codes.specs.Columns.{longEnough}
+use Rattle.code_room.specs.Room.{longEnough}
 use borrow.Author.Needs.{needs}
-use Rattle.example_codes.proofs.create.long_enough.Statement.{statement}
-use Rattle.example_codes.proofs.create.long_enough.Tie as tie
+use Rattle.code_room.proofs.long_enough.Statement.{statement}
+use Rattle.code_room.proofs.long_enough.Tie as tie
 
 mul-both : tie.Need-mul-both
 mul-both c = search needs

@@ -1,7 +1,7 @@
--- `code_access::is_virtual` meets its contract. Assumes nothing.
+-- `vertex_marks::is_virtual` meets its contract. Assumes nothing.
 use borrow.Author.Needs.{needs}
-use Rattle.code_access.proofs.is_virtual.Statement.{statement}
-use Rattle.code_access.proofs.is_virtual.Tie as tie
+use Rattle.vertex_marks.proofs.is_virtual.Statement.{statement}
+use Rattle.vertex_marks.proofs.is_virtual.Tie as tie
 
 boundaries-sound-requires : tie.Need-boundaries-sound-requires
 boundaries-sound-requires c κs = search needs

@@ -1,13 +1,13 @@
--- `code_access::get_positions` meets its contract. Assumes nothing.
+-- `code_positions::get_positions` meets its contract. Assumes nothing.
 use mathlib.Core.Path.{_≡_, refl, sym, ap, _∙_}
 use lib.ListN.{take}
 use Rattle.columns.specs.Answers.{done}
 use Rattle.columns.proofs.Columns.{copy-after, after-refused}
-use Rattle.code_access.specs.Calls.{positions, positionsDoor}
-use Rattle.code_access.proofs.Doors.{positions-long}
+use Rattle.code_positions.specs.Positions.{positions, positionsDoor}
+use Rattle.code_positions.proofs.Long.{positions-long}
 use borrow.Author.Needs.{needs}
-use Rattle.code_access.proofs.get_positions.Statement.{statement}
-use Rattle.code_access.proofs.get_positions.Tie as tie
+use Rattle.code_positions.proofs.get_positions.Statement.{statement}
+use Rattle.code_positions.proofs.get_positions.Tie as tie
 
 positions-door-requires : tie.Need-positions-door-requires
 positions-door-requires c κs = search needs

@@ -1,8 +1,8 @@
--- `code_access::three_long` meets its contract. Assumes nothing.
-use Rattle.code_access.specs.Calls.{threeLong}
+-- `code_room::three_long` meets its contract. Assumes nothing.
+use Rattle.code_room.specs.Room.{threeLong}
 use borrow.Author.Needs.{needs}
-use Rattle.code_access.proofs.three_long.Statement.{statement}
-use Rattle.code_access.proofs.three_long.Tie as tie
+use Rattle.code_room.proofs.three_long.Statement.{statement}
+use Rattle.code_room.proofs.three_long.Tie as tie
 
 at-most-requires : tie.Need-at-most-requires
 at-most-requires c κs = search needs

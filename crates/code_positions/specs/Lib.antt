@@ -1,0 +1,2 @@
+-- Positions: what get_positions asks and leaves.
+pub mod Positions

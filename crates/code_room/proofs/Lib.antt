@@ -1,0 +1,2 @@
+-- Doors: what a question that is met says.
+pub mod Doors

@@ -1,0 +1,2 @@
+-- Room: question 6.
+pub mod Room

@@ -1,0 +1,2 @@
+-- Below: what an accepted call says of its vertex.
+pub mod Below

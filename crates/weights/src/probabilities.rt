@@ -35,13 +35,12 @@ pub fn are_probabilities(p: &[f64], n: usize) -> bool
 {
     let m = lesser(n, p.len());
     let mut i: usize = 0;
+    let mut pass = true;
     while i < m {
-        if !is_probability(p[i]) {
-            return false;
-        }
+        pass = both(pass, is_probability(p[i]));
         i += 1;
     }
-    true
+    pass
 }
 
 // Whether the first n numbers, or all where there are fewer, pass the test for pe.
@@ -50,11 +49,10 @@ pub fn are_erasure_probabilities(pe: &[f64], n: usize) -> bool
 {
     let m = lesser(n, pe.len());
     let mut i: usize = 0;
+    let mut pass = true;
     while i < m {
-        if !is_erasure_probability(pe[i]) {
-            return false;
-        }
+        pass = both(pass, is_erasure_probability(pe[i]));
         i += 1;
     }
-    true
+    pass
 }

@@ -3,7 +3,7 @@ use mathlib.Core.Path.{_≡_, refl, sym, ap, _∙_, subst}
 use mathlib.Core.Bool.{Bool, true, false, not, _||_, true≢false}
 use Prim.Native.Nat.{_^_}
 use lib.Dec.{T, eqb→eq, not-T}
-use lib.Ieee.{Float, nan, inf, fin, binary64, eq, le, ofBits, toBits, fits, isNan}
+use lib.Ieee.{Float, nan, inf, fin, binary64, eq, ofBits, toBits, fits, isNan}
 use lib.Ieee.Bits.{is-false, ofBits-toBits}
 use lib.Ieee.Exact.{HasValue}
 use lib.Ieee.Positive.{positive}

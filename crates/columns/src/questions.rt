@@ -86,13 +86,12 @@ fn weights_within(s: &[Weight], n: usize, limit: Weight) -> bool
 {
     let m = lesser(n, s.len());
     let mut i: usize = 0;
+    let mut within = true;
     while i < m {
-        if limit < s[i] {
-            return false;
-        }
+        within = both(within, s[i] <= limit);
         i += 1;
     }
-    true
+    within
 }
 
 // Whether the first n bytes, or all where there are fewer, are at most the limit.
@@ -101,13 +100,12 @@ fn bytes_within(s: &[u8], n: usize, limit: u8) -> bool
 {
     let m = lesser(n, s.len());
     let mut i: usize = 0;
+    let mut within = true;
     while i < m {
-        if limit < s[i] {
-            return false;
-        }
+        within = both(within, s[i] <= limit);
         i += 1;
     }
-    true
+    within
 }
 
 // Question 7: 1 to 4,096 vertices.

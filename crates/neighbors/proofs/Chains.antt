@@ -1,10 +1,10 @@
--- Laws of the test that no two edges join one pair, and of chains of edges by their smaller end. Assumes nothing.
-use mathlib.Core.Path.{_≡_, refl, sym, ap, ap₂, _∙_}
+-- Laws of the test that no two edges join one pair, and of chains of edges. Assumes nothing.
+use mathlib.Core.Path.{_≡_, refl, sym, ap, ap₂, _∙_, subst}
 use mathlib.Core.Logic.{⊎-elim, _⊎_, inl, inr}
 use mathlib.Core.Bool.{Bool, true, false, not, _&&_, _||_}
 use mathlib.Core.List.{List}
-use Prim.Native.Nat.{ℕ, zero, suc, _+_, _-_, _≤_, _<_, min, max}
-use native.Mathlib.Nat.{eq-or-lt-of-le}
+use Prim.Native.Nat.{ℕ, zero, suc, _+_, _-_, _*_, _%_, _≤_, _<_, min, max}
+use native.Mathlib.Nat.{eq-or-lt-of-le, le-of-lt}
 use native.Mathlib.Decide.{ℕ-discrete, decLe}
 use native.Mathlib.Omega.{arith}
 use borrow.Author.Tests.{eq-eqb, ne-eqb, eqb-true, eqb-false}
@@ -14,7 +14,7 @@ use lib.Dec.{eqb}
 use Rattle.columns.specs.Questions.{every}
 use Rattle.columns.proofs.Tests.{every-not, at-every, every-at}
 use Rattle.neighbors.specs.Sound.{samePair, pairsApart, endsDiffer}
-use Rattle.neighbors.specs.Steps.{lowAt, highAt, Last}
+use Rattle.neighbors.specs.Steps.{lowAt, highAt, slotAt, Last}
 
 -- two pairs are the same where their smaller and their larger numbers are
 either : (x y u v : ℕ) → min x y ≡ min u v → max x y ≡ max u v → ((x ≡ u) × (y ≡ v)) ⊎ ((x ≡ v) × (y ≡ u))
@@ -50,6 +50,17 @@ module _ (a b : List ℕ) (i : ℕ) where
   fresh-all k h = at-every (λ j. not (samePair a b j i)) k (λ m l. ap not (test-false
       (λ p q. h m l (ap₂ min p q) (ap₂ max p q))
       (λ p q. h m l (omega arith) (omega arith))))
+
+-- the slot and the larger end are those of the pair
+module _ (a b : List ℕ) (j i : ℕ) where
+  pub slot-low : slotAt a b j ≡ slotAt a b i → highAt a b j ≡ highAt a b i → lowAt a b j ≡ lowAt a b i
+  slot-low = go (lowAt a b j) (highAt a b j) (lowAt a b i) (highAt a b i)
+    where
+      go : (x y u v : ℕ) → 16 * x + y % 16 ≡ 16 * u + v % 16 → y ≡ v → x ≡ u
+      go x y u v p q = let r : y % 16 ≡ v % 16 = ap (λ (n : ℕ). n % 16) q in omega arith
+
+  pub low-slot : lowAt a b j ≡ lowAt a b i → highAt a b j ≡ highAt a b i → slotAt a b j ≡ slotAt a b i
+  low-slot = ap₂ (λ (x y : ℕ). 16 * x + y % 16)
 
 pub le-or-lt : (a b : ℕ) → (a ≤ b) ⊎ (b < a)
 le-or-lt a b = elim (decLe a b) [ yes e ↦ inl e | no e ↦ inr (omega arith) ]
@@ -92,6 +103,39 @@ module _ (f : ℕ → ℕ) (i v : ℕ) (here : f i ≡ v) where
       (λ (e : j ≡ i). rw (e, getD-set-same next i h 0 hl, here) l)
       (λ (k : j < i). rw (getD-set-other next i j h 0 (λ e. omega arith)) (all j k))
       (eq-or-lt-of-le {n = j} {m = i} (omega arith))
+
+-- larger ends that ascend: `top` has for each smaller end the last larger end before edge i, whose ends are v and y
+module _ (a b : List ℕ) (i v y : ℕ) (low : lowAt a b i ≡ v) (high : highAt a b i ≡ y) (top : List ℕ) (room : v < length top) (above : getD top v 0 < y)
+    (last : (j : ℕ) → j < i → highAt a b j ≤ getD top (lowAt a b j) 0) where
+  -- an earlier edge with the same smaller end
+  before : (j : ℕ) → j < i → lowAt a b j ≡ v → highAt a b j < y
+  before j l e = go (highAt a b j) (getD top (lowAt a b j) 0) (getD top v 0) (last j l) (ap (λ (u : ℕ). getD top u 0) e) above
+    where
+      go : (x t u : ℕ) → x ≤ t → t ≡ u → u < y → x < y
+      go x t u p q r = omega arith
+
+  pub top-fresh : every i (λ j. not (samePair a b j i)) ≡ true
+  top-fresh = fresh-all a b i i (λ m l p q. go (highAt a b m) (highAt a b i) (before m l (p ∙ low)) q high)
+    where
+      go : (x z : ℕ) → x < y → x ≡ z → z ≡ y → ⊥
+      go x z p q r = omega arith
+
+  pub top-more : (j : ℕ) → j < i + 1 → highAt a b j ≤ getD (set top v y) (lowAt a b j) 0
+  top-more j l =
+      ⊎-elim
+      (λ (e : j ≡ i). here j (ap (lowAt a b) e ∙ low) (go (highAt a b j) (ap (highAt a b) e ∙ high)))
+      (λ (k : j < i).
+      ⊎-elim
+      (λ (e : lowAt a b j ≡ v). here j e (le-of-lt (before j k e)))
+      (λ (d : lowAt a b j ≡ v → ⊥). subst (λ (t : ℕ). highAt a b j ≤ t) (sym (getD-set-other top v (lowAt a b j) y 0 d)) (last j k))
+      (eq-or-not (lowAt a b j) v))
+      (eq-or-lt-of-le {n = j} {m = i} (omega arith))
+    where
+      go : (x : ℕ) → x ≡ y → x ≤ y
+      go x e = omega arith
+
+      here : (j : ℕ) → lowAt a b j ≡ v → highAt a b j ≤ y → highAt a b j ≤ getD (set top v y) (lowAt a b j) 0
+      here j e h = subst (λ (t : ℕ). highAt a b j ≤ t) (sym (ap (λ (u : ℕ). getD (set top v y) u 0) e ∙ getD-set-same top v y 0 room)) h
 
 -- an array of zeros
 pub zeros-at : (n v : ℕ) → getD {A = ℕ} (replicate n 0) v 0 ≡ 0

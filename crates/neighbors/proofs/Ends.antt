@@ -12,7 +12,7 @@ use Rattle.columns.specs.Limits.{vertexLimit, edgeLimit}
 use Rattle.columns.specs.Questions.{allBelow, vertexCountSound, edgeCountSound}
 use Rattle.columns.proofs.Tests.{and-both, both-and, below-first, at-below}
 use Rattle.neighbors.specs.Sound.{endsInRange, endsDiffer, pairsApart, graphSound}
-use Rattle.neighbors.specs.Steps.{InRange}
+use Rattle.neighbors.specs.Steps.{InRange, Ascending}
 use Rattle.neighbors.proofs.Chains.{OnePair, differ-at, at-differ, apart-at, at-apart}
 
 pub record GraphSound (v e : ℕ) (a b : List ℕ) : Type 0 where
@@ -67,6 +67,15 @@ module _ (v e : ℕ) (a b : List ℕ) where
       (both-and (le-leb e edgeLimit (s .few-edges))
       (both-and (both-and (le-leb e (length a) (s .long-a)) (both-and (le-leb e (length b) (s .long-b)) (both-and (first-below a (s .long-a) (s .in-a)) (first-below b (s .long-b) (s .in-b)))))
       (both-and (at-differ a b e (s .differ)) (at-apart a b e (s .apart)))))
+
+  -- ends in range that ascend are those of a graph
+  pub ascending-says : vertexCountSound v ≡ true → edgeCountSound e ≡ true → e ≤ length a → e ≤ length b → allBelow v (take e b) ≡ true → Ascending a b e
+      → graphSound v e a b ≡ true
+  unfolding graphSound endsInRange
+  ascending-says vs es la lb bb asc =
+      let in-a : InRange a e v = λ k h. omega (arith, below-first v e b bb lb k h, asc .smaller k h) in
+      both-and vs (both-and es (both-and (both-and (le-leb e (length a) la) (both-and (le-leb e (length b) lb) (both-and (first-below a la in-a) bb)))
+      (both-and (at-differ a b e (λ k h q. omega (arith, asc .smaller k h))) (asc .apart))))
 
   -- the first part that fails
   no : (x y : Bool) → x ≡ false → false ≡ (x && y)

@@ -1,6 +1,9 @@
 // Question 7, as total tests.
 ghost use mathlib.Core.Path.{_≡_};
+ghost use mathlib.Core.Bool.{true};
+ghost use Rattle.columns.specs.Questions.{vertexCountSound, edgeCountSound};
 ghost use Rattle.neighbors.specs.Sound.{endsInRange, graphSound, logSound};
+use super::pairs::ascending;
 use super::pairs::ends_differ;
 use super::pairs::pairs_apart;
 use columns::Weight;
@@ -23,6 +26,24 @@ fn ends_in_range(vertex_num: u32, edge_num: u32, a: &[u32], b: &[u32]) -> bool
     both(long_a, both(long_b, both(below_a, below_b)))
 }
 
+// Whether the columns hold the edges, with ends that are in range and ascend, as in every built code: then they are those of a graph.
+fn ascending_ends(vertex_num: u32, edge_num: u32, a: &[u32], b: &[u32]) -> bool
+    requires { ⌜ (vertexCountSound «vertex_num» ≡ true) × (edgeCountSound «edge_num» ≡ true) ⌝ }
+    ensures { λ r. ⌜ (r ≡ true → graphSound «vertex_num» «edge_num» (now (a .entry)) (now (b .entry)) ≡ true) ⌝ }
+{
+    let n = edge_num as usize;
+    if a.len() < n {
+        return false;
+    }
+    if b.len() < n {
+        return false;
+    }
+    if !all_below(b, n, vertex_num) {
+        return false;
+    }
+    ascending(a, b, n)
+}
+
 // Whether counts and ends are those of a graph.
 pub fn graph_sound(vertex_num: u32, edge_num: u32, a: &[u32], b: &[u32]) -> bool
     ensures { λ r. ⌜ r ≡ graphSound «vertex_num» «edge_num» (now (a .entry)) (now (b .entry)) ⌝ }
@@ -32,6 +53,9 @@ pub fn graph_sound(vertex_num: u32, edge_num: u32, a: &[u32], b: &[u32]) -> bool
     }
     if !edge_count_sound(edge_num) {
         return false;
+    }
+    if ascending_ends(vertex_num, edge_num, a, b) {
+        return true;
     }
     if !ends_in_range(vertex_num, edge_num, a, b) {
         return false;

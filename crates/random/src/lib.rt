@@ -1,6 +1,6 @@
 // Document 01's generator: Xoshiro256** seeded by SplitMix64, over wrapping 64-bit words.
 ghost use mathlib.Core.Path.{_≡_};
-ghost use Prim.Native.Nat.{ℕ, _*_, _%_, _^_, _<_};
+ghost use Prim.Native.Nat.{ℕ, _+_, _*_, _%_, _^_, _<_};
 ghost use Rattle.random.specs.Random.{rotateLeft, shiftXor, splitMixNext, splitMixWord, seedFromU64, wordOf, nextOf, drawOf};
 
 // The low 64 bits of the product, from halves of 32 bits.
@@ -13,6 +13,14 @@ pub fn wrapping_mul(a: u64, b: u64) -> u64
     let b1 = b / 0x1_0000_0000;
     let cross = (a1 * b0) % 0x1_0000_0000 + (a0 * b1) % 0x1_0000_0000;
     std::num::wrapping_add_u64(a0 * b0, cross << 32)
+}
+
+// x * (2 ^ k + 1), wrapping: what Xoshiro256** multiplies by, as a shift and a sum.
+fn shift_add(x: u64, k: u32) -> u64
+    requires { ⌜ k < 64 ⌝ }
+    ensures { λ r. ⌜ r ≡ (x * (2 ^ k + 1)) % 2 ^ 64 ⌝ }
+{
+    std::num::wrapping_add_u64(x, x << k)
 }
 
 // The word turned left by k bits.
@@ -94,7 +102,7 @@ impl DeterministicRng {
     pub fn next_u64(self) -> Next
         ensures { λ r. ⌜ (r .word ≡ wordOf self) × (r .rng ≡ nextOf self) ⌝ }
     {
-        let word = wrapping_mul(rotate_left(wrapping_mul(self.s1, 5), 7), 9);
+        let word = shift_add(rotate_left(shift_add(self.s1, 2), 7), 3);
         let t = self.s1 << 17;
         let s2 = self.s2 ^ self.s0;
         let s3 = self.s3 ^ self.s1;

@@ -20,21 +20,15 @@ use Rattle.columns.proofs.Tests.{and-both, below-at}
 use Rattle.weights.proofs.Doors.{met, goes-on, asks}
 use Rattle.reorder.specs.declared.TranslatedAnswer.{TranslatedAnswer}
 use Rattle.reorder.specs.declared.TranslatedAnswer.the-variants.{Count, Refused}
-use Rattle.reorder.specs.Order.{noneTwice, oldToNew, renamed, moved}
+use Rattle.orders.specs.Order.{noneTwice, oldToNew, renamed, moved}
 use Rattle.reorder.specs.Numbers.{buildDoor, BuiltOldToNew, count, translateDoor, TranslatedDefects}
 use Rattle.columns.specs.Questions.{marksSound}
 use Rattle.neighbors.specs.Steps.{sumTo}
 use Rattle.syndromes.specs.Records.{codeGraph, codeSound}
 use Rattle.syndromes.proofs.Accepting.{CodeSound, code-sound-of}
 use Rattle.reorder.specs.Columns.{CodeColumns, movedLists, endsLong, vertexLong, positionsLong, listsLong, columnsLong, columnsSound, orderDoor, reorderDoor, ReorderedVertices}
-use Rattle.reorder.specs.Steps.{IsOrder}
-
--- a question that is not met, and one that is
-pub stops : (b : Bool) (number next : ℕ) → b ≡ false → number ≡ ask b number next
-stops b number next e = rw e
-
-pub passes : (b : Bool) (number next : ℕ) {r : ℕ} → b ≡ true → r ≡ next → r ≡ ask b number next
-passes b number next e q = rw e q
+use Rattle.orders.specs.Steps.{IsOrder}
+use Rattle.orders.proofs.Asking.{stops, passes}
 
 -- ---- build_old_to_new
 

@@ -1,4 +1,4 @@
--- Laws of moved columns and of moved neighbour lists. Assumes nothing.
+-- Laws of moved neighbour lists. Assumes nothing.
 use mathlib.Core.Path.{_≡_, refl, sym, ap, _∙_, subst}
 use mathlib.Core.List.{List, [], _∷_, _++_, map}
 use Prim.Native.Nat.{ℕ, zero, suc, _+_, _-_, _≤_, _<_, min}
@@ -14,29 +14,12 @@ use Rattle.columns.proofs.Columns.{sets-append, sets-over, over-in}
 use Rattle.columns.proofs.Counting.{joined-more, joined-same, joined-room}
 use Rattle.neighbors.specs.Steps.{sumTo}
 use Rattle.neighbors.proofs.Placing.{sum-more, sum-ascends}
-use Rattle.reorder.specs.Order.{moved}
+use Rattle.orders.specs.Order.{moved}
+use Rattle.moved_columns.proofs.Copies.{length-copied, copied-at}
 use Rattle.reorder.specs.Columns.{listAt, movedLists}
-use Rattle.reorder.specs.Steps.{IsOrder}
-use Rattle.reorder.proofs.Permutation.{total, along, along-order, order-below}
-use Rattle.reorder.proofs.Gathering.{map-listed}
-
--- ---- a copy
-
-module _ {A : Type 0} (n : ℕ) (c₀ column : List A) {copy : List A} (e : copy ≡ sets c₀ 0 (take n column)) (room : n ≤ length c₀) (long : n ≤ length column) where
-  pub length-copied : length copy ≡ length c₀
-  length-copied = ap length e ∙ length-sets c₀ 0 (take n column)
-
-  copied-over : copy ≡ over (take n column) c₀
-  copied-over = e ∙ sets-over c₀ (take n column) (omega (arith, length-take n column))
-
-  pub copied-at : (d : A) (u : ℕ) → u < n → getD copy u d ≡ getD column u d
-  copied-at d u h =
-      ap (λ (t : List A). getD t u d) copied-over ∙ over-in (take n column) c₀ d u (omega (arith, length-take n column)) ∙ getD-take n column u d h
-
-pub moved-copy : {A : Type 0} (order : List ℕ) (o : IsOrder order) (d : A) (c₀ column : List A) {copy : List A} → copy ≡ sets c₀ 0 (take (length order) column)
-    → length order ≤ length c₀ → length order ≤ length column → moved order d copy ≡ moved order d column
-moved-copy order o d c₀ column {copy} e room long =
-    map-listed (λ u. getD copy u d) (λ u. getD column u d) order (λ i h. copied-at (length order) c₀ column e room long d (getD order i 0) (order-below order o i h))
+use Rattle.orders.specs.Steps.{IsOrder}
+use Rattle.orders.proofs.Permutation.{total, along, along-order, order-below}
+use Rattle.orders.proofs.Gathering.{map-listed}
 
 -- ---- sums of lengths
 

@@ -24,10 +24,10 @@ use Rattle.walks.specs.Graph.{Graph, edges, endA, endB, Joins, Walk, stay, step
 use Rattle.syndromes.specs.Records.{CodeGraph, codeGraph, codeSound}
 use Rattle.syndromes.specs.Syndrome.{hit, endsIn, isDefectOf, syndromeOf}
 use Rattle.syndromes.proofs.Accepting.{CodeSound}
-use Rattle.reorder.specs.Order.{newNumber, renamed, moved}
+use Rattle.orders.specs.Order.{newNumber, renamed, moved}
 use Rattle.reorder.specs.Columns.{CodeColumns, columnsSound, reorderDoor, ReorderedVertices}
-use Rattle.reorder.specs.Steps.{IsOrder}
-use Rattle.reorder.proofs.Permutation.{order-below, new-below, old-of-new, new-of-old, new-differ}
+use Rattle.orders.specs.Steps.{IsOrder}
+use Rattle.orders.proofs.Permutation.{order-below, new-below, old-of-new, new-of-old, new-differ}
 use Rattle.reorder.proofs.Accepting.{ReorderMet, reorder-met}
 
 -- a Done's number is the question's

@@ -13,7 +13,7 @@ use Rattle.columns.specs.Answers.{done}
 use Rattle.columns.specs.declared.Done.{Done}
 use Rattle.neighbors.specs.Steps.{sumTo}
 use Rattle.syndromes.specs.Records.{codeGraph, codeSound}
-use Rattle.reorder.specs.Order.{noneTwice, renamed, moved}
+use Rattle.orders.specs.Order.{noneTwice, renamed, moved}
 
 -- the columns that a reordering changes; `numbers` has the neighbour lists one after another, `scratch` has room for them too
 pub record CodeColumns : Type 0 where

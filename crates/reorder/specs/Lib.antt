@@ -1,6 +1,4 @@
--- Order: orders of vertices, old numbers and new ones. Numbers: `build_old_to_new` and `translated_defect_to_reordered`.
--- Columns: `reorder_vertices`. Steps: what the contracts of private functions cite besides.
-pub mod Order
+-- Numbers: `build_old_to_new` and `translated_defect_to_reordered`. Columns: `reorder_vertices`.
+-- Orders of vertices, old numbers and new ones stand in the crate orders.
 pub mod Numbers
 pub mod Columns
-pub mod Steps

@@ -12,7 +12,7 @@ use Rattle.columns.specs.Answers.{done}
 use Rattle.columns.specs.declared.Done.{Done}
 use Rattle.reorder.specs.declared.TranslatedAnswer.{TranslatedAnswer}
 use Rattle.reorder.specs.declared.TranslatedAnswer.the-variants.{Count, Refused}
-use Rattle.reorder.specs.Order.{noneTwice, oldToNew, renamed}
+use Rattle.orders.specs.Order.{noneTwice, oldToNew, renamed}
 
 -- ---- build_old_to_new
 

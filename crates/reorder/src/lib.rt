@@ -1,7 +1,5 @@
 // Vertices in another order: old numbers and new ones, and every column moved.
 mod lists;
-mod moves;
-mod order;
 
 ghost use mathlib.Core.Path.{_≡_};
 ghost use mathlib.Core.Bool.{true};
@@ -18,13 +16,13 @@ use columns::questions::each_below;
 use columns::questions::marks_sound;
 use lists::move_lists;
 use lists::sum_within;
-use moves::move_positions;
-use moves::move_u8;
-use moves::move_u32;
-use order::order_questions;
-use order::place_numbers;
-use order::rename_ends;
-use order::translate;
+use moved_columns::move_positions;
+use moved_columns::move_u8;
+use moved_columns::move_u32;
+use orders::order_questions;
+use orders::place_numbers;
+use orders::rename_ends;
+use orders::translate;
 use syndromes::doors::code_sound;
 
 // How many numbers were translated, or the number of the question that was not met.

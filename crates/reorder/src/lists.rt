@@ -7,10 +7,10 @@ ghost use lib.Dec.{leb};
 ghost use Rattle.columns.specs.Lists.{over};
 ghost use Rattle.neighbors.specs.Steps.{sumTo};
 ghost use Rattle.reorder.specs.Columns.{movedLists};
-ghost use Rattle.reorder.specs.Steps.{IsOrder};
-use super::order::wide;
+ghost use Rattle.orders.specs.Steps.{IsOrder};
 use columns::questions::lesser;
 use columns::stores::copy_u32;
+use orders::wide;
 
 // Whether the first n lengths, or all where there are fewer, sum to at most the limit.
 pub fn sum_within(lengths: &[u32], n: usize, limit: usize) -> bool

@@ -25,14 +25,16 @@ use Rattle.syndromes.specs.declared.SyndromeAnswer.{SyndromeAnswer}
 use Rattle.syndromes.specs.declared.SyndromeAnswer.the-variants as syndrome
 use Rattle.syndromes.specs.declared.ListAnswer.{ListAnswer}
 use Rattle.syndromes.specs.declared.ListAnswer.the-variants as list
-use Rattle.syndromes.specs.Records.{CodeGraph, graphLong, codeSound, SyndromeColumns, syndromeLong, marked}
-use Rattle.syndromes.specs.Flip.{flipEach}
+use Rattle.syndromes.specs.Records.{CodeGraph, graphLong, codeSound, SyndromeColumns, syndromeLong}
+use Rattle.marked_lists.specs.Marked.{marked}
+use Rattle.flips.specs.Flip.{flipEach}
 use Rattle.syndromes.specs.Answers.{counts, count}
 use Rattle.syndromes.specs.Errors.{SyndromeLeft, errorsDoor, clearDoor, ClearedErrors}
 use Rattle.syndromes.specs.Syndrome.{endsIn, isDefectOf, syndromeOf, syndromeDoor, FoundSyndrome}
-use Rattle.syndromes.specs.Steps.{Fits}
-use Rattle.syndromes.proofs.Flipping.{length-flipEach, flipEach-front, flipEach-inner, flipEach-virtual}
-use Rattle.syndromes.proofs.Marks.{chosen-same}
+use Rattle.flips.specs.Steps.{Fits}
+use Rattle.flips.proofs.Flipping.{length-flipEach, flipEach-front, flipEach-virtual}
+use Rattle.syndromes.proofs.Inner.{flipEach-inner}
+use Rattle.marked_lists.proofs.Marks.{chosen-same}
 
 -- ---- questions 6 and 7
 

@@ -21,13 +21,15 @@ use Rattle.weights.specs.Constants.{half}
 use Rattle.neighbors.specs.Lists.{chosen}
 use Rattle.syndromes.specs.declared.SyndromeAnswer.{SyndromeAnswer}
 use Rattle.syndromes.specs.Records.{CodeGraph, SyndromeColumns}
-use Rattle.syndromes.specs.Flip.{flipEach}
+use Rattle.flips.specs.Flip.{flipEach}
 use Rattle.syndromes.specs.Answers.{numberOf, counts}
 use Rattle.syndromes.specs.Errors.{SyndromeLeft}
-use Rattle.syndromes.specs.Sampling.{drawNumber, isErased, errorProbability, hasError, sampledErasures, sampledErrors, samplingDoor, GeneratedRandomErrors}
+use Rattle.sampled_edges.specs.Draws.{drawNumber, isErased, errorProbability, hasError, sampledErasures, sampledErrors}
+use Rattle.syndromes.specs.Sampling.{samplingDoor, GeneratedRandomErrors}
 use Rattle.syndromes.specs.Syndrome.{hit, endsIn, isDefectOf, syndromeOf}
-use Rattle.syndromes.proofs.Flipping.{length-flipEach, flipEach-inner, flipEach-virtual}
-use Rattle.syndromes.proofs.Marks.{length-when, chosen-below, chosen-same}
+use Rattle.flips.proofs.Flipping.{length-flipEach, flipEach-virtual}
+use Rattle.syndromes.proofs.Inner.{flipEach-inner}
+use Rattle.marked_lists.proofs.Marks.{length-when, chosen-below, chosen-same}
 use Rattle.syndromes.proofs.Draws.{length-sampledErasures}
 
 -- ---- an answer's number is the question's

@@ -10,8 +10,9 @@ use Rattle.columns.specs.Questions.{ask, allBelow, marksSound, vertexCountSound
 use Rattle.columns.specs.Answers.{done}
 use Rattle.columns.specs.declared.Done.{Done}
 use Rattle.syndromes.specs.declared.SyndromeAnswer.{SyndromeAnswer}
-use Rattle.syndromes.specs.Records.{CodeGraph, graphLong, codeSound, SyndromeColumns, syndromeLong, marked}
-use Rattle.syndromes.specs.Flip.{flipEach}
+use Rattle.syndromes.specs.Records.{CodeGraph, graphLong, codeSound, SyndromeColumns, syndromeLong}
+use Rattle.marked_lists.specs.Marked.{marked}
+use Rattle.flips.specs.Flip.{flipEach}
 use Rattle.syndromes.specs.Answers.{counts}
 
 -- what a call that generates errors answers and leaves: `number` is the question's, 0 where all are met;

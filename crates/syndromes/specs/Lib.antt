@@ -1,10 +1,8 @@
--- Records: the columns that the calls are lent, and question 6 and 7 of them. Flip: the defect flip. Answers: what the calls answer.
+-- Records: the columns that the calls are lent, and question 6 and 7 of them. Answers: what the calls answer.
 -- Errors: `generate_errors` and `clear_errors`. Sampling: `generate_random_errors`. Syndrome: `syndrome_of`.
--- Steps: what the contracts of private functions cite besides.
+-- The defect flip stands in the crate flips, the draws of an edge in sampled_edges, the list of marked numbers in marked_lists.
 pub mod Records
-pub mod Flip
 pub mod Answers
 pub mod Errors
 pub mod Sampling
 pub mod Syndrome
-pub mod Steps

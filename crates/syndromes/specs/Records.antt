@@ -2,10 +2,9 @@
 use Prim.Native.Nat.{ℕ}
 use mathlib.Core.Bool.{Bool, _&&_}
 use mathlib.Core.List.{List}
-use lib.ListN.{length, getD}
-use lib.Dec.{leb, eqb}
+use lib.ListN.{length}
+use lib.Dec.{leb}
 use Rattle.columns.specs.Questions.{boundariesSound}
-use Rattle.neighbors.specs.Lists.{chosen}
 use Rattle.neighbors.specs.Sound.{graphSound}
 
 -- a code's graph: its counts, the two ends of each edge, the boundary bytes
@@ -42,7 +41,3 @@ syndromeColumns d s dl sl = record { defect = d; erasure = s; defectList = dl; e
 unfoldable pub syndromeLong : (v e : ℕ) → SyndromeColumns → Bool
 syndromeLong v e s =
     leb v (length (s .defect)) && (leb e (length (s .erasure)) && (leb v (length (s .defectList)) && leb e (length (s .erasureList))))
-
--- the numbers below n whose byte is 1, ascending
-unfoldable pub marked : ℕ → List ℕ → List ℕ
-marked n bytes = chosen n (λ k. eqb (getD bytes k 0) 1)

@@ -1,51 +1,19 @@
--- `generate_random_errors`: two draws of the seeded generator for every edge, whatever the other edges did.
-use Prim.Native.Nat.{ℕ, zero, suc, _+_, _*_, _-_}
-use mathlib.Core.Bool.{Bool, _&&_, cond}
+-- `generate_random_errors`: errors and erasures by two draws of the seeded generator for every edge.
+use Prim.Native.Nat.{ℕ}
+use mathlib.Core.Bool.{Bool, _&&_}
 use mathlib.Core.List.{List}
-use lib.ListN.{length, getD, take, replicate}
+use lib.ListN.{length, take, replicate}
 use lib.Dec.{leb}
-use lib.Ieee.{Float, lt}
-use Rattle.weights.specs.Constants.{half}
-use Rattle.columns.specs.Lists.{each}
+use lib.Ieee.{Float}
 use Rattle.columns.specs.Questions.{ask, all}
-use Rattle.columns.specs.Places.{zeroFloat}
 use Rattle.random.specs.declared.DeterministicRng.{DeterministicRng}
-use Rattle.random.specs.Random.{seedFromU64, wordOf, nextOf, drawOf}
-use Rattle.neighbors.specs.Lists.{chosen}
+use Rattle.random.specs.Random.{seedFromU64}
 use Rattle.weights.specs.Probabilities.{isProbability, isErasureProbability}
+use Rattle.flips.specs.Flip.{flipEach}
+use Rattle.sampled_edges.specs.Draws.{sampledErasures, sampledErrors}
 use Rattle.syndromes.specs.declared.SyndromeAnswer.{SyndromeAnswer}
 use Rattle.syndromes.specs.Records.{CodeGraph, graphLong, codeSound, SyndromeColumns, syndromeLong}
-use Rattle.syndromes.specs.Flip.{flipEach}
 use Rattle.syndromes.specs.Errors.{SyndromeLeft}
-
--- the generator after n draws
-unfoldable pub advanced : DeterministicRng → ℕ → DeterministicRng
-advanced g zero = g
-advanced g (suc n) = nextOf (advanced g n)
-
--- what draw number n yields; draws are counted from 1
-unfoldable pub drawNumber : DeterministicRng → ℕ → Float
-drawNumber g n = drawOf (wordOf (advanced g (n - 1)))
-
--- edge k is erased: draw number 2k + 1 is below its pe
-unfoldable pub isErased : DeterministicRng → List Float → ℕ → Bool
-isErased g pe k = lt (drawNumber g (2 * k + 1)) (getD pe k zeroFloat)
-
--- the probability of an error on edge k: 0.5 where it is erased, else its p
-unfoldable pub errorProbability : DeterministicRng → (p pe : List Float) → ℕ → Float
-errorProbability g p pe k = cond (isErased g pe k) half (getD p k zeroFloat)
-
--- edge k has an error: draw number 2k + 2 is below that probability
-unfoldable pub hasError : DeterministicRng → (p pe : List Float) → ℕ → Bool
-hasError g p pe k = lt (drawNumber g (2 * k + 2)) (errorProbability g p pe k)
-
--- the erasure bytes of e edges
-unfoldable pub sampledErasures : DeterministicRng → (pe : List Float) (e : ℕ) → List ℕ
-sampledErasures g pe e = each e (λ k. cond (isErased g pe k) 1 0)
-
--- the numbers of the edges with an error, ascending
-unfoldable pub sampledErrors : DeterministicRng → (p pe : List Float) (e : ℕ) → List ℕ
-sampledErrors g p pe e = chosen e (hasError g p pe)
 
 -- the defect bytes: errors on those edges, over no defects
 unfoldable pub sampledDefects : DeterministicRng → CodeGraph → (p pe : List Float) → List ℕ

@@ -1,8 +1,5 @@
 // Errors on the edges of a code, the defects they leave, and their sampling from a seed.
 pub mod doors;
-mod flips;
-mod listing;
-mod sampling;
 
 ghost use mathlib.Core.Path.{_≡_};
 ghost use Rattle.syndromes.specs.Records.{codeGraph, syndromeColumns};
@@ -12,7 +9,7 @@ ghost use Rattle.columns.specs.Lists.{over};
 ghost use Rattle.syndromes.specs.Errors.{GeneratedErrors, ClearedErrors};
 ghost use Rattle.syndromes.specs.Sampling.{GeneratedRandomErrors};
 ghost use Rattle.syndromes.specs.Syndrome.{syndromeOf, FoundSyndrome};
-ghost use Rattle.syndromes.specs.Steps.{Fits};
+ghost use Rattle.flips.specs.Steps.{Fits};
 use columns::Done;
 use columns::done_of;
 use columns::stores::fill_u8;
@@ -21,9 +18,9 @@ use doors::errors_door;
 use doors::sampling_door;
 use doors::syndrome_door;
 use flips::flip_all;
-use listing::list_marked;
+use marked_lists::list_marked;
 use random::DeterministicRng;
-use sampling::sample_edges;
+use sampled_edges::sample_edges;
 
 // How many defects and erasures are listed, or the number of the question that was not met.
 pub enum SyndromeAnswer {

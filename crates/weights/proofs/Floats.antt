@@ -3,7 +3,7 @@ use mathlib.Core.Path.{_≡_, refl, sym, ap, _∙_, subst}
 use mathlib.Core.Bool.{Bool, true, false, not, _||_, true≢false}
 use Prim.Native.Nat.{_^_}
 use lib.Dec.{T, eqb→eq, not-T}
-use lib.Ieee.{Float, nan, inf, fin, binary64, eq, le, ofBits, toBits, fits, isNan}
+use lib.Ieee.{Float, nan, inf, fin, binary64, eq, ofBits, toBits, fits, isNan}
 use lib.Ieee.Bits.{is-false, ofBits-toBits}
 use lib.Ieee.Exact.{HasValue}
 use lib.Ieee.Positive.{positive}
@@ -62,6 +62,14 @@ equal-no-nan nan y e = absurd (true≢false (sym e))
 equal-no-nan (inf s) y e = tt
 equal-no-nan (fin s m d) y e = tt
 
+pub one-number : T (not (isNan one))
+unfolding isNan ofBits
+one-number = tt
+
+pub one-not-zero : isPlusZero one ≡ false
+unfolding ofBits toBits
+one-not-zero = refl
+
 -- the f64 whose bits are all 0 is 0
 pub plus-zero : (p : Float) → T (fits binary64 p) → isPlusZero p ≡ true → p ≡ zeroFloat
 plus-zero p f e = sym (ofBits-toBits binary64 p f) ∙ ap (ofBits binary64) (eqb→eq (toBits binary64 p) 0 (subst T (sym e) tt))
@@ -72,16 +80,9 @@ not-plus-zero t b p f h k =
     is-false (isPlusZero p)
     (not-T (isPlusZero p) (λ z. k (subst (λ (x : Float). t x ≡ b) (plus-zero p f (lib.Ieee.Bits.is-true (isPlusZero p) z)) h)))
 
-least-above : le leastP zeroFloat ≡ false
-unfolding le ofBits
-least-above = refl
-
 pub zero-equal : eq zeroFloat zeroFloat ≡ true
 unfolding eq ofBits
 zero-equal = refl
-
-pub past-least : (p : Float) → T (fits binary64 p) → le leastP p ≡ true → isPlusZero p ≡ false
-past-least p f h = not-plus-zero (le leastP) true p f h (λ e. true≢false (sym e ∙ least-above))
 
 pub unequal-zero : (p : Float) → T (fits binary64 p) → eq p zeroFloat ≡ false → isPlusZero p ≡ false
 unequal-zero p f h = not-plus-zero (λ (x : Float). eq x zeroFloat) false p f h (λ e. true≢false (sym zero-equal ∙ e))

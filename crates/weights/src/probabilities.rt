@@ -1,25 +1,43 @@
 // The tests of question 9.
 ghost use mathlib.Core.Path.{_≡_};
+ghost use mathlib.Core.Bool.{not, _||_};
+ghost use lib.Dec.{T};
 ghost use lib.ListN.{take};
+ghost use lib.Ieee.{isNan};
 ghost use Rattle.columns.specs.Questions.{all};
-ghost use Rattle.weights.specs.Probabilities.{isProbability, isErasureProbability};
+ghost use Rattle.weights.specs.Probabilities.{isPlusZero, isProbability, isErasureProbability};
 use columns::questions::both;
 use columns::questions::lesser;
 
 // 2 to the power -40.
 const LEAST_P: f64 = f64::from_bits(0x3d70_0000_0000_0000);
 
+// Whether either holds.
+fn either(a: bool, b: bool) -> bool
+    ensures { λ r. ⌜ r ≡ (a || b) ⌝ }
+{
+    if a { true } else { b }
+}
+
+// p where it is 0 or negative zero, else 1: never a NaN.
+fn zero_or_one(p: f64) -> f64
+    ensures { λ r. ⌜ T (not (isNan r)) × (isPlusZero r ≡ isPlusZero p) ⌝ }
+{
+    if p == 0.0 { p } else { 1.0 }
+}
+
+// Whether p is 0, not negative zero.
+fn is_plus_zero(p: f64) -> bool
+    ensures { λ r. ⌜ r ≡ isPlusZero p ⌝ }
+{
+    f64::to_bits(zero_or_one(p)) == 0
+}
+
 // Whether p is 0 (not negative zero) or from 2 to the power -40 to 0.5.
 pub fn is_probability(p: f64) -> bool
     ensures { λ r. ⌜ r ≡ isProbability p ⌝ }
 {
-    if LEAST_P <= p {
-        return p <= 0.5;
-    }
-    if p == 0.0 {
-        return f64::to_bits(p) == 0;
-    }
-    false
+    either(is_plus_zero(p), both(LEAST_P <= p, p <= 0.5))
 }
 
 // Whether pe is 0 to 1.
@@ -35,13 +53,12 @@ pub fn are_probabilities(p: &[f64], n: usize) -> bool
 {
     let m = lesser(n, p.len());
     let mut i: usize = 0;
+    let mut pass = true;
     while i < m {
-        if !is_probability(p[i]) {
-            return false;
-        }
+        pass = both(pass, is_probability(p[i]));
         i += 1;
     }
-    true
+    pass
 }
 
 // Whether the first n numbers, or all where there are fewer, pass the test for pe.
@@ -50,11 +67,10 @@ pub fn are_erasure_probabilities(pe: &[f64], n: usize) -> bool
 {
     let m = lesser(n, pe.len());
     let mut i: usize = 0;
+    let mut pass = true;
     while i < m {
-        if !is_erasure_probability(pe[i]) {
-            return false;
-        }
+        pass = both(pass, is_erasure_probability(pe[i]));
         i += 1;
     }
-    true
+    pass
 }

@@ -8,7 +8,7 @@ use Rattle.reorder.proofs.build_door.Tie as tie
 use Rattle.reorder.proofs.build_door.Reads as reads
 use Rattle.reorder.proofs.build_door.Lts as lts
 use Rattle.columns.proofs.questions.each_below.Reads as each-below-reads
-use Rattle.reorder.proofs.order.order_questions.Reads as order-questions-reads
+use Rattle.orders.proofs.order_questions.Reads as order-questions-reads
 
 returns : tie.Need-returns
 returns c = let a = c .before .before .before .args in build-6 (a .order .now) (a .column .now) (omega arith)

@@ -8,7 +8,7 @@ use Rattle.reorder.proofs.build_old_to_new.Reads as reads
 use Rattle.reorder.proofs.build_old_to_new.Lts as lts
 use Rattle.columns.proofs.done_of.Reads as done-of-reads
 use Rattle.reorder.proofs.build_door.Reads as build-door-reads
-use Rattle.reorder.proofs.order.place_numbers.Reads as place-numbers-reads
+use Rattle.orders.proofs.place_numbers.Reads as place-numbers-reads
 
 build-door-requires : tie.Need-build-door-requires
 build-door-requires c κs = search needs

@@ -1,7 +1,7 @@
 -- `reorder::reorder_questions` meets its contract. Assumes nothing.
 use mathlib.Core.Path.{_≡_, refl, sym, ap, _∙_}
 use borrow.Author.Tests.{not-true, not-false}
-use Rattle.reorder.proofs.Accepting.{stops, passes}
+use Rattle.orders.proofs.Asking.{stops, passes}
 use Rattle.reorder.proofs.reorder_questions.Statement.{statement}
 use Rattle.reorder.proofs.reorder_questions.Tie as tie
 use Rattle.reorder.proofs.reorder_questions.Reads as reads

@@ -14,10 +14,10 @@ use Rattle.reorder.proofs.reorder_vertices.Reads as reads
 use Rattle.reorder.proofs.reorder_vertices.Lts as lts
 use Rattle.columns.proofs.done_of.Reads as done-of-reads
 use Rattle.reorder.proofs.lists.move_lists.Reads as move-lists-reads
-use Rattle.reorder.proofs.moves.move_positions.Reads as move-positions-reads
-use Rattle.reorder.proofs.moves.move_u32.Reads as move-u32-reads
-use Rattle.reorder.proofs.moves.move_u8.Reads as move-u8-reads
-use Rattle.reorder.proofs.order.rename_ends.Reads as rename-ends-reads
+use Rattle.moved_columns.proofs.move_positions.Reads as move-positions-reads
+use Rattle.moved_columns.proofs.move_u32.Reads as move-u32-reads
+use Rattle.moved_columns.proofs.move_u8.Reads as move-u8-reads
+use Rattle.orders.proofs.rename_ends.Reads as rename-ends-reads
 use Rattle.reorder.proofs.reorder_door.Reads as reorder-door-reads
 
 reorder-door-requires : tie.Need-reorder-door-requires

@@ -6,7 +6,7 @@ use Rattle.reorder.proofs.translated_defect_to_reordered.Statement.{sta
 use Rattle.reorder.proofs.translated_defect_to_reordered.Tie as tie
 use Rattle.reorder.proofs.translated_defect_to_reordered.Reads as reads
 use Rattle.reorder.proofs.translated_defect_to_reordered.Lts as lts
-use Rattle.reorder.proofs.order.translate.Reads as translate-reads
+use Rattle.orders.proofs.translate.Reads as translate-reads
 use Rattle.reorder.proofs.translate_door.Reads as translate-door-reads
 
 translate-door-requires : tie.Need-translate-door-requires

@@ -5,17 +5,18 @@ use Prim.Native.Nat.{ℕ, _≤_, _<_}
 use native.Mathlib.Omega.{arith}
 use lib.ListN.{length, getD}
 use Rattle.columns.specs.Lists.{over}
-use Rattle.syndromes.specs.Records.{CodeGraph, codeGraph, marked}
+use Rattle.syndromes.specs.Records.{CodeGraph, codeGraph}
+use Rattle.marked_lists.specs.Marked.{marked}
 use Rattle.syndromes.specs.Syndrome.{syndromeOf}
-use Rattle.syndromes.proofs.Flipping.{length-flipEach}
+use Rattle.flips.proofs.Flipping.{length-flipEach}
 use Rattle.syndromes.proofs.Accepting.{marked-syndrome}
 use borrow.Author.Needs.{needs}
 use Rattle.syndromes.proofs.collect_defects.Statement.{statement}
 use Rattle.syndromes.proofs.collect_defects.Tie as tie
 use Rattle.syndromes.proofs.collect_defects.Reads as reads
 use Rattle.syndromes.proofs.collect_defects.Lts as lts
-use Rattle.syndromes.proofs.flips.flip_all.Reads as flip-all-reads
-use Rattle.syndromes.proofs.listing.list_marked.Reads as list-marked-reads
+use Rattle.flips.proofs.flip_all.Reads as flip-all-reads
+use Rattle.marked_lists.proofs.list_marked.Reads as list-marked-reads
 
 flip-all-requires : tie.Need-flip-all-requires
 flip-all-requires c κs = search needs

@@ -6,10 +6,10 @@ use native.Mathlib.Omega.{arith}
 use lib.ListN.{length, getD, take}
 use lib.Seq.{length-take-le}
 use Rattle.syndromes.specs.Records.{CodeGraph, codeGraph, SyndromeColumns, syndromeColumns}
-use Rattle.syndromes.specs.Flip.{flipEach}
+use Rattle.flips.specs.Flip.{flipEach}
 use Rattle.syndromes.specs.Errors.{errorsDoor}
-use Rattle.syndromes.specs.Steps.{Fits}
-use Rattle.syndromes.proofs.Flipping.{length-flipEach}
+use Rattle.flips.specs.Steps.{Fits}
+use Rattle.flips.proofs.Flipping.{length-flipEach}
 use Rattle.syndromes.proofs.Accepting.{ErrorsMet, errors-met, fits-of, over-take, flipEach-over, left-refused, left-accepted}
 use borrow.Author.Needs.{needs}
 use Rattle.syndromes.proofs.generate_errors.Statement.{statement}
@@ -17,8 +17,8 @@ use Rattle.syndromes.proofs.generate_errors.Tie as tie
 use Rattle.syndromes.proofs.generate_errors.Reads as reads
 use Rattle.syndromes.proofs.generate_errors.Lts as lts
 use Rattle.syndromes.proofs.doors.errors_door.Reads as errors-door-reads
-use Rattle.syndromes.proofs.flips.flip_all.Reads as flip-all-reads
-use Rattle.syndromes.proofs.listing.list_marked.Reads as list-marked-reads
+use Rattle.flips.proofs.flip_all.Reads as flip-all-reads
+use Rattle.marked_lists.proofs.list_marked.Reads as list-marked-reads
 
 errors-door-requires : tie.Need-errors-door-requires
 errors-door-requires c κs = search needs

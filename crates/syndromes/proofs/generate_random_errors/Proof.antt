@@ -8,7 +8,8 @@ use lib.Seq.{length-sets}
 use lib.Ieee.{Float}
 use Rattle.random.specs.Random.{seedFromU64}
 use Rattle.syndromes.specs.Records.{CodeGraph, codeGraph, SyndromeColumns, syndromeColumns}
-use Rattle.syndromes.specs.Sampling.{samplingDoor, sampledDefects, sampledErasures}
+use Rattle.sampled_edges.specs.Draws.{sampledErasures}
+use Rattle.syndromes.specs.Sampling.{samplingDoor, sampledDefects}
 use Rattle.syndromes.proofs.Accepting.{fits-of, left-refused, left-accepted}
 use Rattle.syndromes.proofs.Draws.{SamplingMet, sampling-met, sampled-from, sampled-defect, sampled-erasure, length-defect, length-erasure, length-sampledDefects, length-sampledErasures}
 use borrow.Author.Needs.{needs}
@@ -19,8 +20,8 @@ use Rattle.syndromes.proofs.generate_random_errors.Lts as lts
 use Rattle.columns.proofs.stores.fill_u8.Reads as fill-u8-reads
 use Rattle.random.proofs.DeterministicRng.seed_from_u64.Reads as seed-from-u64-reads
 use Rattle.syndromes.proofs.doors.sampling_door.Reads as sampling-door-reads
-use Rattle.syndromes.proofs.listing.list_marked.Reads as list-marked-reads
-use Rattle.syndromes.proofs.sampling.sample_edges.Reads as sample-edges-reads
+use Rattle.marked_lists.proofs.list_marked.Reads as list-marked-reads
+use Rattle.sampled_edges.proofs.sample_edges.Reads as sample-edges-reads
 
 sampling-door-requires : tie.Need-sampling-door-requires
 sampling-door-requires c κs = search needs

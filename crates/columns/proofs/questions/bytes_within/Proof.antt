@@ -1,25 +1,24 @@
--- `columns::questions::bytes_within` meets its contract. Invariant: the first i elements pass, of the lesser of n and the length. Assumes nothing.
+-- `columns::questions::bytes_within` meets its contract. Invariant: whether the first i elements pass, of the lesser of n and the length. Assumes nothing.
 use mathlib.Core.Path.{_≡_, refl, sym, ap, _∙_}
-use mathlib.Core.Bool.{Bool, true}
+use mathlib.Core.Bool.{Bool, true, _&&_}
 use Prim.Native.Nat.{ℕ, _+_, _-_, _≤_, _<_, min}
 use native.Mathlib.Omega.{arith}
-use lib.ListN.{length, take}
+use lib.ListN.{length, getD, take}
 use lib.Dec.{leb}
-use borrow.Author.Tests.{lt-leb, le-leb}
 use borrow.Author.Needs.{needs}
+use Rattle.columns.specs.Questions.{all}
+use Rattle.columns.proofs.Tests.{all-next, all-whole}
 use Rattle.columns.proofs.questions.bytes_within.Statement.{statement}
 use Rattle.columns.proofs.questions.bytes_within.Tie as tie
-use Rattle.columns.specs.Questions.{all}
-use Rattle.columns.proofs.Tests.{all-more, all-fails, all-end}
 
 abbrev passes : ℕ → ℕ → Bool
 passes limit x = leb x limit
 
 abbrev Inv-loop : tie.InvT-loop
-Inv-loop s n limit m i₀ i = (i ≤ m) × (m ≡ min n (length s)) × (all (passes limit) (take i s) ≡ true)
+Inv-loop s n limit m i₀ within₀ i within = (i ≤ m) × (m ≡ min n (length s)) × (within ≡ all (passes limit) (take i s))
 
 abbrev μ-loop : tie.MeasureT-loop
-μ-loop s n limit m i₀ i = m - i
+μ-loop s n limit m i₀ within₀ i within = m - i
 
 lesser-requires : tie.Need-lesser-requires Inv-loop μ-loop
 lesser-requires c κs = search needs
@@ -28,15 +27,11 @@ loop-holds : tie.Need-loop-holds Inv-loop μ-loop
 unfolding all
 loop-holds c = (search needs, c .lesser .ensures, refl)
 
-shared-slice-read-if1 : tie.Need-shared-slice-read-if1 Inv-loop μ-loop
-shared-slice-read-if1 c = omega (arith, c .before .before .loop .inv .1)
+shared-slice-read-both : tie.Need-shared-slice-read-both Inv-loop μ-loop
+shared-slice-read-both c = omega (arith, c .before .before .loop .inv .1)
 
-returns : tie.Need-returns Inv-loop μ-loop
-returns c =
-    let s = c .before .before .before .before .before .before .args in
-    let at = c .before .before .before .loop in
-    let x = s .s .now in
-    sym (all-fails (passes (s .limit)) x 0 (s .n) (at .i) (omega (arith, at .inv .1)) (omega (arith, at .inv .1)) (lt-leb _ (s .limit) (c .if1 .taken)))
+both-requires : tie.Need-both-requires Inv-loop μ-loop
+both-requires c κs = search needs
 
 add-i : tie.Need-add-i Inv-loop μ-loop
 add-i c = omega (arith, c .before .before .before .loop .inv .1)
@@ -48,13 +43,13 @@ loop-again : tie.Need-loop-again Inv-loop μ-loop
 loop-again c =
     let s = c .before .before .before .before .before .before .args in
     let at = c .before .before .before .loop in
-    (search needs, at .inv .1, all-more (passes (s .limit)) (s .s .now) 0 (at .i) (omega (arith, at .inv .1)) (at .inv .2) (le-leb _ (s .limit) (c .if1 .left)))
+    (search needs, at .inv .1, c .both .ensures ∙ ap (λ b. b && leb (getD (s .s .now) (at .i) 0) (s .limit)) (at .inv .2) ∙ sym (all-next (passes (s .limit)) (s .s .now) 0 (at .i) (omega (arith, at .inv .1))))
 
-returns-2 : tie.Need-returns-2 Inv-loop μ-loop
-returns-2 c =
+returns : tie.Need-returns Inv-loop μ-loop
+returns c =
     let s = c .before .before .before .before .args in
     let at = c .before .loop in
-    sym (all-end (passes (s .limit)) (s .s .now) 0 (s .n) (at .i) (omega (arith, at .inv .1)) (omega (arith, at .inv .1)) (at .inv .2))
+    at .inv .2 ∙ sym (all-whole (passes (s .limit)) (s .s .now) 0 (s .n) (at .i) (omega (arith, at .inv .1)) (omega (arith, at .inv .1)))
 
 pub bytes-within-spec : {M : Type 1} → statement M
 bytes-within-spec =
@@ -64,9 +59,9 @@ bytes-within-spec =
     μ-loop
     lesser-requires
     loop-holds
-    shared-slice-read-if1
-    returns
+    shared-slice-read-both
+    both-requires
     add-i
     loop-less
     loop-again
-    returns-2)
+    returns)

@@ -9,15 +9,15 @@ use lib.Seq.{sets, length-sets}
 use Rattle.columns.specs.Lists.{joined}
 use Rattle.neighbors.specs.Steps.{sumTo}
 use Rattle.reorder.specs.Columns.{listAt}
-use Rattle.reorder.specs.Steps.{IsOrder}
-use Rattle.reorder.proofs.Permutation.{order-below}
+use Rattle.orders.specs.Steps.{IsOrder}
+use Rattle.orders.proofs.Permutation.{order-below}
 use Rattle.reorder.proofs.Moving.{list-fits, list-room, lists-more, lists-count, lists-end}
 use Rattle.reorder.proofs.lists.gather_lists.Statement.{statement}
 use Rattle.reorder.proofs.lists.gather_lists.Tie as tie
 use Rattle.reorder.proofs.lists.gather_lists.Reads as reads
 use Rattle.reorder.proofs.lists.gather_lists.Lts as lts
 use Rattle.reorder.proofs.lists.copy_run.Reads as copy-run-reads
-use Rattle.reorder.proofs.order.wide.Reads as wide-reads
+use Rattle.orders.proofs.wide.Reads as wide-reads
 
 abbrev Inv-loop : tie.InvT-loop
 Inv-loop order lengths starts from to₀ at₀ k₀ to at k = (k ≤ length order) × (at ≡ length (joined k (λ j. listAt lengths from (getD order j 0)))) × (to ≡ sets to₀ 0 (joined k (λ j. listAt lengths from (getD order j 0)))) × (length to ≡ length to₀)

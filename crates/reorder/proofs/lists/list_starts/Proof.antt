@@ -11,7 +11,7 @@ use Rattle.reorder.proofs.lists.list_starts.Statement.{statement}
 use Rattle.reorder.proofs.lists.list_starts.Tie as tie
 use Rattle.reorder.proofs.lists.list_starts.Reads as reads
 use Rattle.reorder.proofs.lists.list_starts.Lts as lts
-use Rattle.reorder.proofs.order.wide.Reads as wide-reads
+use Rattle.orders.proofs.wide.Reads as wide-reads
 
 abbrev Inv-loop : tie.InvT-loop
 Inv-loop lengths n starts₀ sum₀ i₀ starts sum i = (i ≤ n) × (sum ≡ sumTo i lengths) × ((u : ℕ) → u < i → getD starts u 0 ≡ sumTo u lengths) × (length starts ≡ length starts₀)

@@ -14,7 +14,7 @@ use Rattle.reorder.proofs.lists.sum_within.Tie as tie
 use Rattle.reorder.proofs.lists.sum_within.Reads as reads
 use Rattle.reorder.proofs.lists.sum_within.Lts as lts
 use Rattle.columns.proofs.questions.lesser.Reads as lesser-reads
-use Rattle.reorder.proofs.order.wide.Reads as wide-reads
+use Rattle.orders.proofs.wide.Reads as wide-reads
 
 abbrev Inv-loop : tie.InvT-loop
 Inv-loop lengths n limit m sum₀ i₀ sum i = (i ≤ m) × (m ≡ min n (length lengths)) × (sum ≡ sumTo i lengths) × (sum ≤ limit)

@@ -1,23 +1,22 @@
--- `weights::probabilities::are_erasure_probabilities` meets its contract. Invariant: the first i elements pass, of the lesser of n and the length. Assumes nothing.
-use mathlib.Core.Path.{_≡_, refl, sym, _∙_}
-use mathlib.Core.Bool.{true}
+-- `weights::probabilities::are_erasure_probabilities` meets its contract. Invariant: whether the first i elements pass, of the lesser of n and the length. Assumes nothing.
+use mathlib.Core.Path.{_≡_, refl, sym, ap, _∙_}
+use mathlib.Core.Bool.{Bool, _&&_}
 use Prim.Native.Nat.{_-_, _≤_, min}
 use native.Mathlib.Omega.{arith}
 use lib.ListN.{length, take}
 use lib.Ieee.{nan}
 use borrow.Author.Needs.{needs}
 use Rattle.columns.specs.Questions.{all}
-use Rattle.columns.proofs.Tests.{all-more, all-fails, all-end}
-use Rattle.weights.proofs.Doors.{not-true, not-false}
+use Rattle.columns.proofs.Tests.{all-next, all-whole}
 use Rattle.weights.specs.Probabilities.{isErasureProbability}
 use Rattle.weights.proofs.probabilities.are_erasure_probabilities.Statement.{statement}
 use Rattle.weights.proofs.probabilities.are_erasure_probabilities.Tie as tie
 
 abbrev Inv-loop : tie.InvT-loop
-Inv-loop pe n m i₀ i = (i ≤ m) × (m ≡ min n (length pe)) × (all isErasureProbability (take i pe) ≡ true)
+Inv-loop pe n m i₀ pass₀ i pass = (i ≤ m) × (m ≡ min n (length pe)) × (pass ≡ all isErasureProbability (take i pe))
 
 abbrev μ-loop : tie.MeasureT-loop
-μ-loop pe n m i₀ i = m - i
+μ-loop pe n m i₀ pass₀ i pass = m - i
 
 lesser-requires : tie.Need-lesser-requires Inv-loop μ-loop
 lesser-requires c κs = search needs
@@ -35,12 +34,8 @@ shared-slice-read-is-erasure-probability c = omega (arith, c .before .before .lo
 is-erasure-probability-requires : tie.Need-is-erasure-probability-requires Inv-loop μ-loop
 is-erasure-probability-requires c κs = search needs
 
-returns : tie.Need-returns Inv-loop μ-loop
-returns c =
-    let s = c .before .before .before .before .before .before .before .args in
-    let at = c .before .before .before .before .loop in
-    let fails = sym (c .before .is-erasure-probability .ensures) ∙ not-true _ (c .if1 .taken) in
-    sym (all-fails isErasureProbability (s .pe .now) nan (s .n) (at .i) (omega (arith, at .inv .1)) (omega (arith, at .inv .1)) fails)
+both-requires : tie.Need-both-requires Inv-loop μ-loop
+both-requires c κs = search needs
 
 add-i : tie.Need-add-i Inv-loop μ-loop
 add-i c = omega (arith, c .before .before .before .before .loop .inv .1)
@@ -52,14 +47,18 @@ loop-again : tie.Need-loop-again Inv-loop μ-loop
 loop-again c =
     let s = c .before .before .before .before .before .before .before .args in
     let at = c .before .before .before .before .loop in
-    let passes = sym (c .before .is-erasure-probability .ensures) ∙ not-false _ (c .if1 .left) in
-    (search needs, at .inv .1, all-more isErasureProbability (s .pe .now) nan (at .i) (omega (arith, at .inv .1)) (at .inv .2) passes)
+    let test = c .before .is-erasure-probability in (
+      search needs,
+      at .inv .1,
+      c .both .ensures ∙ ap (λ (b : Bool). b && test .result) (at .inv .2) ∙ ap (λ (b : Bool). all isErasureProbability (take (at .i) (s .pe .now)) && b) (test .ensures)
+          ∙ sym (all-next isErasureProbability (s .pe .now) nan (at .i) (omega (arith, at .inv .1))),
+    )
 
-returns-2 : tie.Need-returns-2 Inv-loop μ-loop
-returns-2 c =
+returns : tie.Need-returns Inv-loop μ-loop
+returns c =
     let s = c .before .before .before .before .args in
     let at = c .before .loop in
-    sym (all-end isErasureProbability (s .pe .now) nan (s .n) (at .i) (omega (arith, at .inv .1)) (omega (arith, at .inv .1)) (at .inv .2))
+    at .inv .2 ∙ sym (all-whole isErasureProbability (s .pe .now) nan (s .n) (at .i) (omega (arith, at .inv .1)) (omega (arith, at .inv .1)))
 
 pub are-erasure-probabilities-spec : {M : Type 1} → statement M
 are-erasure-probabilities-spec =
@@ -72,8 +71,8 @@ are-erasure-probabilities-spec =
     mul-is-erasure-probability
     shared-slice-read-is-erasure-probability
     is-erasure-probability-requires
-    returns
+    both-requires
     add-i
     loop-less
     loop-again
-    returns-2)
+    returns)

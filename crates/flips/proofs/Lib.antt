@@ -1,0 +1,2 @@
+-- Flipping: laws of the defect flip, which later crates cite too.
+pub mod Flipping

@@ -1,0 +1,2 @@
+-- Marked: the list of marked vertices or edges.
+pub mod Marked

@@ -1,0 +1,18 @@
+-- `random::shift_add` meets its contract. Assumes nothing.
+use borrow.Author.Needs.{needs}
+use mathlib.Core.Path.{_∙_}
+use Rattle.random.proofs.Words.{shifted-sum}
+use Rattle.random.proofs.shift_add.Statement.{statement}
+use Rattle.random.proofs.shift_add.Tie as tie
+
+shl-wrapping-add-u64 : tie.Need-shl-wrapping-add-u64
+shl-wrapping-add-u64 c = search needs
+
+wrapping-add-u64-requires : tie.Need-wrapping-add-u64-requires
+wrapping-add-u64-requires c κs = search needs
+
+returns : tie.Need-returns
+returns c = c .wrapping-add-u64 .ensures ∙ shifted-sum _ _ _
+
+pub shift-add-spec : {M : Type 1} → statement M
+shift-add-spec = tie.close (tie.spec shl-wrapping-add-u64 wrapping-add-u64-requires returns)

@@ -1,0 +1,2 @@
+-- Sampling: laws of the draws.
+pub mod Sampling

@@ -1,7 +1,6 @@
 -- What is handed to C for each kind of answer.
-use Prim.Native.Nat.{ℕ}
+use Prim.Native.Nat.{ℕ, zero, suc}
 use mathlib.Core.Path.{_≡_}
-use mathlib.Core.Bool.{Bool, true, false}
 use Rattle.edge_modifier.specs.declared.EngineAnswer.{EngineAnswer}
 use Rattle.edge_modifier.specs.Records as engine
 use Rattle.complete_graph.specs.declared.End.{End}
@@ -24,11 +23,11 @@ pub record ReportsEngine (a : EngineAnswer) (r : EngineReport) : Type 0 where
   pub edges : r .edges ≡ edgesOf a
   pub entries : r .entries ≡ entriesOf a
 
--- ---- arguments that are enums: whether there is one, and the value
+-- ---- arguments that are enums: whether there is one, any number but 0 for yes, and the value
 
 abbrev pub noEnd : End
 noEnd = None
 
-abbrev pub endOf : Bool → ℕ → End
-endOf true v = At (record { 0 = v })
-endOf false v = None
+abbrev pub endOf : ℕ → ℕ → End
+endOf zero v = None
+endOf (suc n) v = At (record { 0 = v })

@@ -11,6 +11,7 @@ use columns::Weight;
 use edge_modifier::EngineCounts;
 
 // The least weight from the source and the previous vertex of every vertex, up to the named end: -1 and 0 where a vertex was not taken.
+// There is an end where `has_end` is not 0.
 // The columns from `numbers` on are scratch.
 #[no_mangle]
 pub extern "C" fn moldingcress_all_edges_with_terminate(
@@ -24,7 +25,7 @@ pub extern "C" fn moldingcress_all_edges_with_terminate(
     log_edges: &[u32],
     log_weights: &[Weight],
     source: u32,
-    has_end: bool,
+    has_end: u8,
     end: u32,
     out_weight: &mut [i32],
     out_previous: &mut [u32],

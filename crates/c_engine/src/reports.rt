@@ -63,12 +63,12 @@ pub fn engine_report(answer: EngineAnswer) -> EngineReport
     }
 }
 
-// The end of a search, if there is one.
-pub fn end_of(has_end: bool, end: u32) -> End
+// The end of a search, if there is one: any byte but 0 says so.
+pub fn end_of(has_end: u8, end: u32) -> End
     ensures { λ r. ⌜ r ≡ endOf «has_end» end ⌝ }
 {
-    if has_end {
-        return End::At(VertexIndex(end));
+    if has_end == 0 {
+        return End::None;
     }
-    End::None
+    End::At(VertexIndex(end))
 }

@@ -30,8 +30,8 @@ use Rattle.crossings.specs.declared.CrossingReply.{CrossingReply}
 use Rattle.crossings.specs.declared.CrossingReply.the-variants.{Crossed, Refused}
 use Rattle.complete_graph.specs.Queries.{graphIn, weightsIn, scratchLong}
 use Rattle.crossings.specs.Crossing.{isJoined, replyOf, crossingDoor, crossingNumber, CrossingStep}
-use Rattle.code_text.specs.Answer.{weightsOf, crossingOf}
-use Rattle.code_text.specs.Steps.{HoldsWeights, ScratchRoom}
+use Rattle.code_listing.specs.Listing.{weightsOf, crossingOf}
+use Rattle.code_listing.specs.Steps.{HoldsWeights, ScratchRoom}
 
 -- a column is its own first places and the rest
 whole : {A : Type 0} (n : ℕ) (column vs : List A) → take n column ≡ vs → n ≤ length column → column ≡ over vs column

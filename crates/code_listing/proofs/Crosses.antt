@@ -18,7 +18,7 @@ use Rattle.code_graphs.proofs.AllEdges.{EdgeFacts, edge-facts}
 use Rattle.code_graphs.proofs.AllVertices.{byte-at}
 use Rattle.code_graphs.proofs.Sound.{first-is, second-is}
 use Rattle.code_graphs.proofs.Distance.{has-distance}
-use Rattle.code_text.specs.Claims.{EveryCodeCrosses}
+use Rattle.code_listing.specs.Claims.{EveryCodeCrosses}
 
 module _ (kind d rounds : ℕ) (ok : Accepted kind d rounds) where
   abbrev g : Graph

@@ -34,10 +34,10 @@ use Rattle.weighted_codes.specs.Probabilities.{probabilities, diagonalOf}
 use Rattle.weighted_codes.specs.NewCode.{newRefusalIn, weightedColumns, NewCode}
 use Rattle.weighted_codes.proofs.Outcome.{sized}
 use Rattle.listing.specs.Text.{refusalLine}
-use Rattle.code_text.specs.Answer.{listRefusal, weightsOf, listingOf, codeText}
-use Rattle.code_text.specs.Steps.{CodeRoom, HoldsCode, HoldsWeights}
-use Rattle.code_text.proofs.Room.{refusal-is}
-use Rattle.code_text.proofs.Sizes.{ListOpen, list-opened}
+use Rattle.code_listing.specs.Listing.{listRefusal, weightsOf, listingOf, codeText}
+use Rattle.code_listing.specs.Steps.{CodeRoom, HoldsCode, HoldsWeights}
+use Rattle.code_listing.proofs.Room.{refusal-is}
+use Rattle.code_listing.proofs.Sizes.{ListOpen, list-opened}
 
 -- ---- the answer
 

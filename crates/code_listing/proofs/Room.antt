@@ -21,7 +21,7 @@ use Rattle.weights.specs.Calls.{edgeWeights, someAbove, isLargestHalfWeight}
 use Rattle.example_codes.specs.Columns.{longEnough}
 use Rattle.weighted_codes.specs.Probabilities.{probabilities, diagonalOf}
 use Rattle.weighted_codes.specs.NewCode.{newRefusal}
-use Rattle.code_text.specs.Answer.{listRefusal}
+use Rattle.code_listing.specs.Listing.{listRefusal}
 
 -- ---- at most six edges a vertex
 

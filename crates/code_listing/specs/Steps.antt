@@ -18,7 +18,7 @@ use Rattle.crossings.specs.declared.CrossingReply.{CrossingReply}
 use Rattle.crossings.specs.declared.CrossingReply.the-variants.{Crossed, Refused}
 use Rattle.crossings.specs.Crossing.{replyOf}
 use Rattle.listing.specs.Text.{refusalLine, listing}
-use Rattle.code_text.specs.Answer.{weightsOf, crossingOf, listingOf}
+use Rattle.code_listing.specs.Listing.{weightsOf, crossingOf, listingOf}
 use Rattle.weighted_codes.specs.Probabilities.{probabilities, diagonalOf}
 
 -- the columns of a code for 1,024 vertices and 6,144 edges

@@ -1,22 +1,27 @@
 -- An accepted `fill_boundaries` and an accepted `fill_row` over its column. Assumes nothing.
-use mathlib.Core.Path.{_≡_, refl, sym, ap, _∙_}
-use mathlib.Core.Bool.{Bool, true, _||_}
+use mathlib.Core.Path.{_≡_, refl, sym, ap, _∙_, subst}
+use mathlib.Core.Logic.{_⊎_, inl, inr}
+use mathlib.Core.Bool.{Bool, true, false, cond, _||_}
 use mathlib.Core.List.{List}
 use mathlib.Core.Option.{none}
 use Prim.Native.Nat.{ℕ, zero, suc, _<_}
 use native.Mathlib.Omega.{arith}
 use lib.ListN.{length, getD}
 use lib.Dec.{eqb}
-use lib.IntN.{ℤ, negsuc}
+use lib.IntN.{ℤ, pos, negsuc}
 use Rattle.columns.specs.Lists.{each, after}
 use Rattle.columns.specs.Answers.{done, numberOf}
 use Rattle.columns.specs.declared.Done.the-variants.{Accepted}
 use Rattle.columns.proofs.Columns.{after-accepted, over-in}
 use Rattle.columns.proofs.Counting.{length-each, getD-each}
 use Rattle.edge_modifier.specs.Records.{Engine}
+use Rattle.walks.specs.Graph.{Graph, LeastWeight}
 use Rattle.walks.specs.Answers.{weightIn, table}
+use Rattle.walks.specs.Claims.{Row}
+use Rattle.walks.proofs.TableAndPath.{table-is-least}
 use Rattle.complete_graph.specs.Queries.{graphIn, weightsIn}
-use Rattle.prebuilt_entries.specs.Entries.{rowEntry, entryBy}
+use Rattle.complete_graph.proofs.Ranges.{in-range}
+use Rattle.prebuilt_entries.specs.Entries.{inTheMiddle, rowEntry, entryBy}
 use Rattle.prebuilt_complete_graph.specs.Rows.{RowStep, row, rowDoor}
 use Rattle.prebuilt_complete_graph.proofs.Entries.{row-asked}
 use Rattle.prebuilt_boundaries.specs.Boundaries as ours
@@ -84,8 +89,38 @@ pub row-of : (e : Engine) (v : ℕ) (near out : List ℤ) → RowFilled e v near
     → (u : ℕ) → u < e .counts .vertices → weightIn out u ≡ edgeEntry (edgeWeight (graphIn e) (weightsIn e) v u)
 row-of e v near out (called.RowFilled.filled κs a s l) b u h = row-at e _ v near _ _ out (l .0) b u h
 
+-- ---- least weights
+
+kept : (hidden middle : Bool) (z : ℤ) (k : ℕ) → cond hidden (negsuc 0) (cond middle (negsuc 0) z) ≡ pos k → z ≡ pos k
+kept true middle z k e = absurd (let q : _≡_ {A = ℕ} 0 1 = cc in omega arith)
+kept false true z k e = absurd (let q : _≡_ {A = ℕ} 0 1 = cc in omega arith)
+kept false false z k e = e
+
+least-in : (g : Graph) (w : ℕ → ℕ) (v u k : ℕ) → Row g w v (table g w v none) u → weightIn (table g w v none .weights) u ≡ pos k → LeastWeight g w (λ x. x ≡ v) u k
+least-in g w v u k (inl r) e = let q : r .0 ≡ k = (let s = r .1 in cc) in subst (LeastWeight g w (λ x. x ≡ v) u) q (r .2)
+least-in g w v u k (inr r) e = absurd (let q : _≡_ {A = ℕ} 0 1 = (let s = r .0 in cc) in omega arith)
+
+module _ (e : Engine) (scratch : Bool) (v : ℕ) (near : List ℤ) (before : ℕ) (out₀ out : List ℤ) (s : RowStep e scratch v near before Accepted out₀ out) where
+  abbrev question : ℕ
+  question = rowDoor e scratch v (length near) (length out₀) before
+
+  least-at : (u k : ℕ) → u < e .counts .vertices → weightIn out u ≡ pos k → LeastWeight (graphIn e) (weightsIn e) (λ x. x ≡ v) u k
+  least-at u k h p =
+      let g = graphIn e in
+      let w = weightsIn e in
+      let z : question ≡ 0 = accepted-zero question (s .answer) in
+      let q = row-asked e scratch v (length near) (length out₀) before z in
+      let x = at-place question (e .counts .vertices) (rowEntry (g .boundary) near v (table g w v none .weights)) out₀ out (negsuc 0) z (s .out-left) u h in
+      let y = kept (virtual g v || (virtual g u || eqb u v)) (inTheMiddle (weightIn near v) (weightIn near u) (weightIn (table g w v none .weights) u)) (weightIn (table g w v none .weights) u) k (sym x ∙ p) in
+      least-in g w v u k (table-is-least g w v none (in-range e (q .long) (q .sound)) (q .v-in) .rows u h) y
+
+least-of : (e : Engine) (v : ℕ) (near out : List ℤ) → RowFilled e v near out → (u k : ℕ) → u < e .counts .vertices → weightIn out u ≡ pos k
+    → LeastWeight (graphIn e) (weightsIn e) (λ x. x ≡ v) u k
+least-of e v near out (called.RowFilled.filled κs a s l) u k h p = least-at e _ v near _ _ out (l .0) u k h p
+
 pub prebuilt-rows : PrebuiltRows
 prebuilt-rows = record {
   boundaries = λ e weights vertices f v h. (weight-of e weights vertices f v h, vertex-of e weights vertices f v h);
   rows = λ e weights vertices f v out r u h. row-of e v weights out r (weight-of e weights vertices f) u h;
+  least = λ e v weights out r u k h p. least-of e v weights out r u k h p;
 }

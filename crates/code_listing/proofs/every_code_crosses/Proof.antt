@@ -1,7 +1,7 @@
--- `code_text::every_code_crosses` meets its contract, a theorem of `proofs/Crosses.antt`. Assumes nothing.
-use Rattle.code_text.proofs.Crosses.{every-code-crosses}
-use Rattle.code_text.proofs.every_code_crosses.Statement.{statement}
-use Rattle.code_text.proofs.every_code_crosses.Tie as tie
+-- `code_listing::every_code_crosses` meets its contract, a theorem of `proofs/Crosses.antt`. Assumes nothing.
+use Rattle.code_listing.proofs.Crosses.{every-code-crosses}
+use Rattle.code_listing.proofs.every_code_crosses.Statement.{statement}
+use Rattle.code_listing.proofs.every_code_crosses.Tie as tie
 
 returns : tie.Need-returns
 returns c = every-code-crosses

@@ -1,8 +1,8 @@
--- `code_text::write_code_in` meets its contract. Assumes nothing.
-use Rattle.code_text.proofs.Texts.{made-holds, made-put}
+-- `code_listing::write_code_in` meets its contract. Assumes nothing.
+use Rattle.code_listing.proofs.Texts.{made-holds, made-put}
 use borrow.Author.Needs.{needs}
-use Rattle.code_text.proofs.write_code_in.Statement.{statement}
-use Rattle.code_text.proofs.write_code_in.Tie as tie
+use Rattle.code_listing.proofs.write_code_in.Statement.{statement}
+use Rattle.code_listing.proofs.write_code_in.Tie as tie
 
 new-requires : tie.Need-new-requires
 new-requires c κs = search needs

@@ -1,11 +1,11 @@
--- `code_text::write_made` meets its contract. Assumes nothing.
-use Rattle.code_text.proofs.Texts.{refused-made, built-made, holds-made}
+-- `code_listing::write_made` meets its contract. Assumes nothing.
+use Rattle.code_listing.proofs.Texts.{refused-made, built-made, holds-made}
 use mathlib.Core.Path.{_≡_}
 use Prim.Native.Nat.{ℕ}
 use native.Mathlib.Omega.{arith}
 use borrow.Author.Needs.{needs}
-use Rattle.code_text.proofs.write_made.Statement.{statement}
-use Rattle.code_text.proofs.write_made.Tie as tie
+use Rattle.code_listing.proofs.write_made.Statement.{statement}
+use Rattle.code_listing.proofs.write_made.Tie as tie
 
 enum-known-made : tie.Need-enum-known-made
 enum-known-made c = search needs

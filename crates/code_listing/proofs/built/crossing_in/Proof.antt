@@ -1,8 +1,8 @@
--- `code_text::built::crossing_in` meets its contract. Assumes nothing.
-use Rattle.code_text.proofs.Crossed.{replied}
+-- `code_listing::built::crossing_in` meets its contract. Assumes nothing.
+use Rattle.code_listing.proofs.Crossed.{replied}
 use borrow.Author.Needs.{needs}
-use Rattle.code_text.proofs.built.crossing_in.Statement.{statement}
-use Rattle.code_text.proofs.built.crossing_in.Tie as tie
+use Rattle.code_listing.proofs.built.crossing_in.Statement.{statement}
+use Rattle.code_listing.proofs.built.crossing_in.Tie as tie
 
 slice-aggregate-crossing : tie.Need-slice-aggregate-crossing
 slice-aggregate-crossing c = search needs

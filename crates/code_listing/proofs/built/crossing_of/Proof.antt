@@ -1,9 +1,9 @@
--- `code_text::built::crossing_of` meets its contract. Assumes nothing.
+-- `code_listing::built::crossing_of` meets its contract. Assumes nothing.
 
 use mathlib.Core.Path.{refl}
 use borrow.Author.Needs.{needs}
-use Rattle.code_text.proofs.built.crossing_of.Statement.{statement}
-use Rattle.code_text.proofs.built.crossing_of.Tie as tie
+use Rattle.code_listing.proofs.built.crossing_of.Statement.{statement}
+use Rattle.code_listing.proofs.built.crossing_of.Tie as tie
 
 slice-aggregate-crossing-in : tie.Need-slice-aggregate-crossing-in
 slice-aggregate-crossing-in c = search needs

@@ -1,8 +1,8 @@
--- `code_text::built::write_reply` meets its contract. Assumes nothing.
-use Rattle.code_text.proofs.Texts.{refused-reply, crossed-reply}
+-- `code_listing::built::write_reply` meets its contract. Assumes nothing.
+use Rattle.code_listing.proofs.Texts.{refused-reply, crossed-reply}
 use borrow.Author.Needs.{needs}
-use Rattle.code_text.proofs.built.write_reply.Statement.{statement}
-use Rattle.code_text.proofs.built.write_reply.Tie as tie
+use Rattle.code_listing.proofs.built.write_reply.Statement.{statement}
+use Rattle.code_listing.proofs.built.write_reply.Tie as tie
 
 enum-known-reply : tie.Need-enum-known-reply
 enum-known-reply c = search needs

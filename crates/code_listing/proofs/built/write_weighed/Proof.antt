@@ -1,14 +1,14 @@
--- `code_text::built::write_weighed` meets its contract. Assumes nothing.
+-- `code_listing::built::write_weighed` meets its contract. Assumes nothing.
 use native.Mathlib.Omega.{arith}
 use Prim.Native.Nat.{ℕ, _≤_}
 use lib.ListN.{length}
-use Rattle.code_text.specs.Steps.{HoldsCode, HoldsWeights}
-use Rattle.code_text.proofs.Holds.{h-few, h-long, holds-weights}
-use Rattle.code_text.proofs.Crossed.{lengths}
-use Rattle.code_text.proofs.Texts.{listed-reply}
+use Rattle.code_listing.specs.Steps.{HoldsCode, HoldsWeights}
+use Rattle.code_listing.proofs.Holds.{h-few, h-long, holds-weights}
+use Rattle.code_listing.proofs.Crossed.{lengths}
+use Rattle.code_listing.proofs.Texts.{listed-reply}
 use borrow.Author.Needs.{needs}
-use Rattle.code_text.proofs.built.write_weighed.Statement.{statement}
-use Rattle.code_text.proofs.built.write_weighed.Tie as tie
+use Rattle.code_listing.proofs.built.write_weighed.Statement.{statement}
+use Rattle.code_listing.proofs.built.write_weighed.Tie as tie
 
 store-weights-requires : tie.Need-store-weights-requires
 store-weights-requires c κs =

@@ -1,19 +1,13 @@
--- A table up to an end, and the same end by another name; an end that there is. Assumes nothing.
-use Prim.Native.Nat.{ℕ, zero, suc}
-use mathlib.Core.Path.{_≡_, refl, subst}
+-- A table up to an end, and the same end by another name. Assumes nothing.
+use Prim.Native.Nat.{ℕ}
+use mathlib.Core.Path.{_≡_, subst}
 use mathlib.Core.Bool.{Bool}
 use mathlib.Core.List.{List}
 use lib.IntN.{ℤ}
 use Rattle.columns.specs.declared.Done.{Done}
 use Rattle.edge_modifier.specs.Records.{Engine}
 use Rattle.complete_graph.specs.declared.End.{End}
-use Rattle.complete_graph.specs.declared.End.the-variants.{At}
 use Rattle.complete_graph.specs.Steps.{TableStep}
-use Rattle.c_engine.specs.Reports.{endOf}
-
-pub end-given : (n v : ℕ) → (n ≡ 0 → ⊥) → At (record { 0 = v }) ≡ endOf n v
-end-given zero v f = absurd (f refl)
-end-given (suc n) v f = refl
 
 pub ended : {e : Engine} {scratch : Bool} {source : ℕ} {x y : End} {r : Done} {weights₀ : List ℤ} {previous₀ : List ℕ} {weights : List ℤ} {previous : List ℕ} → x ≡ y → TableStep e scratch source x r weights₀ previous₀ weights previous → TableStep e scratch source y r weights₀ previous₀ weights previous
 ended {e} {scratch} {source} {x} {y} {r} {weights₀} {previous₀} {weights} {previous} h s = subst (λ (t : End). TableStep e scratch source t r weights₀ previous₀ weights previous) h s

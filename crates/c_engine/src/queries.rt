@@ -1,10 +1,10 @@
 ghost use Rattle.c_reports.specs.Reports.{Reported, ReportsDone};
-ghost use Rattle.c_engine.specs.Reports.{endOf, noEnd};
+ghost use Rattle.c_answers.specs.Engine.{endOf, noEnd};
 ghost use Rattle.complete_graph.specs.Queries.{scratchLong};
 ghost use Rattle.complete_graph.specs.Steps.{TableStep, ScratchKept, scratchOf};
 ghost use Rattle.edge_modifier.specs.Records.{engine, counts};
 ghost use lib.ListN.{length};
-use super::reports::end_of;
+use c_answers::engine::end_of;
 use c_reports::done_number;
 use columns::VertexIndex;
 use columns::Weight;

@@ -1,10 +1,10 @@
--- `c_engine::reports::end_of` meets its contract. Assumes nothing.
+-- `c_answers::engine::end_of` meets its contract. Assumes nothing.
 use Prim.Native.Nat.{ℕ}
 use mathlib.Core.Path.{_≡_, sym, ap}
-use Rattle.c_engine.specs.Reports.{endOf}
-use Rattle.c_engine.proofs.Ends.{end-given}
-use Rattle.c_engine.proofs.reports.end_of.Statement.{statement}
-use Rattle.c_engine.proofs.reports.end_of.Tie as tie
+use Rattle.c_answers.specs.Engine.{endOf}
+use Rattle.c_answers.proofs.Ends.{end-given}
+use Rattle.c_answers.proofs.engine.end_of.Statement.{statement}
+use Rattle.c_answers.proofs.engine.end_of.Tie as tie
 
 returns : tie.Need-returns
 returns c = ap (λ (n : ℕ). endOf n (c .before .args .end)) (sym (c .if1 .taken))

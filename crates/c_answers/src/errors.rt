@@ -7,7 +7,7 @@ use syndromes::SyndromeAnswer;
 ghost use mathlib.Core.Path.{_≡_};
 ghost use Rattle.syndromes.specs.Answers as syndromes;
 ghost use Rattle.reorder.specs.Numbers as translated;
-ghost use Rattle.c_errors.specs.Reports.{ReportsSyndrome, ReportsFound, ReportsTranslated};
+ghost use Rattle.c_answers.specs.Errors.{ReportsSyndrome, ReportsFound, ReportsTranslated};
 
 #[repr(C)]
 pub struct LongCount {

@@ -5,7 +5,7 @@ use edge_modifier::EngineAnswer;
 use edge_modifier::EngineCounts;
 ghost use mathlib.Core.Path.{_≡_};
 ghost use Rattle.edge_modifier.specs.Records as engine;
-ghost use Rattle.c_engine.specs.Reports.{ReportsEngine, verticesOf, edgesOf, entriesOf, endOf};
+ghost use Rattle.c_answers.specs.Engine.{ReportsEngine, verticesOf, edgesOf, entriesOf, endOf};
 
 #[repr(C)]
 pub struct EngineReport {

@@ -1,4 +1,4 @@
--- What is handed to C for each kind of answer.
+-- What is handed to C for the answers of the syndrome and reordering calls.
 use mathlib.Core.Path.{_≡_}
 use Rattle.syndromes.specs.declared.SyndromeAnswer.{SyndromeAnswer}
 use Rattle.syndromes.specs.declared.ListAnswer.{ListAnswer}
@@ -7,7 +7,7 @@ use Rattle.reorder.specs.declared.TranslatedAnswer.{TranslatedAnswer}
 use Rattle.reorder.specs.Numbers as translated
 use Rattle.c_reports.specs.declared.OneCount.{OneCount}
 use Rattle.c_reports.specs.declared.TwoCounts.{TwoCounts}
-use Rattle.c_errors.specs.declared.reports.LongCount.{LongCount}
+use Rattle.c_answers.specs.declared.errors.LongCount.{LongCount}
 
 pub record ReportsSyndrome (a : SyndromeAnswer) (r : TwoCounts) : Type 0 where
   pub number : r .number ≡ syndromes.numberOf a

@@ -108,11 +108,8 @@ fn table(
     show_list(&out_previous, c.vertices as usize);
 }
 
-// A load of the list that stands from a place of the numbers on, or a reset.
+// A load or a reset, and the weights afterwards.
 fn change(
-    numbers: &[u64],
-    named: usize,
-    kind: u64,
     c: EngineCounts,
     ends_a: &[u32],
     ends_b: &[u32],
@@ -120,11 +117,10 @@ fn change(
     boundary: &[u8],
     log_edges: &mut [u32],
     log_weights: &mut [Weight],
+    list: &[u32],
+    values: &[Weight],
+    kind: u64,
 ) -> EngineAnswer {
-    let mut list = [0u32; NAMED];
-    let mut values = [0u32; NAMED];
-    copy_u32(numbers, named, &mut list, NAMED);
-    copy_u32(numbers, after(named, NAMED), &mut values, NAMED);
     if kind == 2 {
         return edge_modifier::load_erasures(
             c,
@@ -134,7 +130,7 @@ fn change(
             boundary,
             log_edges,
             log_weights,
-            &list,
+            list,
         );
     }
     if kind == 3 {
@@ -146,18 +142,15 @@ fn change(
             boundary,
             log_edges,
             log_weights,
-            &list,
-            &values,
+            list,
+            values,
         );
     }
     edge_modifier::reset(c, ends_a, ends_b, weights, boundary, log_edges, log_weights)
 }
 
-// One query, of three numbers from a place on: a table, or a change and the weights afterwards.
+// One query, of three numbers.
 fn query(
-    numbers: &[u64],
-    named: usize,
-    place: usize,
     c: EngineCounts,
     ends_a: &[u32],
     ends_b: &[u32],
@@ -165,8 +158,12 @@ fn query(
     boundary: &[u8],
     log_edges: &mut [u32],
     log_weights: &mut [Weight],
+    list: &[u32],
+    values: &[Weight],
+    kind: u64,
+    source: u32,
+    end: u32,
 ) -> EngineCounts {
-    let kind = at(numbers, place);
     if kind < 2 {
         table(
             c,
@@ -177,15 +174,12 @@ fn query(
             log_edges,
             log_weights,
             kind,
-            narrow_at(numbers, after(place, 1)),
-            narrow_at(numbers, after(place, 2)),
+            source,
+            end,
         );
         return c;
     }
     let answer = change(
-        numbers,
-        named,
-        kind,
         c,
         ends_a,
         ends_b,
@@ -193,6 +187,9 @@ fn query(
         boundary,
         log_edges,
         log_weights,
+        list,
+        values,
+        kind,
     );
     show_engine(answer);
     show_list(weights, c.edges as usize);
@@ -202,7 +199,6 @@ fn query(
 // The queries of a case, from a place of the numbers on.
 fn queries(
     numbers: &[u64],
-    named: usize,
     from: usize,
     count: usize,
     opened: EngineCounts,
@@ -212,15 +208,14 @@ fn queries(
     boundary: &[u8],
     log_edges: &mut [u32],
     log_weights: &mut [Weight],
+    list: &[u32],
+    values: &[Weight],
 ) {
     let mut c = opened;
     let mut place = from;
     let mut left = count;
     while 0 < left {
         c = query(
-            numbers,
-            named,
-            place,
             c,
             ends_a,
             ends_b,
@@ -228,62 +223,72 @@ fn queries(
             boundary,
             log_edges,
             log_weights,
+            list,
+            values,
+            at(numbers, place),
+            narrow_at(numbers, after(place, 1)),
+            narrow_at(numbers, after(place, 2)),
         );
         place = after(place, 3);
         left -= 1;
     }
 }
 
-// Opens the graph of a case, whose columns stand from a place on.
-fn opened(
-    numbers: &[u64],
-    from: usize,
-    vertices: u32,
-    edges: u32,
-    ends_a: &mut [u32],
-    ends_b: &mut [u32],
-    weights: &mut [Weight],
-    boundary: &mut [u8],
-) -> EngineAnswer {
+// One case: opens its graph and goes through its queries.
+fn case(numbers: &[u64], from: usize) -> usize {
+    let vertices = narrow_at(numbers, from);
+    let edges = narrow_at(numbers, after(from, 1));
+    let v = size_at(numbers, from);
+    let e = size_at(numbers, after(from, 1));
+    let count = size_at(numbers, after(from, 2));
     let mut in_a = [0u32; EDGES];
     let mut in_b = [0u32; EDGES];
     let mut in_weights = [0u32; EDGES];
     let mut in_boundary = [0u8; VERTICES];
-    let e = edges as usize;
-    let second = after(from, e);
-    let third = after(second, e);
-    copy_u32(numbers, from, &mut in_a, e);
-    copy_u32(numbers, second, &mut in_b, e);
-    copy_u32(numbers, third, &mut in_weights, e);
-    copy_u8(
+    let mut list = [0u32; NAMED];
+    let mut values = [0u32; NAMED];
+    let first_a = after(from, 3);
+    let first_b = after(first_a, e);
+    let first_weight = after(first_b, e);
+    let first_byte = after(first_weight, e);
+    let first_named = after(first_byte, v);
+    let first_value = after(first_named, NAMED);
+    let first_query = after(first_value, NAMED);
+    copy_u32(numbers, first_a, &mut in_a, e);
+    copy_u32(numbers, first_b, &mut in_b, e);
+    copy_u32(numbers, first_weight, &mut in_weights, e);
+    copy_u8(numbers, first_byte, &mut in_boundary, v);
+    copy_u32(numbers, first_named, &mut list, NAMED);
+    copy_u32(numbers, first_value, &mut values, NAMED);
+    run(
         numbers,
-        after(third, e),
-        &mut in_boundary,
-        vertices as usize,
-    );
-    edge_modifier::open(
+        first_query,
+        count,
         vertices,
         edges,
         &in_a,
         &in_b,
         &in_weights,
         &in_boundary,
-        ends_a,
-        ends_b,
-        weights,
-        boundary,
-    )
+        &list,
+        &values,
+    );
+    after(first_query, after(count, after(count, count)))
 }
 
-// A case whose columns stand from a place on, its lists from another and its queries from a third.
+// Opens the graph into columns of its own, then the queries.
 fn run(
     numbers: &[u64],
-    columns: usize,
-    named: usize,
-    from: usize,
+    first_query: usize,
     count: usize,
     vertices: u32,
     edges: u32,
+    in_a: &[u32],
+    in_b: &[u32],
+    in_weights: &[Weight],
+    in_boundary: &[u8],
+    list: &[u32],
+    values: &[Weight],
 ) {
     let mut ends_a = [0u32; EDGES];
     let mut ends_b = [0u32; EDGES];
@@ -291,11 +296,13 @@ fn run(
     let mut boundary = [0u8; VERTICES];
     let mut log_edges = [0u32; ENTRIES];
     let mut log_weights = [0u32; ENTRIES];
-    let answer = opened(
-        numbers,
-        columns,
+    let answer = edge_modifier::open(
         vertices,
         edges,
+        in_a,
+        in_b,
+        in_weights,
+        in_boundary,
         &mut ends_a,
         &mut ends_b,
         &mut weights,
@@ -309,8 +316,7 @@ fn run(
     };
     queries(
         numbers,
-        named,
-        from,
+        first_query,
         count,
         counts_after(none, answer),
         &ends_a,
@@ -319,27 +325,9 @@ fn run(
         &boundary,
         &mut log_edges,
         &mut log_weights,
+        list,
+        values,
     );
-}
-
-// One case; the place after it.
-fn case(numbers: &[u64], from: usize) -> usize {
-    let v = size_at(numbers, from);
-    let e = size_at(numbers, after(from, 1));
-    let count = size_at(numbers, after(from, 2));
-    let columns = after(from, 3);
-    let named = after(after(columns, after(e, after(e, e))), v);
-    let first = after(named, 2 * NAMED);
-    run(
-        numbers,
-        columns,
-        named,
-        first,
-        count,
-        narrow_at(numbers, from),
-        narrow_at(numbers, after(from, 1)),
-    );
-    after(first, after(count, after(count, count)))
 }
 
 fn replay(numbers: &[u64]) {

@@ -7,19 +7,34 @@ use Rattle.replay_engine.proofs.queries.Statement.{statement}
 use Rattle.replay_engine.proofs.queries.Tie as tie
 
 abbrev Inv-loop : tie.InvT-loop
-Inv-loop numbers named from count ends-a ends-b weights₀ boundary log-edges₀ log-weights₀ c₀ place₀ left₀ weights log-edges log-weights c place left = (length weights ≡ length weights₀) × (length log-edges ≡ length log-edges₀) × (length log-weights ≡ length log-weights₀)
+Inv-loop numbers from count ends-a ends-b weights₀ boundary log-edges₀ log-weights₀ list values c₀ place₀ left₀ weights log-edges log-weights c place left = (length weights ≡ length weights₀) × (length log-edges ≡ length log-edges₀) × (length log-weights ≡ length log-weights₀)
 
 abbrev μ-loop : tie.MeasureT-loop
-μ-loop numbers named from count ends-a ends-b weights₀ boundary log-edges₀ log-weights₀ c₀ place₀ left₀ weights log-edges log-weights c place left = left
+μ-loop numbers from count ends-a ends-b weights₀ boundary log-edges₀ log-weights₀ list values c₀ place₀ left₀ weights log-edges log-weights c place left = left
 
 loop-holds : tie.Need-loop-holds Inv-loop μ-loop
 loop-holds c = search needs
 
-query-requires : tie.Need-query-requires Inv-loop μ-loop
-query-requires c κs = search needs
+at-requires : tie.Need-at-requires Inv-loop μ-loop
+at-requires c κs = search needs
 
 after-requires : tie.Need-after-requires Inv-loop μ-loop
 after-requires c κs = search needs
+
+narrow-at-requires : tie.Need-narrow-at-requires Inv-loop μ-loop
+narrow-at-requires c κs = search needs
+
+after-requires-2 : tie.Need-after-requires-2 Inv-loop μ-loop
+after-requires-2 c κs = search needs
+
+narrow-at-requires-2 : tie.Need-narrow-at-requires-2 Inv-loop μ-loop
+narrow-at-requires-2 c κs = search needs
+
+query-requires : tie.Need-query-requires Inv-loop μ-loop
+query-requires c κs = search needs
+
+after-requires-3 : tie.Need-after-requires-3 Inv-loop μ-loop
+after-requires-3 c κs = search needs
 
 sub-left : tie.Need-sub-left Inv-loop μ-loop
 sub-left c = search needs
@@ -49,8 +64,13 @@ queries-spec =
     Inv-loop
     μ-loop
     loop-holds
-    query-requires
+    at-requires
     after-requires
+    narrow-at-requires
+    after-requires-2
+    narrow-at-requires-2
+    query-requires
+    after-requires-3
     sub-left
     loop-less
     loop-again

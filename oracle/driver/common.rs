@@ -50,6 +50,11 @@ pub fn wide(list: &[u32]) -> Vec<usize> {
     list.iter().map(|&x| x as usize).collect()
 }
 
+/// a byte that says yes: any but 0
+pub fn yes(k: u32) -> u8 {
+    [1, 2, 128, 255][k as usize % 4]
+}
+
 /// the columns of a code on our side
 #[derive(Clone)]
 pub struct Columns {
@@ -151,7 +156,7 @@ impl Columns {
             rounds,
             p,
             max_half_weight,
-            diagonal.is_some(),
+            diagonal.map_or(0, |_| yes(rounds)),
             diagonal.unwrap_or(0.),
             &mut self.a,
             &mut self.b,
@@ -297,6 +302,10 @@ pub struct Engine {
     pub path: Vec<u32>,
     #[allow(dead_code)]
     pub steps: Vec<u32>,
+    /// boundary weights and vertices, and a row, with a place past the vertices
+    pub nearest: Vec<i32>,
+    pub nearest_vertex: Vec<u32>,
+    pub row: Vec<i32>,
 }
 
 impl Engine {
@@ -323,6 +332,9 @@ impl Engine {
             leaf: vec![0; n],
             path: vec![77777; n],
             steps: vec![77777; n],
+            nearest: vec![-7; n + 1],
+            nearest_vertex: vec![77777; n + 1],
+            row: vec![-7; n + 1],
         };
         let r = ours::open(v, e as u32, a, b, weights, boundary, &mut s.a, &mut s.b, &mut s.weights, &mut s.boundary);
         if r.number == 0 {
@@ -394,7 +406,7 @@ impl Engine {
             &self.log_edges,
             &self.log_weights,
             source,
-            end.is_some(),
+            end.map_or(0, |_| yes(source)),
             end.unwrap_or(0),
             &mut self.out_weight,
             &mut self.out_previous,
@@ -468,6 +480,81 @@ impl Engine {
             &self.log_edges,
             &self.log_weights,
             &mut self.out_weight,
+            &mut self.numbers,
+            &mut self.list_ends,
+            &mut self.status,
+            &mut self.weight,
+            &mut self.previous,
+            &mut self.node,
+            &mut self.leaf,
+        )
+    }
+    #[cfg(feature = "fill_row")]
+    pub fn fill_boundaries(&mut self) -> u32 {
+        ours::fill_boundaries(
+            self.v,
+            self.e,
+            self.entries,
+            &self.a,
+            &self.b,
+            &self.weights,
+            &self.boundary,
+            &self.log_edges,
+            &self.log_weights,
+            &mut self.nearest,
+            &mut self.nearest_vertex,
+            &mut self.out_weight,
+            &mut self.out_previous,
+            &mut self.numbers,
+            &mut self.list_ends,
+            &mut self.status,
+            &mut self.weight,
+            &mut self.previous,
+            &mut self.node,
+            &mut self.leaf,
+        )
+    }
+    /// the row of a vertex by the boundary weights that stand in the column
+    #[cfg(feature = "fill_row")]
+    pub fn fill_row(&mut self, vertex: u32) -> u32 {
+        ours::fill_row(
+            self.v,
+            self.e,
+            self.entries,
+            &self.a,
+            &self.b,
+            &self.weights,
+            &self.boundary,
+            &self.log_edges,
+            &self.log_weights,
+            vertex,
+            &self.nearest,
+            &mut self.row,
+            &mut self.out_previous,
+            &mut self.numbers,
+            &mut self.list_ends,
+            &mut self.status,
+            &mut self.weight,
+            &mut self.previous,
+            &mut self.node,
+            &mut self.leaf,
+        )
+    }
+    #[cfg(feature = "fill_row")]
+    pub fn get_boundary_weight(&mut self, vertex: u32) -> ours::BoundaryReport {
+        ours::get_boundary_weight(
+            self.v,
+            self.e,
+            self.entries,
+            &self.a,
+            &self.b,
+            &self.weights,
+            &self.boundary,
+            &self.log_edges,
+            &self.log_weights,
+            vertex,
+            &mut self.out_weight,
+            &mut self.out_previous,
             &mut self.numbers,
             &mut self.list_ends,
             &mut self.status,

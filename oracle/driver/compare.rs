@@ -1,5 +1,5 @@
 //! Holds every result of the proved library to the Rust's. Prints, for each group, how many results were compared and how many differ,
-//! with the first input that differs (inputs grow). `compare control` expects the four likely errors to be found.
+//! with the first input that differs (inputs grow). `compare control` expects the known errors to be found.
 #[allow(dead_code)]
 mod common;
 /// the exported functions of the proved library; oracle/bindings writes this file
@@ -1088,6 +1088,79 @@ fn paths(inputs: &mut Inputs, rounds: usize) -> Group {
     g.end()
 }
 
+/// every row, boundary weight and boundary vertex of a graph
+#[cfg(feature = "fill_row")]
+fn hold_prebuilt(g: &mut Group, graph: &Graph, engine: &mut Engine, name: &str) {
+    let n = graph.v as usize;
+    let mut initializer = SolverInitializer::new(graph.v as VertexNum, graph.weighted(), graph.virtual_vertices());
+    for (k, edge) in initializer.weighted_edges.iter_mut().enumerate() {
+        edge.2 = engine.weights[k] as Weight;
+    }
+    let rust = fusion::complete_graph::PrebuiltCompleteGraph::new_threaded(&initializer, 1);
+    let of_rust = |v: usize| rust.get_boundary_weight(v as VertexIndex);
+    engine.nearest.fill(-7);
+    engine.nearest_vertex.fill(77777);
+    let number = engine.fill_boundaries();
+    let filled = (0..n).all(|v| (engine.nearest[v] as i64, engine.nearest_vertex[v] as VertexIndex) == of_rust(v).map_or((-1, 0), |(u, w)| (w as i64, u)));
+    let past = engine.nearest[n] == -7 && engine.nearest_vertex[n] == 77777;
+    g.hold(number == 0 && filled && past, || format!("{name} {}, boundary {:?}: fill_boundaries {number}", graph.show(), graph.boundary));
+    for v in 0..n {
+        let r = engine.get_boundary_weight(v as u32);
+        let same = match of_rust(v) {
+            None => (r.number, r.found, r.vertex, r.weight) == (0, 0, 0, 0),
+            Some((u, w)) => r.number == 0 && r.found == 1 && r.vertex as VertexIndex == u && r.weight as Weight == w,
+        };
+        g.hold(same, || format!("{name} {}, boundary {:?}: boundary weight of {v}: {r:?}", graph.show(), graph.boundary));
+        engine.row.fill(-7);
+        let number = engine.fill_row(v as u32);
+        let row = (0..n).all(|u| rust.get_edge_weight(v as VertexIndex, u as VertexIndex).map_or(-1, |w| w as i64) == engine.row[u] as i64);
+        g.hold(number == 0 && row && engine.row[n] == -7, || {
+            format!("{name} {}, boundary {:?}: row of {v}: {number} {:?}", graph.show(), graph.boundary, engine.row)
+        });
+    }
+    // a number past the vertices: the Rust panics
+    engine.row.fill(-7);
+    let refused = engine.fill_row(graph.v) == 13 && engine.row.iter().all(|&x| x == -7) && engine.get_boundary_weight(graph.v).number == 13;
+    let panicked = panics(|| rust.get_edge_weight(graph.v as VertexIndex, 0)) && panics(|| rust.get_boundary_weight(graph.v as VertexIndex));
+    g.hold(refused && panicked, || format!("{name} {}: number {}", graph.show(), graph.v));
+}
+
+#[cfg(feature = "fill_row")]
+fn prebuilt(inputs: &mut Inputs, rounds: usize) -> Group {
+    let mut g = Group::new("PrebuiltCompleteGraph");
+    for round in 0..rounds {
+        let n = 2 + 20 * round / rounds + inputs.below(3);
+        let m = 1 + inputs.below(3 * n);
+        let graph = Graph::random(inputs, n, m, round);
+        let mut engine = Engine::open(graph.v, &graph.a, &graph.b, &graph.weights, &graph.boundary, 12).unwrap();
+        if round % 3 == 2 && !graph.a.is_empty() {
+            let length = inputs.below(5);
+            let list = inputs.list(length, graph.a.len());
+            engine.load_erasures(&list);
+        }
+        hold_prebuilt(&mut g, &graph, &mut engine, "");
+    }
+    let mut columns = Columns::with_room(200, 800);
+    for (kind, d, rounds) in codes_within(120) {
+        if columns.create(kind, d, rounds).number != 0 {
+            continue;
+        }
+        let (v, e) = (columns.v as usize, columns.e as usize);
+        for style in 0..2 {
+            let graph = Graph {
+                v: columns.v,
+                a: columns.a[..e].to_vec(),
+                b: columns.b[..e].to_vec(),
+                weights: (0..e).map(|_| [inputs.below(3) as u32, 2 * inputs.below(250_001) as u32][style]).collect(),
+                boundary: columns.boundary[..v].to_vec(),
+            };
+            let mut engine = Engine::open(graph.v, &graph.a, &graph.b, &graph.weights, &graph.boundary, 4).unwrap();
+            hold_prebuilt(&mut g, &graph, &mut engine, &format!("kind {kind}, d {d}, rounds {rounds}:"));
+        }
+    }
+    g.end()
+}
+
 // ---- replay: a sample of the Rust's answers, for programs that run without it
 
 fn line<T: ToString>(numbers: impl IntoIterator<Item = T>) -> String {
@@ -1226,9 +1299,11 @@ fn main() {
     }
     let mut inputs = Inputs(20_260_712);
     if control {
-        let found = [tables(&mut inputs, 600), loads(&mut inputs, false), sampling(&mut inputs), errors(&mut inputs)];
+        let mut found = vec![tables(&mut inputs, 600), loads(&mut inputs, false), sampling(&mut inputs), errors(&mut inputs)];
+        #[cfg(feature = "fill_row")]
+        found.push(prebuilt(&mut inputs, 300));
         let all = found.iter().all(|g| g.differ > 0);
-        println!("{}", if all { "control: each of the four known errors was found" } else { "control FAILED: a known error was not found" });
+        println!("control{}", if all { format!(": each of {} known errors was found", found.len()) } else { " FAILED: a known error was not found".to_string() });
         std::process::exit(i32::from(!all));
     }
     let mut groups = vec![codes(), refused_codes(), weights(&mut inputs), single_weights(&mut inputs)];
@@ -1260,6 +1335,8 @@ fn main() {
         queries += g.compared;
         groups.push(g);
     }
+    #[cfg(feature = "fill_row")]
+    groups.push(prebuilt(&mut inputs, 6000));
     let compared: u64 = groups.iter().map(|g| g.compared).sum();
     let differ: u64 = groups.iter().map(|g| g.differ).sum();
     println!(

@@ -1,10 +1,10 @@
 ghost use Rattle.c_reports.specs.Reports.{Reported};
-ghost use Rattle.c_engine.specs.Reports.{ReportsEngine};
+ghost use Rattle.c_answers.specs.Engine.{ReportsEngine};
 ghost use Rattle.edge_modifier.specs.Open.{OpenStep, graphColumns};
 ghost use Rattle.edge_modifier.specs.Records.{engine, kept, counts};
 ghost use Rattle.edge_modifier.specs.Step.{Step, loadErasures, loadWeights, reset};
-use super::reports::EngineReport;
-use super::reports::engine_report;
+use c_answers::engine::EngineReport;
+use c_answers::engine::engine_report;
 use columns::Weight;
 use edge_modifier::EngineCounts;
 

@@ -1,16 +1,17 @@
 ghost use Rattle.c_reports.specs.Reports.{Reported, ReportsDone};
-ghost use Rattle.c_engine.specs.Reports.{endOf, noEnd};
+ghost use Rattle.c_answers.specs.Engine.{endOf, noEnd};
 ghost use Rattle.complete_graph.specs.Queries.{scratchLong};
 ghost use Rattle.complete_graph.specs.Steps.{TableStep, ScratchKept, scratchOf};
 ghost use Rattle.edge_modifier.specs.Records.{engine, counts};
 ghost use lib.ListN.{length};
-use super::reports::end_of;
+use c_answers::engine::end_of;
 use c_reports::done_number;
 use columns::VertexIndex;
 use columns::Weight;
 use edge_modifier::EngineCounts;
 
 // The least weight from the source and the previous vertex of every vertex, up to the named end: -1 and 0 where a vertex was not taken.
+// There is an end where `has_end` is not 0.
 // The columns from `numbers` on are scratch.
 #[no_mangle]
 pub extern "C" fn moldingcress_all_edges_with_terminate(
@@ -24,7 +25,7 @@ pub extern "C" fn moldingcress_all_edges_with_terminate(
     log_edges: &[u32],
     log_weights: &[Weight],
     source: u32,
-    has_end: bool,
+    has_end: u8,
     end: u32,
     out_weight: &mut [i32],
     out_previous: &mut [u32],

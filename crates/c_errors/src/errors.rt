@@ -1,11 +1,11 @@
 ghost use Rattle.c_reports.specs.Reports.{Reported, ReportsDone};
-ghost use Rattle.c_errors.specs.Reports.{ReportsFound, ReportsSyndrome};
+ghost use Rattle.c_answers.specs.Errors.{ReportsFound, ReportsSyndrome};
 ghost use Rattle.syndromes.specs.Errors.{GeneratedErrors, ClearedErrors};
 ghost use Rattle.syndromes.specs.Records.{codeGraph, syndromeColumns};
 ghost use Rattle.syndromes.specs.Sampling.{GeneratedRandomErrors};
 ghost use Rattle.syndromes.specs.Syndrome.{FoundSyndrome};
-use super::reports::found_report;
-use super::reports::syndrome_report;
+use c_answers::errors::found_report;
+use c_answers::errors::syndrome_report;
 use c_reports::OneCount;
 use c_reports::TwoCounts;
 use c_reports::done_number;

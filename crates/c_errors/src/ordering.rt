@@ -1,9 +1,9 @@
 ghost use Rattle.c_reports.specs.Reports.{Reported, ReportsDone};
-ghost use Rattle.c_errors.specs.Reports.{ReportsTranslated};
+ghost use Rattle.c_answers.specs.Errors.{ReportsTranslated};
 ghost use Rattle.reorder.specs.Columns.{codeColumns, ReorderedVertices};
 ghost use Rattle.reorder.specs.Numbers.{BuiltOldToNew, TranslatedDefects};
-use super::reports::LongCount;
-use super::reports::translated_report;
+use c_answers::errors::LongCount;
+use c_answers::errors::translated_report;
 use c_reports::done_number;
 
 // Stores the new number of each old vertex.

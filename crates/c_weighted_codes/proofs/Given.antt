@@ -1,11 +1,17 @@
--- A code with a diagonal probability, and the same probability by another name. Assumes nothing.
-use Prim.Native.Nat.{ℕ}
-use mathlib.Core.Path.{_≡_, subst}
+-- A code with a diagonal probability, and the same probability by another name; one that there is. Assumes nothing.
+use Prim.Native.Nat.{ℕ, zero, suc}
+use mathlib.Core.Path.{_≡_, refl, subst}
 use lib.Ieee.{Float}
 use Rattle.weights.specs.declared.diagonal.DiagonalProbability.{DiagonalProbability}
+use Rattle.weights.specs.declared.diagonal.DiagonalProbability.the-variants.{Given}
 use Rattle.example_codes.specs.declared.Created.{Created}
 use Rattle.example_codes.specs.Columns.{CodeColumns}
 use Rattle.weighted_codes.specs.NewCode.{WeightedCode}
+use Rattle.c_weighted_codes.specs.Arguments.{diagonalFrom}
+
+pub diagonal-given : (n : ℕ) (x : Float) → (n ≡ 0 → ⊥) → Given x ≡ diagonalFrom n x
+diagonal-given zero x f = absurd (f refl)
+diagonal-given (suc n) x f = refl
 
 pub given : {kind d rounds : ℕ} {p : Float} {x y : DiagonalProbability} {max : ℕ} {lent back : CodeColumns} {r : Created} → x ≡ y → WeightedCode kind d rounds p x max lent back r → WeightedCode kind d rounds p y max lent back r
 given {kind} {d} {rounds} {p} {x} {y} {max} {lent} {back} {r} e s = subst (λ (t : DiagonalProbability). WeightedCode kind d rounds p t max lent back r) e s

@@ -1,9 +1,9 @@
--- An enum argument from numbers: whether there is a diagonal probability, and its value.
-use mathlib.Core.Bool.{Bool, true, false}
+-- An enum argument from numbers: whether there is a diagonal probability, any number but 0 for yes, and its value.
+use Prim.Native.Nat.{ℕ, zero, suc}
 use lib.Ieee.{Float}
 use Rattle.weights.specs.declared.diagonal.DiagonalProbability.{DiagonalProbability}
 use Rattle.weights.specs.declared.diagonal.DiagonalProbability.the-variants.{None, Given}
 
-abbrev pub diagonalFrom : Bool → Float → DiagonalProbability
-diagonalFrom true x = Given x
-diagonalFrom false x = None
+abbrev pub diagonalFrom : ℕ → Float → DiagonalProbability
+diagonalFrom zero x = None
+diagonalFrom (suc n) x = Given x

@@ -9,14 +9,14 @@ ghost use Rattle.c_reports.specs.Reports.{Reported};
 ghost use Rattle.c_codes.specs.Reports.{ReportsCreated};
 ghost use Rattle.c_weighted_codes.specs.Arguments.{diagonalFrom};
 
-// The diagonal probability, if there is one.
-fn diagonal_from(has_diagonal: bool, diagonal: f64) -> DiagonalProbability
+// The diagonal probability, if there is one: any byte but 0 says so.
+fn diagonal_from(has_diagonal: u8, diagonal: f64) -> DiagonalProbability
     ensures { λ r. ⌜ r ≡ diagonalFrom «has_diagonal» diagonal ⌝ }
 {
-    if has_diagonal {
-        return DiagonalProbability::Given(diagonal);
+    if has_diagonal == 0 {
+        return DiagonalProbability::None;
     }
-    DiagonalProbability::None
+    DiagonalProbability::Given(diagonal)
 }
 
 // Builds a code with probability p at every edge, and p/3 at the diagonal edges of kind 4.
@@ -65,14 +65,15 @@ pub extern "C" fn moldingcress_new(
     ))
 }
 
-// Builds a code of kind 4 with probability p at every edge, or the diagonal probability at the diagonal edges where it is given.
+// Builds a code of kind 4 with probability p at every edge, or the diagonal probability at the diagonal edges where it is given:
+// where `has_diagonal` is not 0.
 #[no_mangle]
 pub extern "C" fn moldingcress_new_diagonal(
     d: u32,
     rounds: u32,
     probability: f64,
     max_half_weight: Weight,
-    has_diagonal: bool,
+    has_diagonal: u8,
     diagonal: f64,
     ends_a: &mut [u32],
     ends_b: &mut [u32],

@@ -7,14 +7,14 @@ use native.Mathlib.Decide.{ℕ-discrete}
 use native.Mathlib.Omega.{arith}
 use lib.Dec.{leb, eqb}
 use lib.ListN.{length, getD, take, drop, length-drop}
-use lib.Seq.{getD-drop, drop-drop}
+use lib.Seq.{getD-drop, drop-drop, length-take-le}
 use borrow.Author.Tests.{leb-true, le-leb, lt-leb, eqb-true, eq-eqb, ne-eqb}
-use Rattle.columns.specs.Questions.{all}
+use Rattle.columns.specs.Questions.{ask, all}
 use Rattle.columns.proofs.Tests.{and-both}
 use Rattle.code_line.specs.declared.CodeLine.{CodeLine}
 use Rattle.code_line.specs.declared.LineRead.{LineRead}
 use Rattle.code_line.specs.declared.LineRead.the-variants.{WellFormed, NotWellFormed}
-use Rattle.code_line.specs.Line.{comma, newline, zeroDigit, isHexDigit, digits, digitOf, hexDigitOf, number, decimalOf, hexOf, afterDecimal, decimalSound, hexSound, fromD, fromRounds, fromP, fromM, wellFormed, lineOf, readOf}
+use Rattle.code_line.specs.Line.{comma, newline, zeroDigit, isHexDigit, digits, digitOf, hexDigitOf, number, decimalOf, hexOf, afterDecimal, decimalSound, hexSound, fromD, fromRounds, fromP, fromM, wellFormed, lineOf, lineRead, readOf, LongInputsAlike}
 use Rattle.code_line.proofs.Runs.{digits-within}
 
 -- ---- what a sound field says
@@ -86,9 +86,14 @@ longest t e =
 pub too-long : (t : List ℕ) → 57 < length t → NotWellFormed ≡ readOf t
 too-long t h = go (wellFormed t) refl
   where
-    go : (b : Bool) → wellFormed t ≡ b → NotWellFormed ≡ cond b (WellFormed (lineOf t)) NotWellFormed
+    go : (b : Bool) → wellFormed t ≡ b → NotWellFormed ≡ lineRead (ask b 1 0) (lineOf t)
     go false e = refl
     go true e = absurd (omega (arith, longest t e))
+
+pub long-inputs-alike : LongInputsAlike
+long-inputs-alike t n h k =
+    let l : length (take n t) ≡ n = length-take-le n t k in
+    sym (too-long (take n t) (omega (arith, l))) ∙ too-long t (omega arith)
 
 -- ---- places
 
@@ -184,7 +189,7 @@ module _ (t : List ℕ) (n1 n2 n3 n5 : ℕ) (e1 : n1 ≡ digits (drop 0 t)) (e2 
   }
 
 pub not-formed : (t : List ℕ) → wellFormed t ≡ false → NotWellFormed ≡ readOf t
-not-formed t e = sym (ap (λ (b : Bool). cond b (WellFormed (lineOf t)) NotWellFormed) e)
+not-formed t e = sym (ap (λ (b : Bool). lineRead (ask b 1 0) (lineOf t)) e)
 
 pub formed : (t : List ℕ) (l : CodeLine) → wellFormed t ≡ true → l ≡ lineOf t → WellFormed l ≡ readOf t
-formed t l e p = ap WellFormed p ∙ sym (ap (λ (b : Bool). cond b (WellFormed (lineOf t)) NotWellFormed) e)
+formed t l e p = ap WellFormed p ∙ sym (ap (λ (b : Bool). lineRead (ask b 1 0) (lineOf t)) e)

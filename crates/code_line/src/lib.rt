@@ -11,7 +11,7 @@ ghost use mathlib.Core.Path.{_≡_};
 ghost use Prim.Native.Nat.{_≤_};
 ghost use lib.ListN.{length};
 ghost use lib.Dec.{eqb};
-ghost use Rattle.code_line.specs.Line.{readOf};
+ghost use Rattle.code_line.specs.Line.{readOf, LongInputsAlike};
 
 // The five numbers; p by its bits.
 pub struct CodeLine {
@@ -80,3 +80,8 @@ pub fn read_line(text: &[u8]) -> LineRead
     }
     read_short(text)
 }
+
+// A part of a long input is refused as the whole is: a program need not read more than 58 bytes.
+pub fn long_inputs_alike()
+    ensures { λ _. ⌜ LongInputsAlike ⌝ }
+{}

@@ -1,66 +1,19 @@
 -- What `codelist` prints for an input: document 01, "The program `codelist`".
 use Prim.Native.Nat.{ℕ, zero, suc}
 use mathlib.Core.Path.{_≡_}
-use mathlib.Core.Bool.{_&&_, cond}
 use mathlib.Core.List.{List}
-use mathlib.Core.Option.{Option, some, none}
-use lib.Dec.{eqb, leb}
-use lib.ListN.{length, getD}
-use lib.Ieee.{Float, binary64, ofBits}
+use lib.Dec.{leb}
+use lib.ListN.{length}
+use lib.Ieee.{binary64, ofBits}
 use Rattle.columns.specs.Lists.{after}
 use Rattle.columns.specs.Questions.{ask}
-use Rattle.whole_weights.specs.Weights.{weights}
-use Rattle.code_columns.specs.Edges.{firsts, seconds, boundaries}
-use Rattle.layers.specs.Codes.{edgesOf, verticesOf}
-use Rattle.layers.specs.Counts.{vertexNum, edgeNum}
-use Rattle.layers.specs.Accepts.{codeRefusal}
-use Rattle.code_graphs.specs.Graphs.{codeGraph}
-use Rattle.walks.specs.Answers.{crossing}
-use Rattle.weights.specs.Probabilities.{isProbability}
-use Rattle.weights.specs.Diagonal.{isDiagonalProbability}
-use Rattle.weights.specs.Calls.{edgeWeights, someAbove, isLargestHalfWeight, halfWeights}
-use Rattle.weighted_codes.specs.Probabilities.{probabilities, diagonalOf}
 use Rattle.code_line.specs.declared.LineRead.{LineRead}
 use Rattle.code_line.specs.declared.LineRead.the-variants.{WellFormed, NotWellFormed}
 use Rattle.code_line.specs.Line.{readOf}
-use Rattle.listing.specs.Text.{refusalLine, listing}
+use Rattle.listing.specs.Text.{refusalLine}
+use Rattle.code_listing.specs.Listing.{codeText}
 use Rattle.code_text.specs.declared.Listed.{Listed}
 use Rattle.code_text.specs.declared.Listed.the-variants.{Text, Refused}
-
--- ---- the questions after the first
-
--- over 1,024 vertices it gives 6, in that question's place
-unfoldable pub listRefusal : (kind d rounds : ℕ) (p : Float) (max : ℕ) → ℕ
-listRefusal kind d rounds p max =
-    codeRefusal kind d rounds
-    (ask (leb (vertexNum kind d rounds) 1024) 6
-    (ask (isLargestHalfWeight max) 8
-    (ask (isProbability p && isDiagonalProbability (diagonalOf kind p)) 9
-    (ask (someAbove (edgeWeights (probabilities kind d rounds p (diagonalOf kind p)))) 10 0))))
-
--- ---- the listing of a code that is built with `new`
-
--- the weight of each edge, as `get_initializer` has it: twice the half weight
-unfoldable pub weightsOf : (kind d rounds : ℕ) (p : Float) (max : ℕ) → List ℕ
-weightsOf kind d rounds p max = weights (edgeNum kind d rounds) (halfWeights max (probabilities kind d rounds p (diagonalOf kind p)))
-
--- the crossing weight under these weights, if there is one
-unfoldable pub crossingOf : (kind d rounds : ℕ) (p : Float) (max : ℕ) → Option ℕ
-crossingOf kind d rounds p max = crossing (codeGraph kind d rounds) (λ e. getD (weightsOf kind d rounds p max) e 0)
-
--- the listing with a crossing weight; 18 where there is none, which no code has (Claims)
-abbrev pub withCrossing : (kind d rounds : ℕ) (weights : List ℕ) → Option ℕ → List ℕ
-withCrossing kind d rounds weights (some weight) =
-    listing kind d rounds (vertexNum kind d rounds) (edgeNum kind d rounds) (boundaries (verticesOf kind d rounds)) (firsts (edgesOf kind d rounds)) (seconds (edgesOf kind d rounds)) weights weight
-withCrossing kind d rounds weights none = refusalLine 18
-
-unfoldable pub listingOf : (kind d rounds : ℕ) (p : Float) (max : ℕ) → List ℕ
-listingOf kind d rounds p max = withCrossing kind d rounds (weightsOf kind d rounds p max) (crossingOf kind d rounds p max)
-
--- a refusal, or the listing
-unfoldable pub codeText : (kind d rounds : ℕ) (p : Float) (max : ℕ) → List ℕ
-codeText kind d rounds p max =
-    cond (eqb (listRefusal kind d rounds p max) 0) (listingOf kind d rounds p max) (refusalLine (listRefusal kind d rounds p max))
 
 -- ---- the text for an input
 

@@ -1,4 +1,3 @@
--- Answer: the text for an input line, and the call. Claims: every code has a crossing. Steps: what private functions promise.
+-- Answer: the text for an input line, and the call. Claims: every text fits.
 pub mod Answer
 pub mod Claims
-pub mod Steps

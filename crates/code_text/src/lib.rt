@@ -1,21 +1,15 @@
 // What `codelist` prints for an input.
-mod built;
-
-use built::write_built;
 use code_line::LineRead;
 use code_line::read_line;
-use columns::Weight;
-use example_codes::Created;
+use code_listing::write_code;
 use listing::write_refusal;
-use weighted_codes::new;
 ghost use mathlib.Core.Path.{_≡_};
+ghost use Prim.Native.Nat.{_≤_};
 ghost use lib.ListN.{length};
 ghost use lib.Ieee.{binary64, ofBits};
-ghost use Rattle.example_codes.specs.Columns.{CodeColumns};
 ghost use Rattle.listing.specs.Steps.{Put};
-ghost use Rattle.code_text.specs.Answer.{codeText, textOf, answerText, CodeListed};
-ghost use Rattle.code_text.specs.Claims.{EveryCodeCrosses, EveryTextFits};
-ghost use Rattle.code_text.specs.Steps.{CodeRoom, MadeHolds, madeText};
+ghost use Rattle.code_text.specs.Answer.{textOf, CodeListed};
+ghost use Rattle.code_text.specs.Claims.{EveryTextFits};
 
 // How many bytes the text has, or the number of the question that was answered no.
 pub enum Listed {
@@ -37,149 +31,6 @@ fn of_bits(n: u64) -> f64
     }
 }
 
-// The text for what `new` answers.
-fn write_made(
-    made: Created,
-    kind: u32,
-    d: u32,
-    rounds: u32,
-    probability: f64,
-    max_half_weight: Weight,
-    ends_a: &[u32],
-    ends_b: &[u32],
-    half_weight: &[Weight],
-    boundary: &[u8],
-    text: &mut [u8],
-) -> usize
-    requires { ⌜ MadeHolds kind d rounds probability «max_half_weight» (now «ends_a») (now «ends_b») (now «half_weight») (now boundary) made ⌝ }
-    ensures { λ r. ⌜ Put (now (text .entry)) 0 (madeText kind d rounds probability «max_half_weight» made) (now (text .exit)) r ⌝ }
-{
-    match made {
-        Created::Refused(number) => write_refusal(text, number),
-        Created::Code(v, e) => write_built(
-            kind,
-            d,
-            rounds,
-            probability,
-            max_half_weight,
-            v,
-            e,
-            ends_a,
-            ends_b,
-            half_weight,
-            boundary,
-            text,
-        ),
-    }
-}
-
-// The text for a code, over columns for 1,024 vertices.
-fn write_code_in(
-    kind: u32,
-    d: u32,
-    rounds: u32,
-    probability: f64,
-    max_half_weight: Weight,
-    text: &mut [u8],
-    ends_a: &mut [u32],
-    ends_b: &mut [u32],
-    p: &mut [f64],
-    pe: &mut [f64],
-    half_weight: &mut [u32],
-    erasure: &mut [u8],
-    pos_i: &mut [f64],
-    pos_j: &mut [f64],
-    pos_t: &mut [f64],
-    boundary: &mut [u8],
-    defect: &mut [u8],
-    list_lengths: &mut [u32],
-    neighbor_numbers: &mut [u32],
-) -> usize
-    requires { ⌜ CodeRoom (record { endsA = now «ends_a»; endsB = now «ends_b»; p = now p; pe = now pe; halfWeight = now «half_weight»; erasure = now erasure; posI = now «pos_i»; posJ = now «pos_j»; posT = now «pos_t»; boundary = now boundary; defect = now defect; listLengths = now «list_lengths»; neighborNumbers = now «neighbor_numbers» }) ⌝ }
-    ensures { λ r. ⌜ Put (now (text .entry)) 0 (codeText kind d rounds probability «max_half_weight») (now (text .exit)) r ⌝ }
-{
-    let made = new(
-        kind,
-        d,
-        rounds,
-        probability,
-        max_half_weight,
-        ends_a,
-        ends_b,
-        p,
-        pe,
-        half_weight,
-        erasure,
-        pos_i,
-        pos_j,
-        pos_t,
-        boundary,
-        defect,
-        list_lengths,
-        neighbor_numbers,
-    );
-    write_made(
-        made,
-        kind,
-        d,
-        rounds,
-        probability,
-        max_half_weight,
-        ends_a,
-        ends_b,
-        half_weight,
-        boundary,
-        text,
-    )
-}
-
-// The text for a code.
-fn write_code(
-    kind: u32,
-    d: u32,
-    rounds: u32,
-    probability: f64,
-    max_half_weight: Weight,
-    text: &mut [u8],
-) -> usize
-    ensures { λ r. ⌜ Put (now (text .entry)) 0 (codeText kind d rounds probability «max_half_weight») (now (text .exit)) r ⌝ }
-{
-    let mut ends_a = [0u32; 6144];
-    let mut ends_b = [0u32; 6144];
-    let mut p = [0.0f64; 6144];
-    let mut pe = [0.0f64; 6144];
-    let mut half_weight = [0u32; 6144];
-    let mut erasure = [0u8; 6144];
-    let mut pos_i = [0.0f64; 1024];
-    let mut pos_j = [0.0f64; 1024];
-    let mut pos_t = [0.0f64; 1024];
-    let mut boundary = [0u8; 1024];
-    let mut defect = [0u8; 1024];
-    let mut list_lengths = [0u32; 1024];
-    let mut neighbor_numbers = [0u32; 12288];
-    write_code_in(
-        kind,
-        d,
-        rounds,
-        probability,
-        max_half_weight,
-        text,
-        &mut ends_a,
-        &mut ends_b,
-        &mut p,
-        &mut pe,
-        &mut half_weight,
-        &mut erasure,
-        &mut pos_i,
-        &mut pos_j,
-        &mut pos_t,
-        &mut boundary,
-        &mut defect,
-        &mut list_lengths,
-        &mut neighbor_numbers,
-    )
-}
-
 // The text for an input line.
 fn write_answer(line: LineRead, text: &mut [u8]) -> usize
     ensures { λ r. ⌜ Put (now (text .entry)) 0 (textOf line) (now (text .exit)) r ⌝ }
@@ -199,11 +50,6 @@ pub fn codelist(input: &[u8], text: &mut [u8]) -> Listed
     }
     Listed::Text(write_answer(read_line(input), text) as u32)
 }
-
-// Every code has a crossing weight, so 18 is never printed.
-pub fn every_code_crosses()
-    ensures { λ _. ⌜ EveryCodeCrosses ⌝ }
-{}
 
 // Every input has a text that fits the text column.
 pub fn every_text_fits()

@@ -1,25 +1,49 @@
-// The program `codelist`: reads one line, writes the listing or the refusal. What it prints is what `code_text::codelist` writes.
-// An input longer than the buffer is longer than any well-formed line, and so is the part of it that is read.
+// The program `codelist`: reads one line, writes the listing or the refusal.
+// Every byte that it writes goes through `print`, whose caller has to show that it lends the whole text for the input and nothing else. No contract can say
+// what a call of C reads or writes, so it is left to the reader that `main` makes its one call, and that `io::read_full` and `io::write_all` read and
+// write what they are lent. Of an input longer than the buffer a part is read, which is refused as the whole would be (`code_line::long_inputs_alike`).
 use code_text::Listed;
 use code_text::codelist;
 use libc::STDIN_FILENO;
 use libc::STDOUT_FILENO;
+ghost use mathlib.Core.Path.{_≡_};
+ghost use Prim.Native.Nat.{_≤_};
+ghost use lib.ListN.{length, take};
+ghost use Rattle.code_text.specs.Answer.{answerText, textRoom};
 
-// Writes the first n bytes of a text.
-fn show(text: &[u8], n: u32) {
-    let m = columns::questions::lesser(n as usize, text.len());
-    io::write_all(STDOUT_FILENO, &text[..m]);
+// Writes the text for an input; how many bytes it has.
+fn print(input: &[u8], text: &[u8]) -> usize
+    requires { ⌜ now text ≡ answerText (now input) ⌝ }
+    ensures { λ r. ⌜ r ≡ length (answerText (now (input .entry))) ⌝ }
+{
+    io::write_all(STDOUT_FILENO, text);
+    text.len()
 }
 
-fn answer(input: &[u8], text: &mut [u8]) {
+// Writes the first n bytes of a text column.
+fn show(input: &[u8], text: &[u8], n: u32) -> usize
+    requires { ⌜ (n ≤ length (now text)) × (take n (now text) ≡ answerText (now input)) ⌝ }
+    ensures { λ r. ⌜ r ≡ length (answerText (now (input .entry))) ⌝ }
+{
+    let m = n as usize;
+    print(input, &text[..m])
+}
+
+// Answers an input; how many bytes its text has.
+fn answer(input: &[u8], text: &mut [u8]) -> usize
+    requires { ⌜ textRoom ≤ length (now text) ⌝ }
+    ensures { λ r. ⌜ r ≡ length (answerText (now (input .entry))) ⌝ }
+{
     let listed = codelist(input, text);
     match listed {
-        Listed::Text(n) => show(text, n),
-        Listed::Refused(_) => {}
+        Listed::Text(n) => show(input, text, n),
+        Listed::Refused(number) => 0,
     }
 }
 
-fn read_and_answer(buffer: &mut [u8], text: &mut [u8]) {
+fn read_and_answer(buffer: &mut [u8], text: &mut [u8])
+    requires { ⌜ textRoom ≤ length (now text) ⌝ }
+{
     let n = io::read_full(STDIN_FILENO, buffer);
     answer(&buffer[..n], text);
 }

@@ -3,28 +3,19 @@ use Prim.Native.Nat.{ℕ}
 use mathlib.Core.Path.{_≡_}
 use mathlib.Core.Bool.{Bool, true, _&&_}
 use mathlib.Core.List.{List}
-use mathlib.Core.Option.{Option, some, none}
+use mathlib.Core.Option.{Option, none}
 use lib.ListN.{length}
 use lib.Dec.{leb}
-use lib.IntN.{ℤ, negsuc}
+use lib.IntN.{ℤ}
 use Rattle.columns.specs.Lists.{each, after}
 use Rattle.columns.specs.Answers.{done}
 use Rattle.columns.specs.declared.Done.{Done}
 use Rattle.columns.specs.declared.Done.the-variants.{Accepted, Refused}
 use Rattle.edge_modifier.specs.Records.{Engine}
 use Rattle.walks.specs.Graph.{Graph}
-use Rattle.walks.specs.Answers.{weightIn, table}
+use Rattle.walks.specs.Answers.{table}
 use Rattle.complete_graph.specs.Queries.{graphIn, weightsIn, queryDoor}
-use Rattle.prebuilt_complete_graph.specs.Nearest.{boundaryIn}
-
--- a vertex of a table: its weight, -1 for none, and its number, 0 for none
-abbrev pub weightTo : List ℤ → Option ℕ → ℤ
-weightTo weights none = negsuc 0
-weightTo weights (some u) = weightIn weights u
-
-abbrev pub vertexTo : Option ℕ → ℕ
-vertexTo none = 0
-vertexTo (some u) = u
+use Rattle.prebuilt_entries.specs.Nearest.{boundaryIn, weightTo, vertexTo}
 
 -- the weights from v with no end, and in them the nearest virtual vertex of v, as `get_boundary_weight` reports it
 abbrev pub weightsFrom : (g : Graph) (w : ℕ → ℕ) (v : ℕ) → List ℤ

@@ -1,19 +1,13 @@
 // The prebuilt complete graph: the boundary weight and the boundary vertex of every vertex.
 ghost use mathlib.Core.Path.{_≡_};
-ghost use mathlib.Core.Bool.{cond};
-ghost use mathlib.Core.List.{List};
-ghost use Prim.Native.Nat.{ℕ, _<_, _≤_};
-ghost use lib.ListN.{length, getD, set};
+ghost use Prim.Native.Nat.{_<_};
+ghost use lib.ListN.{length, set};
 ghost use lib.Seq.{sets};
-ghost use lib.Dec.{ltb};
 ghost use Rattle.columns.specs.Lists.{each};
 ghost use Rattle.edge_modifier.specs.Records.{engine};
-ghost use Rattle.walks.specs.Answers.{weightIn};
-ghost use Rattle.walks.proofs.FirstLeast.{orElse};
 ghost use Rattle.complete_graph.specs.Queries.{scratchLong, graphIn, weightsIn};
 ghost use Rattle.complete_graph.specs.Steps.{ScratchKept, scratchOf};
-ghost use Rattle.prebuilt_complete_graph.specs.Nearest.{boundaryIn};
-ghost use Rattle.prebuilt_boundaries.specs.Boundaries.{weightTo, vertexTo, boundaryWeight, boundaryVertex, BoundariesStep, FirstKept};
+ghost use Rattle.prebuilt_boundaries.specs.Boundaries.{boundaryWeight, boundaryVertex, BoundariesStep, FirstKept};
 ghost use Rattle.prebuilt_boundaries.specs.Steps.{Fillable};
 use columns::Done;
 use columns::VertexIndex;
@@ -24,58 +18,9 @@ use complete_graph::all_edges;
 use complete_graph::query_door;
 use complete_graph::scratch_long;
 use edge_modifier::EngineCounts;
-use prebuilt_complete_graph::nearest::nearest_place;
+use prebuilt_entries::boundaries::store_boundary;
 
-// The nearest virtual vertex of v in its table; the column's length stands for none.
-fn boundary_place(boundary: &[u8], least: &[i32], v: usize) -> usize
-    requires { ⌜ (length (now boundary) ≡ length (now least)) × (v < length (now boundary)) ⌝ }
-    ensures { λ r. ⌜ r ≡ orElse (length (now (least .entry))) (boundaryIn (now (boundary .entry)) (now (least .entry)) (length (now (least .entry))) v) ⌝ }
-{
-    if boundary[v] != 0 {
-        return least.len();
-    }
-    nearest_place(boundary, least)
-}
-
-// The weight of u in a table, -1 past its end.
-fn weight_at(least: &[i32], u: usize) -> i32
-    ensures { λ r. ⌜ r ≡ weightIn (now (least .entry)) u ⌝ }
-{
-    if u < least.len() {
-        return least[u];
-    }
-    -1
-}
-
-// A place as a vertex number, 0 past n.
-fn number_of(place: usize, n: usize) -> u32
-    requires { ⌜ n ≤ 4096 ⌝ }
-    ensures { λ r. ⌜ r ≡ cond (ltb place n) place 0 ⌝ }
-{
-    if place < n {
-        return place as u32;
-    }
-    0
-}
-
-// The weight and the number of the nearest virtual vertex of v, from its table.
-fn store_boundary(
-    boundary: &[u8],
-    least: &[i32],
-    v: usize,
-    out_weight: &mut [i32],
-    out_vertex: &mut [u32],
-)
-    requires { ⌜ (length (now boundary) ≡ length (now least)) × (v < length (now boundary)) × (length (now least) ≤ 4096) × (v < length (now «out_weight»)) × (v < length (now «out_vertex»)) ⌝ }
-    ensures { λ _. ⌜ now («out_weight» .exit) ≡ set (now («out_weight» .entry)) v (weightTo (now (least .entry)) (boundaryIn (now (boundary .entry)) (now (least .entry)) (length (now (least .entry))) v)) ⌝ }
-    ensures { λ _. ⌜ now («out_vertex» .exit) ≡ set (now («out_vertex» .entry)) v (vertexTo (boundaryIn (now (boundary .entry)) (now (least .entry)) (length (now (least .entry))) v)) ⌝ }
-{
-    let place = boundary_place(boundary, least, v);
-    out_weight[v] = weight_at(least, place);
-    out_vertex[v] = number_of(place, least.len());
-}
-
-// The same by a search from v. The columns from `least` on are scratch.
+// The weight and the number of the nearest virtual vertex of v, by a search from v. The columns from `least` on are scratch.
 fn fill_one(
     c: EngineCounts,
     ends_a: &[u32],

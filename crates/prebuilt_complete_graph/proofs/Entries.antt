@@ -1,16 +1,16 @@
 -- A row written over a column of least weights. Assumes nothing.
 use mathlib.Core.Path.{_≡_, refl, sym, ap, _∙_}
 use mathlib.Core.Bool.{Bool, true, false, _&&_, _||_}
-use mathlib.Core.List.{List, _++_}
+use mathlib.Core.List.{List}
 use Prim.Native.Nat.{ℕ, zero, suc, _+_, _<_, _≤_}
 use native.Mathlib.Omega.{arith}
-use lib.ListN.{length, getD, drop}
+use lib.ListN.{length, getD}
 use lib.Seq.{sets}
 use lib.IntN.{ℤ, pos, negsuc}
 use lib.Dec.{leb, ltb, eqb}
 use borrow.Author.Tests.{leb-true, ltb-true, le-leb, lt-ltb}
 use Rattle.columns.specs.Lists.{each, over}
-use Rattle.columns.proofs.Columns.{sets-over, over-past, over-in, drop-over, length-over}
+use Rattle.columns.proofs.Columns.{over-in}
 use Rattle.columns.proofs.Counting.{length-each, each-same}
 use Rattle.columns.specs.Questions.{ask}
 use Rattle.columns.proofs.Tests.{and-both, both-and}
@@ -21,18 +21,9 @@ use Rattle.complete_graph.specs.declared.End.the-variants.{None}
 use Rattle.complete_graph.specs.Queries.{queryDoor}
 use Rattle.complete_graph.specs.Steps.{tableDoor}
 use Rattle.complete_graph.proofs.Asked.{query-of}
-use Rattle.prebuilt_complete_graph.specs.Rows.{isVirtual, entryBy, rowEntry, rowDoor}
-
-module _ {A : Type 0} where
-  -- places from i on are as they were
-  pub not-yet : (column : List A) (f : ℕ → A) (d : A) (i : ℕ) → i ≤ length column → getD (sets column 0 (each i f)) i d ≡ getD column i d
-  not-yet column f d i h =
-      ap (λ l. getD l i d) (sets-over column (each i f) (omega (arith, length-each i f, h))) ∙ over-past (each i f) column d i (omega (arith, length-each i f))
-
-  -- vs over ws over a column, both of the same length
-  pub over-over : (vs ws column : List A) → length vs ≡ length ws → length ws ≤ length column → sets (over ws column) 0 vs ≡ over vs column
-  over-over vs ws column e h =
-      sets-over (over ws column) vs (omega (arith, e, h, length-over ws column h)) ∙ ap (λ l. vs ++ l) (drop-over ws column (length vs) (sym e))
+use Rattle.prebuilt_entries.specs.Entries.{isVirtual, entryBy, rowEntry}
+use Rattle.prebuilt_entries.proofs.Stored.{over-over}
+use Rattle.prebuilt_complete_graph.specs.Rows.{rowDoor}
 
 -- the row, from the table that stands in its column
 pub row-over : (bytes : List ℕ) (nearest : List ℤ) (v : ℕ) (weights column : List ℤ) (n : ℕ) → length weights ≡ n → n ≤ length column

@@ -1,4 +1,3 @@
--- Ranks: signed weights by their ranks. Entries: a row written over a column. Amounts: the nearest vertex of a table.
-pub mod Ranks
+-- Entries: a row written over a column. Replies: what the table query inside leaves.
 pub mod Entries
-pub mod Amounts
+pub mod Replies

@@ -1,21 +1,15 @@
 -- The nearest virtual vertex of a vertex in the Rust's `PrebuiltCompleteGraph`, and the call that reports it.
 use Prim.Native.Nat.{ℕ, zero, suc}
 use mathlib.Core.Path.{_≡_}
-use mathlib.Core.Bool.{Bool, true, false, cond, _&&_}
 use mathlib.Core.List.{List}
 use mathlib.Core.Option.{Option, some, none}
-use lib.ListN.{length, getD}
-use lib.IntN.{ℤ, pos, negsuc}
-use Rattle.edge_modifier.specs.Records.{Engine}
+use lib.IntN.{ℤ}
 use Rattle.walks.specs.Graph.{Graph}
-use Rattle.walks.specs.Settling.{firstLeast}
 use Rattle.walks.specs.Answers.{weightIn, table}
-use Rattle.complete_graph.specs.declared.End.the-variants.{None}
-use Rattle.complete_graph.specs.Queries.{graphIn, weightsIn}
-use Rattle.complete_graph.specs.Steps.{tableDoor, ScratchColumns}
+use Rattle.complete_graph.specs.Steps.{ScratchColumns}
 use Rattle.prebuilt_complete_graph.specs.declared.nearest.BoundaryAnswer.{BoundaryAnswer}
 use Rattle.prebuilt_complete_graph.specs.declared.nearest.BoundaryAnswer.the-variants.{Nearest, NoBoundary, Refused}
-use Rattle.prebuilt_complete_graph.specs.Rows.{isVirtual}
+use Rattle.prebuilt_entries.specs.Nearest.{amount, boundaryIn}
 
 -- document 01's number for each case of an answer, 0 where the call was accepted
 abbrev pub numberOf : BoundaryAnswer → ℕ
@@ -23,9 +17,14 @@ numberOf (Nearest u weight) = 0
 numberOf NoBoundary = 0
 numberOf (Refused n) = n
 
--- and its values, the vertex and the weight: 0 where there is none and where the call was refused
+-- and its values: 1 where there is a virtual vertex, its number and the weight; 0 where there is none and where the call was refused
+abbrev pub foundOf : BoundaryAnswer → ℕ
+foundOf (Nearest u weight) = 1
+foundOf NoBoundary = 0
+foundOf (Refused n) = 0
+
 abbrev pub vertexOf : BoundaryAnswer → ℕ
-vertexOf (Nearest u weight) = u
+vertexOf (Nearest u weight) = u .0
 vertexOf NoBoundary = 0
 vertexOf (Refused n) = 0
 
@@ -34,27 +33,10 @@ weightOf (Nearest u weight) = weight
 weightOf NoBoundary = 0
 weightOf (Refused n) = 0
 
--- a weight of a table: whether there is one, and how much
-abbrev pub isReached : ℤ → Bool
-isReached (pos k) = true
-isReached (negsuc n) = false
-
-abbrev pub amount : ℤ → ℕ
-amount (pos k) = k
-amount (negsuc n) = 0
-
--- of the virtual vertices below n that a table reaches the one of least weight; of several the smallest
-abbrev pub nearestIn : (bytes : List ℕ) (weights : List ℤ) (n : ℕ) → Option ℕ
-nearestIn bytes weights n = firstLeast (λ u. isVirtual (getD bytes u 0) && isReached (weightIn weights u)) (λ u. amount (weightIn weights u)) n
-
--- a virtual vertex has none
-abbrev pub boundaryIn : (bytes : List ℕ) (weights : List ℤ) (n v : ℕ) → Option ℕ
-boundaryIn bytes weights n v = cond (isVirtual (getD bytes v 0)) none (nearestIn bytes weights n)
-
 -- the vertex with its weight
 abbrev pub boundaryFound : List ℤ → Option ℕ → BoundaryAnswer
 boundaryFound weights none = NoBoundary
-boundaryFound weights (some u) = Nearest u (amount (weightIn weights u))
+boundaryFound weights (some u) = Nearest (record { 0 = u }) (amount (weightIn weights u))
 
 -- the answer for the number of a question: by the table from v with no end
 abbrev pub boundaryReply : ℕ → (g : Graph) (w : ℕ → ℕ) (v : ℕ) → BoundaryAnswer

@@ -1,95 +1,27 @@
 // The nearest virtual vertex of a vertex.
 ghost use mathlib.Core.Path.{_≡_};
-ghost use mathlib.Core.Bool.{cond};
-ghost use mathlib.Core.List.{List};
-ghost use mathlib.Core.Option.{none};
-ghost use Prim.Native.Nat.{ℕ, _+_, _<_, _≤_};
-ghost use lib.ListN.{length, getD};
+ghost use Prim.Native.Nat.{_<_, _≤_};
+ghost use lib.ListN.{length};
 ghost use Rattle.columns.specs.Answers.{numberOf};
 ghost use Rattle.edge_modifier.specs.Records.{engine};
-ghost use Rattle.walks.specs.Answers.{weightIn};
-ghost use Rattle.walks.proofs.FirstLeast.{orElse};
 ghost use Rattle.complete_graph.specs.declared.End.the-variants.{None};
 ghost use Rattle.complete_graph.specs.Queries.{scratchLong, graphIn, weightsIn};
 ghost use Rattle.complete_graph.specs.Steps.{tableDoor, scratchOf};
-ghost use Rattle.prebuilt_complete_graph.specs.Nearest.{isReached, amount, nearestIn, boundaryIn, boundaryFound, boundaryReply, BoundaryKept};
-use super::rank_of;
+ghost use Rattle.prebuilt_entries.specs.Nearest.{boundaryIn};
+ghost use Rattle.prebuilt_complete_graph.specs.Nearest.{boundaryFound, boundaryReply, BoundaryKept};
 use columns::Done;
 use columns::VertexIndex;
 use columns::Weight;
 use complete_graph::all_edges;
 use edge_modifier::EngineCounts;
+use prebuilt_entries::nearest::amount_at;
+use prebuilt_entries::nearest::nearest_place;
 
 // The nearest virtual vertex and its weight, none, or the number of the question that is not met.
 pub enum BoundaryAnswer {
-    Nearest(u32, Weight),
+    Nearest(VertexIndex, Weight),
     NoBoundary,
     Refused(u32),
-}
-
-// How much a weight of a table is, 0 for none.
-fn amount_of(x: i32) -> Weight
-    ensures { λ r. ⌜ r ≡ amount x ⌝ }
-{
-    let rank = rank_of(x);
-    if rank == 0 {
-        return 0;
-    }
-    (rank - 1) as u32
-}
-
-// The same of the weight of u, none past the column's end.
-fn amount_at(least: &[i32], u: usize) -> Weight
-    ensures { λ r. ⌜ r ≡ amount (weightIn (now (least .entry)) u) ⌝ }
-{
-    if u < least.len() {
-        return amount_of(least[u]);
-    }
-    0
-}
-
-// Whether a table reaches u.
-fn is_reached(least: &[i32], u: usize) -> bool
-    ensures { λ r. ⌜ r ≡ isReached (weightIn (now (least .entry)) u) ⌝ }
-{
-    if u < least.len() {
-        return rank_of(least[u]) != 0;
-    }
-    false
-}
-
-// The nearer of u and the best vertex before it; the column's length stands for none.
-fn nearer(byte: u8, least: &[i32], u: usize, best: usize) -> usize
-    requires { ⌜ u < length (now least) ⌝ }
-    ensures { λ r. ⌜ ((bytes : List ℕ) → getD bytes u 0 ≡ byte → best ≡ orElse (length (now (least .entry))) (nearestIn bytes (now (least .entry)) u) → r ≡ orElse (length (now (least .entry))) (nearestIn bytes (now (least .entry)) (u + 1))) ⌝ }
-{
-    if byte == 0 {
-        return best;
-    }
-    if is_reached(least, u) {
-        if best == least.len() {
-            return u;
-        }
-        if amount_at(least, u) < amount_at(least, best) {
-            return u;
-        }
-        return best;
-    }
-    best
-}
-
-// The nearest virtual vertex in a table; the column's length stands for none.
-pub fn nearest_place(boundary: &[u8], least: &[i32]) -> usize
-    requires { ⌜ length (now boundary) ≡ length (now least) ⌝ }
-    ensures { λ r. ⌜ r ≡ orElse (length (now (least .entry))) (nearestIn (now (boundary .entry)) (now (least .entry)) (length (now (least .entry)))) ⌝ }
-{
-    let mut best = least.len();
-    let mut u: usize = 0;
-    while u < least.len() {
-        best = nearer(boundary[u], least, u, best);
-        u += 1;
-    }
-    best
 }
 
 // The answer for vertex v, from its table.
@@ -105,7 +37,7 @@ fn boundary_answer(boundary: &[u8], least: &[i32], v: u32) -> BoundaryAnswer
     if best == least.len() {
         return BoundaryAnswer::NoBoundary;
     }
-    BoundaryAnswer::Nearest(best as u32, amount_at(least, best))
+    BoundaryAnswer::Nearest(VertexIndex(best as u32), amount_at(least, best))
 }
 
 // The number of an answer.

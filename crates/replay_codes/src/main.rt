@@ -88,109 +88,52 @@ fn show_found(answer: ListAnswer, defect_list: &[u32]) {
     }
 }
 
-// A code, and its errors from a seed.
-fn sampled(kind: u32, d: u32, rounds: u32, seed: u64, probability: f64, erasure_probability: f64) {
-    let mut ends_a = [0u32; EDGES];
-    let mut ends_b = [0u32; EDGES];
-    let mut p = [0.0; EDGES];
-    let mut pe = [0.0; EDGES];
-    let mut half_weight = [0u32; EDGES];
-    let mut erasure = [0u8; EDGES];
-    let mut pos_i = [0.0; VERTICES];
-    let mut pos_j = [0.0; VERTICES];
-    let mut pos_t = [0.0; VERTICES];
-    let mut boundary = [0u8; VERTICES];
+// The errors of a code from a seed.
+fn sampled(
+    v: u32,
+    e: u32,
+    ends_a: &[u32],
+    ends_b: &[u32],
+    boundary: &[u8],
+    seed: u64,
+    probability: f64,
+    erasure_probability: f64,
+) {
+    let p = [probability; EDGES];
+    let pe = [erasure_probability; EDGES];
     let mut defect = [0u8; VERTICES];
-    let mut lengths = [0u32; VERTICES];
-    let mut numbers = [0u32; 2 * EDGES];
-    let answer = example_codes::create::create_code(
-        kind,
-        d,
-        rounds,
-        &mut ends_a,
-        &mut ends_b,
-        &mut p,
-        &mut pe,
-        &mut half_weight,
-        &mut erasure,
-        &mut pos_i,
-        &mut pos_j,
-        &mut pos_t,
-        &mut boundary,
-        &mut defect,
-        &mut lengths,
-        &mut numbers,
-    );
-    let v = vertices_in(answer);
-    let e = edges_in(answer);
-    let ps = [probability; EDGES];
-    let pes = [erasure_probability; EDGES];
+    let mut erasure = [0u8; EDGES];
     let mut defect_list = [0u32; VERTICES];
     let mut erasure_list = [0u32; EDGES];
     let syndrome = syndromes::generate_random_errors(
         seed,
         v,
         e,
-        &ends_a,
-        &ends_b,
-        &ps,
-        &pes,
-        &boundary,
+        ends_a,
+        ends_b,
+        &p,
+        &pe,
+        boundary,
         &mut defect,
         &mut erasure,
         &mut defect_list,
         &mut erasure_list,
     );
-    show(v as u64);
-    show(e as u64);
-    end_line();
     show_syndrome(syndrome, &defect_list, &erasure_list);
 }
 
-// A code, and errors on the listed edges where every vertex is a defect.
-fn flipped(kind: u32, d: u32, rounds: u32, list: &[u32]) {
-    let mut ends_a = [0u32; EDGES];
-    let mut ends_b = [0u32; EDGES];
-    let mut p = [0.0; EDGES];
-    let mut pe = [0.0; EDGES];
-    let mut half_weight = [0u32; EDGES];
-    let mut erasure = [0u8; EDGES];
-    let mut pos_i = [0.0; VERTICES];
-    let mut pos_j = [0.0; VERTICES];
-    let mut pos_t = [0.0; VERTICES];
-    let mut boundary = [0u8; VERTICES];
-    let mut defect = [0u8; VERTICES];
-    let mut lengths = [0u32; VERTICES];
-    let mut numbers = [0u32; 2 * EDGES];
-    let answer = example_codes::create::create_code(
-        kind,
-        d,
-        rounds,
-        &mut ends_a,
-        &mut ends_b,
-        &mut p,
-        &mut pe,
-        &mut half_weight,
-        &mut erasure,
-        &mut pos_i,
-        &mut pos_j,
-        &mut pos_t,
-        &mut boundary,
-        &mut defect,
-        &mut lengths,
-        &mut numbers,
-    );
-    let v = vertices_in(answer);
-    let e = edges_in(answer);
+// Errors on the listed edges where every vertex is a defect.
+fn flipped(v: u32, e: u32, ends_a: &[u32], ends_b: &[u32], boundary: &[u8], list: &[u32]) {
     let mut standing = [1u8; VERTICES];
+    let erasure = [0u8; EDGES];
     let mut defect_list = [0u32; VERTICES];
     let mut erasure_list = [0u32; EDGES];
     let syndrome = syndromes::generate_errors(
         v,
         e,
-        &ends_a,
-        &ends_b,
-        &boundary,
+        ends_a,
+        ends_b,
+        boundary,
         list,
         &mut standing,
         &erasure,
@@ -200,8 +143,71 @@ fn flipped(kind: u32, d: u32, rounds: u32, list: &[u32]) {
     show_syndrome(syndrome, &defect_list, &erasure_list);
 }
 
-// A code, and the syndrome of the listed edges.
-fn found(kind: u32, d: u32, rounds: u32, list: &[u32]) {
+// The syndrome of the listed edges.
+fn found(v: u32, e: u32, ends_a: &[u32], ends_b: &[u32], boundary: &[u8], list: &[u32]) {
+    let mut defect_list = [0u32; VERTICES];
+    let syndrome = syndromes::syndrome_of(v, e, ends_a, ends_b, boundary, list, &mut defect_list);
+    show_found(syndrome, &defect_list);
+}
+
+// The counts, and what is found without a change of the code.
+fn show_errors(
+    v: u32,
+    e: u32,
+    ends_a: &[u32],
+    ends_b: &[u32],
+    boundary: &[u8],
+    seed: u64,
+    probability: f64,
+    erasure_probability: f64,
+    list: &[u32],
+) {
+    show(v as u64);
+    show(e as u64);
+    end_line();
+    sampled(
+        v,
+        e,
+        ends_a,
+        ends_b,
+        boundary,
+        seed,
+        probability,
+        erasure_probability,
+    );
+    flipped(v, e, ends_a, ends_b, boundary, list);
+    found(v, e, ends_a, ends_b, boundary, list);
+}
+
+fn show_code(
+    v: u32,
+    e: u32,
+    ends_a: &[u32],
+    ends_b: &[u32],
+    boundary: &[u8],
+    lengths: &[u32],
+    numbers: &[u32],
+) {
+    let n = v as usize;
+    let m = e as usize;
+    show_list(ends_a, m);
+    show_list(ends_b, m);
+    show_bytes(boundary, n);
+    show_list(lengths, n);
+    show_list(numbers, after(m, m));
+}
+
+// A code, its errors, and the code in another order of its vertices; an order of another length is refused.
+fn replay_code(
+    kind: u32,
+    d: u32,
+    rounds: u32,
+    seed: u64,
+    probability: f64,
+    erasure_probability: f64,
+    list: &[u32],
+    order: &[u32],
+) {
     let mut ends_a = [0u32; EDGES];
     let mut ends_b = [0u32; EDGES];
     let mut p = [0.0; EDGES];
@@ -215,6 +221,7 @@ fn found(kind: u32, d: u32, rounds: u32, list: &[u32]) {
     let mut defect = [0u8; VERTICES];
     let mut lengths = [0u32; VERTICES];
     let mut numbers = [0u32; 2 * EDGES];
+    let mut scratch = [0u32; 2 * EDGES];
     let answer = example_codes::create::create_code(
         kind,
         d,
@@ -235,55 +242,17 @@ fn found(kind: u32, d: u32, rounds: u32, list: &[u32]) {
     );
     let v = vertices_in(answer);
     let e = edges_in(answer);
-    let mut defect_list = [0u32; VERTICES];
-    let syndrome = syndromes::syndrome_of(
+    show_errors(
         v,
         e,
         &ends_a,
         &ends_b,
         &boundary,
+        seed,
+        probability,
+        erasure_probability,
         list,
-        &mut defect_list,
     );
-    show_found(syndrome, &defect_list);
-}
-
-// A code in another order of its vertices; an order of another length is refused.
-fn ordered(kind: u32, d: u32, rounds: u32, order: &[u32]) {
-    let mut ends_a = [0u32; EDGES];
-    let mut ends_b = [0u32; EDGES];
-    let mut p = [0.0; EDGES];
-    let mut pe = [0.0; EDGES];
-    let mut half_weight = [0u32; EDGES];
-    let mut erasure = [0u8; EDGES];
-    let mut pos_i = [0.0; VERTICES];
-    let mut pos_j = [0.0; VERTICES];
-    let mut pos_t = [0.0; VERTICES];
-    let mut boundary = [0u8; VERTICES];
-    let mut defect = [0u8; VERTICES];
-    let mut lengths = [0u32; VERTICES];
-    let mut numbers = [0u32; 2 * EDGES];
-    let answer = example_codes::create::create_code(
-        kind,
-        d,
-        rounds,
-        &mut ends_a,
-        &mut ends_b,
-        &mut p,
-        &mut pe,
-        &mut half_weight,
-        &mut erasure,
-        &mut pos_i,
-        &mut pos_j,
-        &mut pos_t,
-        &mut boundary,
-        &mut defect,
-        &mut lengths,
-        &mut numbers,
-    );
-    let v = vertices_in(answer);
-    let e = edges_in(answer);
-    let mut scratch = [0u32; 2 * EDGES];
     show_done(reorder::reorder_vertices(
         v,
         e,
@@ -299,40 +268,25 @@ fn ordered(kind: u32, d: u32, rounds: u32, order: &[u32]) {
         &mut numbers,
         &mut scratch,
     ));
-    let n = v as usize;
-    let m = e as usize;
-    show_list(&ends_a, m);
-    show_list(&ends_b, m);
-    show_bytes(&boundary, n);
-    show_list(&lengths, n);
-    show_list(&numbers, after(m, m));
+    show_code(v, e, &ends_a, &ends_b, &boundary, &lengths, &numbers);
 }
 
 fn case(numbers: &[u64], from: usize) -> usize {
-    let kind = narrow_at(numbers, from);
-    let d = narrow_at(numbers, after(from, 1));
-    let rounds = narrow_at(numbers, after(from, 2));
     let mut list = [0u32; NAMED];
     let mut order = [0u32; ORDERED];
     copy_u32(numbers, after(from, 6), &mut list, NAMED);
     copy_u32(numbers, after(from, 10), &mut order, ORDERED);
-    sampled(
-        kind,
-        d,
-        rounds,
+    replay_code(
+        narrow_at(numbers, from),
+        narrow_at(numbers, after(from, 1)),
+        narrow_at(numbers, after(from, 2)),
         at(numbers, after(from, 3)),
         probability(at(numbers, after(from, 4))),
         probability(at(numbers, after(from, 5))),
+        &list,
+        &order,
     );
-    named(kind, d, rounds, &list, &order);
     after(from, 34)
-}
-
-// What a case does with its lists.
-fn named(kind: u32, d: u32, rounds: u32, list: &[u32], order: &[u32]) {
-    flipped(kind, d, rounds, list);
-    found(kind, d, rounds, list);
-    ordered(kind, d, rounds, order);
 }
 
 fn replay(numbers: &[u64]) {

@@ -10,7 +10,7 @@ use Rattle.columns.proofs.Counting.{store-each}
 use Rattle.edge_modifier.specs.Records.{engine}
 use Rattle.complete_graph.specs.Queries.{graphIn, weightsIn}
 use Rattle.prebuilt_boundaries.specs.Boundaries.{boundaryWeight, boundaryVertex}
-use Rattle.prebuilt_boundaries.proofs.Places.{same-room}
+use Rattle.prebuilt_boundaries.proofs.Asked.{same-room}
 use borrow.Author.Needs.{needs}
 use Rattle.prebuilt_boundaries.proofs.fill_all.Statement.{statement}
 use Rattle.prebuilt_boundaries.proofs.fill_all.Tie as tie

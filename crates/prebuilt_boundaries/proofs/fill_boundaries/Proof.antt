@@ -13,7 +13,7 @@ use Rattle.complete_graph.specs.Queries.{graphIn, weightsIn, scratchLong, query
 use Rattle.complete_graph.proofs.Asked.{done-zero, done-no}
 use Rattle.prebuilt_boundaries.specs.Boundaries.{boundaryWeight, boundaryVertex, boundariesDoor}
 use Rattle.prebuilt_boundaries.specs.Steps.{Fillable}
-use Rattle.prebuilt_boundaries.proofs.Places.{fillable}
+use Rattle.prebuilt_boundaries.proofs.Asked.{fillable}
 use borrow.Author.Needs.{needs}
 use Rattle.prebuilt_boundaries.proofs.fill_boundaries.Statement.{statement}
 use Rattle.prebuilt_boundaries.proofs.fill_boundaries.Tie as tie

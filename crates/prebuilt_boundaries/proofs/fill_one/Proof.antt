@@ -17,10 +17,9 @@ use Rattle.complete_graph.specs.Queries.{graphIn, weightsIn, scratchLong}
 use Rattle.complete_graph.specs.Steps.{tableDoor}
 use Rattle.complete_graph.proofs.Asked.{TableAsked, table-of}
 use Rattle.complete_graph.proofs.Sources.{table-weights-length}
-use Rattle.prebuilt_complete_graph.specs.Nearest.{boundaryIn}
-use Rattle.prebuilt_complete_graph.proofs.Amounts.{cut-fits}
-use Rattle.prebuilt_boundaries.specs.Boundaries.{weightTo, vertexTo}
-use Rattle.prebuilt_boundaries.proofs.Places.{search-accepted}
+use Rattle.prebuilt_entries.specs.Nearest.{boundaryIn, weightTo, vertexTo}
+use Rattle.prebuilt_entries.proofs.Amounts.{cut-fits}
+use Rattle.prebuilt_boundaries.proofs.Asked.{search-accepted}
 use borrow.Author.Needs.{needs}
 use Rattle.prebuilt_boundaries.proofs.fill_one.Statement.{statement}
 use Rattle.prebuilt_boundaries.proofs.fill_one.Tie as tie

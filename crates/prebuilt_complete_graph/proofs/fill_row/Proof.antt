@@ -17,7 +17,8 @@ use Rattle.complete_graph.specs.Queries.{graphIn, weightsIn, scratchLong}
 use Rattle.complete_graph.specs.Steps.{tableDoor}
 use Rattle.complete_graph.proofs.Asked.{done-zero, done-no}
 use Rattle.complete_graph.proofs.Sources.{table-weights-length}
-use Rattle.prebuilt_complete_graph.specs.Rows.{rowEntry, row, rowDoor}
+use Rattle.prebuilt_complete_graph.specs.Rows.{row, rowDoor}
+use Rattle.prebuilt_entries.specs.Entries.{rowEntry}
 use Rattle.prebuilt_complete_graph.proofs.Entries.{RowAsked, row-asked, table-met, row-number, row-over}
 use borrow.Author.Needs.{needs}
 use Rattle.prebuilt_complete_graph.proofs.fill_row.Statement.{statement}

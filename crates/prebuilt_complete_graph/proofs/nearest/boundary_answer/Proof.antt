@@ -15,12 +15,10 @@ use mir.Val.{SFits, toZ, ofZ}
 use mir.ValLaws.{toZ-ofZ}
 use Rattle.columns.proofs.Columns.{getD-any}
 use Rattle.walks.specs.Answers.{weightIn}
-use Rattle.walks.proofs.FirstLeast.{orElse, IsFirst, first-least}
-use Rattle.prebuilt_complete_graph.specs.Rows.{rank, isVirtual}
-use Rattle.prebuilt_complete_graph.specs.Nearest.{isReached, amount, nearestIn, boundaryIn, boundaryFound}
-use Rattle.prebuilt_complete_graph.proofs.Amounts.{amount-none, amount-some, reached-by, near-by, near-take, near-keep}
+use Rattle.prebuilt_entries.specs.Nearest.{nearestIn}
+use Rattle.prebuilt_complete_graph.specs.Nearest.{boundaryFound}
 use Rattle.prebuilt_complete_graph.specs.declared.nearest.BoundaryAnswer.the-variants.{Nearest, NoBoundary, Refused}
-use Rattle.prebuilt_complete_graph.proofs.Amounts.{place-none, place-some}
+use Rattle.prebuilt_entries.proofs.Amounts.{place-none, place-some}
 use borrow.Author.Needs.{needs}
 use Rattle.prebuilt_complete_graph.proofs.nearest.boundary_answer.Statement.{statement}
 use Rattle.prebuilt_complete_graph.proofs.nearest.boundary_answer.Tie as tie
@@ -44,7 +42,7 @@ amount-at-requires : tie.Need-amount-at-requires
 amount-at-requires c κs = search needs
 
 returns-3 : tie.Need-returns-3
-returns-3 c = let s = c .before .before .before .before .before .before in let p = place-some (s .args .boundary .now) (s .args .least .now) (length (s .args .least .now)) (c .before .before .nearest-place .result) (c .before .before .nearest-place .ensures) (c .before .if2 .left) in (λ i. Nearest (c .before .before .nearest-place .result) (c .amount-at .ensures i)) ∙ ap (boundaryFound (s .args .least .now)) (p .1) ∙ ap (λ k. boundaryFound (s .args .least .now) (cond (not k) none (nearestIn (s .args .boundary .now) (s .args .least .now) (length (s .args .least .now))))) (sym (eq-eqb (getD (s .args .boundary .now) (s .args .v) 0) 0 (c .before .before .before .if1 .left)))
+returns-3 c = let s = c .before .before .before .before .before .before in let p = place-some (s .args .boundary .now) (s .args .least .now) (length (s .args .least .now)) (c .before .before .nearest-place .result) (c .before .before .nearest-place .ensures) (c .before .if2 .left) in (λ i. Nearest (record { 0 = c .before .before .nearest-place .result }) (c .amount-at .ensures i)) ∙ ap (boundaryFound (s .args .least .now)) (p .1) ∙ ap (λ k. boundaryFound (s .args .least .now) (cond (not k) none (nearestIn (s .args .boundary .now) (s .args .least .now) (length (s .args .least .now))))) (sym (eq-eqb (getD (s .args .boundary .now) (s .args .v) 0) 0 (c .before .before .before .if1 .left)))
 
 pub boundary-answer-spec : {M : Type 1} → statement M
 boundary-answer-spec =

@@ -19,8 +19,10 @@ use Rattle.complete_graph.specs.Queries.{graphIn, weightsIn, scratchLong}
 use Rattle.complete_graph.specs.Steps.{tableDoor}
 use Rattle.complete_graph.proofs.Asked.{TableAsked, table-of}
 use Rattle.complete_graph.proofs.Sources.{table-weights-length}
-use Rattle.prebuilt_complete_graph.specs.Nearest.{boundaryIn, boundaryFound, boundaryReply}
-use Rattle.prebuilt_complete_graph.proofs.Amounts.{number-done, kept-of, cut-fits, reply-no, boundary-free}
+use Rattle.prebuilt_entries.specs.Nearest.{boundaryIn}
+use Rattle.prebuilt_entries.proofs.Amounts.{cut-fits}
+use Rattle.prebuilt_complete_graph.specs.Nearest.{boundaryFound, boundaryReply}
+use Rattle.prebuilt_complete_graph.proofs.Replies.{number-done, kept-of, reply-no, boundary-free}
 use borrow.Author.Needs.{needs}
 use Rattle.prebuilt_complete_graph.proofs.nearest.get_boundary_weight.Statement.{statement}
 use Rattle.prebuilt_complete_graph.proofs.nearest.get_boundary_weight.Tie as tie

@@ -1,0 +1,23 @@
+-- What is handed to C for the answers of the syndrome and reordering calls.
+use mathlib.Core.Path.{_≡_}
+use Rattle.syndromes.specs.declared.SyndromeAnswer.{SyndromeAnswer}
+use Rattle.syndromes.specs.declared.ListAnswer.{ListAnswer}
+use Rattle.syndromes.specs.Answers as syndromes
+use Rattle.reorder.specs.declared.TranslatedAnswer.{TranslatedAnswer}
+use Rattle.reorder.specs.Numbers as translated
+use Rattle.c_reports.specs.declared.OneCount.{OneCount}
+use Rattle.c_reports.specs.declared.TwoCounts.{TwoCounts}
+use Rattle.c_answers.specs.declared.errors.LongCount.{LongCount}
+
+pub record ReportsSyndrome (a : SyndromeAnswer) (r : TwoCounts) : Type 0 where
+  pub number : r .number ≡ syndromes.numberOf a
+  pub first : r .first ≡ syndromes.defectsOf a
+  pub second : r .second ≡ syndromes.erasuresOf a
+
+pub record ReportsFound (a : ListAnswer) (r : OneCount) : Type 0 where
+  pub number : r .number ≡ syndromes.listNumberOf a
+  pub count : r .count ≡ syndromes.countOf a
+
+pub record ReportsTranslated (a : TranslatedAnswer) (r : LongCount) : Type 0 where
+  pub number : r .number ≡ translated.numberOf a
+  pub count : r .count ≡ translated.countOf a

@@ -1,0 +1,36 @@
+-- A text column that is long enough is never refused, and starts with the text. Assumes nothing.
+use mathlib.Core.Path.{_≡_, sym, ap, _∙_}
+use mathlib.Core.Bool.{Bool}
+use mathlib.Core.List.{List}
+use Prim.Native.Nat.{ℕ, _≤_}
+use native.Mathlib.Omega.{arith}
+use lib.ListN.{length, take}
+use borrow.Author.Tests.{le-leb}
+use Rattle.columns.specs.Lists.{over}
+use Rattle.columns.specs.Questions.{ask}
+use Rattle.columns.proofs.Columns.{after-accepted, take-over, length-over}
+use Rattle.code_text.specs.declared.Listed.{Listed}
+use Rattle.code_text.specs.declared.Listed.the-variants.{Text}
+use Rattle.code_text.specs.Answer.{answerText, textRoom, textDoor, listed, bytesIn, CodeListed}
+use Rattle.code_text.proofs.Sizes.{every-text-fits}
+
+module _ (input text₀ text : List ℕ) (r : Listed) (h : textRoom ≤ length text₀) (s : CodeListed input text₀ text r) where
+  open-door : textDoor text₀ ≡ 0
+  open-door = ap (λ (b : Bool). ask b 6 0) (le-leb textRoom (length text₀) h)
+
+  answered : r ≡ Text (length (answerText input))
+  answered = s .answer ∙ ap (λ (q : ℕ). listed q (length (answerText input))) open-door
+
+  written : text ≡ over (answerText input) text₀
+  written = s .written ∙ after-accepted (textDoor text₀) (answerText input) text₀ open-door
+
+  pub shown : (n : ℕ) → r ≡ Text n → (n ≤ length text) × (take n text ≡ answerText input)
+  shown n e =
+      let k : length (answerText input) ≡ n = ap bytesIn (sym answered ∙ e) in
+      let f = every-text-fits input in
+      let l = length-over (answerText input) text₀ (omega (arith, f, h)) in
+      (omega (arith, k, f, h, l, ap length written), ap (take n) written ∙ take-over (answerText input) text₀ n k)
+
+  -- so it is no other answer
+  pub never : ((n : ℕ) → r ≡ Text n → ⊥) → ⊥
+  never f = f (length (answerText input)) answered

@@ -1,0 +1,54 @@
+-- Signed weights by their ranks. Assumes nothing.
+use mathlib.Core.Path.{_≡_, refl, sym, ap, _∙_, subst}
+use mathlib.Core.Logic.{_≢_}
+use mathlib.Core.Bool.{Bool, true, false, cond}
+use Prim.Native.Nat.{ℕ, zero, suc, _+_, _<_, _≤_}
+use native.Mathlib.Decide.{decLt}
+use native.Mathlib.Omega.{arith}
+use lib.Dec.{T, ltb}
+use lib.IntN.{ℤ, pos, negsuc, natAbs}
+use lib.Signed.{mag, ltZ, nonNeg}
+use borrow.Author.Tests.{ltb-true, lt-ltb, le-ltb}
+use Rattle.prebuilt_entries.specs.Entries.{rank, inTheMiddle, entryBy}
+
+pub below-zero : (x : ℤ) → ltZ x (pos 0) ≡ true → 0 ≡ rank x
+below-zero (pos k) h = absurd (omega (arith, ltb-true k 0 h))
+below-zero (negsuc n) h = refl
+
+pub not-below : (x : ℤ) → ltZ x (pos 0) ≡ false → T (nonNeg x)
+not-below (pos k) h = tt
+not-below (negsuc n) h = absurd (let z : _≡_ {A = ℕ} 0 1 = cc in omega arith)
+
+pub rank-is : (x : ℤ) → ltZ x (pos 0) ≡ false → natAbs x + 1 ≡ rank x
+rank-is (pos k) h = omega arith
+rank-is (negsuc n) h = absurd (let z : _≡_ {A = ℕ} 0 1 = cc in omega arith)
+
+pub rank-small : (x : ℤ) → mag x < 2147483648 → (natAbs x < 2147483649) × (rank x < 2147483650)
+rank-small (pos k) h = (omega (arith, h), omega (arith, h))
+rank-small (negsuc n) h = (omega (arith, h), omega arith)
+
+pub own-none : (own peer x : ℤ) → rank own ≡ 0 → false ≡ inTheMiddle own peer x
+own-none (pos k) peer x e = absurd (omega (arith, e))
+own-none (negsuc n) peer x e = refl
+
+pub peer-none : (own peer x : ℤ) → rank peer ≡ 0 → false ≡ inTheMiddle own peer x
+peer-none (pos a) (pos b) x e = absurd (omega (arith, e))
+peer-none (pos a) (negsuc n) x e = refl
+peer-none (negsuc n) peer x e = refl
+
+pub by-ranks : (own peer x : ℤ) → rank own ≢ 0 → rank peer ≢ 0 → ltb (rank own + rank peer) (rank x + 1) ≡ inTheMiddle own peer x
+by-ranks (pos a) (pos b) (pos k) f g = elim (decLt (a + b) k) [
+  | yes h ↦ lt-ltb (suc a + suc b) (suc k + 1) (omega (arith, h)) ∙ sym (lt-ltb (a + b) k h)
+  | no h ↦ le-ltb (suc a + suc b) (suc k + 1) (omega (arith, h)) ∙ sym (le-ltb (a + b) k (omega (arith, h)))
+]
+by-ranks (pos a) (pos b) (negsuc n) f g = le-ltb (suc a + suc b) (0 + 1) (omega arith)
+by-ranks (pos a) (negsuc n) x f g = absurd (g refl)
+by-ranks (negsuc n) peer x f g = absurd (f refl)
+
+pub entry-fits : (hidden : Bool) (own peer x : ℤ) → mag x < 2147483648 → mag (entryBy hidden own peer x) < 2147483648
+entry-fits true own peer x f = omega arith
+entry-fits false own peer x f = go (inTheMiddle own peer x)
+  where
+    go : (b : Bool) → mag (cond b (negsuc 0) x) < 2147483648
+    go true = omega arith
+    go false = f

@@ -1,0 +1,44 @@
+-- `prebuilt_entries::nearest::is_reached` meets its contract. Assumes nothing.
+use mathlib.Core.Path.{_≡_, refl, sym, ap, _∙_, subst}
+use mathlib.Core.Logic.{_⊎_, inl, inr}
+use Prim.Native.Nat.{ℕ, zero, suc, _+_, _*_, _-_, _<_, _≤_}
+use native.Mathlib.Omega.{arith}
+use mathlib.Core.Bool.{Bool, true, false, not, cond, _&&_}
+use mathlib.Core.List.{List}
+use mathlib.Core.Option.{Option, some, none}
+use lib.ListN.{length, getD, take, List·getD-eq-default}
+use lib.Dec.{eqb}
+use lib.IntN.{ℤ, pos, negsuc}
+use borrow.Author.Tests.{eq-eqb, ne-eqb}
+use mir.Syntax.{w32}
+use mir.Val.{SFits, toZ, ofZ}
+use mir.ValLaws.{toZ-ofZ}
+use Rattle.columns.proofs.Columns.{getD-any}
+use Rattle.walks.specs.Answers.{weightIn}
+use Rattle.walks.proofs.FirstLeast.{orElse, IsFirst, first-least}
+use Rattle.prebuilt_entries.specs.Entries.{rank, isVirtual}
+use Rattle.prebuilt_entries.specs.Nearest.{isReached, amount, nearestIn}
+use Rattle.prebuilt_entries.proofs.Amounts.{amount-none, amount-some, reached-by, near-by, near-take, near-keep}
+use borrow.Author.Needs.{needs}
+use Rattle.prebuilt_entries.proofs.nearest.is_reached.Statement.{statement}
+use Rattle.prebuilt_entries.proofs.nearest.is_reached.Tie as tie
+
+mul-rank-of : tie.Need-mul-rank-of
+mul-rank-of c = search needs
+
+shared-slice-copy-out-rank-of : tie.Need-shared-slice-copy-out-rank-of
+shared-slice-copy-out-rank-of c = search needs
+
+rank-of-requires : tie.Need-rank-of-requires
+rank-of-requires c κs = search needs
+
+returns : tie.Need-returns
+returns c = let s = c .before .before .before in ap (λ k. not (eqb k 0)) (c .rank-of .ensures .0 ∙ ap rank (toZ-ofZ w32 (getD (s .args .least .now) (s .args .u) (pos 0)) (record { sfits = c .before .rank-of-arg .given }) ∙ getD-any (s .args .least .now) (s .args .u) (pos 0) (negsuc 0) (c .before .before .if1 .taken))) ∙ reached-by (weightIn (s .args .least .now) (s .args .u))
+
+returns-2 : tie.Need-returns-2
+returns-2 c = let s = c .before in let h : length (s .args .least .now) ≤ s .args .u = omega (arith, c .if1 .left) in ap isReached (sym (List·getD-eq-default (s .args .least .now) (negsuc 0) {n = s .args .u} h))
+
+pub is-reached-spec : {M : Type 1} → statement M
+is-reached-spec =
+    tie.close
+    (tie.spec mul-rank-of shared-slice-copy-out-rank-of rank-of-requires returns returns-2)

@@ -1,0 +1,61 @@
+-- `prebuilt_entries::nearest::nearer` meets its contract. Assumes nothing.
+use mathlib.Core.Path.{_≡_, refl, sym, ap, _∙_, subst}
+use mathlib.Core.Logic.{_⊎_, inl, inr}
+use Prim.Native.Nat.{ℕ, zero, suc, _+_, _*_, _-_, _<_, _≤_}
+use native.Mathlib.Omega.{arith}
+use mathlib.Core.Bool.{Bool, true, false, not, cond, _&&_}
+use mathlib.Core.List.{List}
+use mathlib.Core.Option.{Option, some, none}
+use lib.ListN.{length, getD, take, List·getD-eq-default}
+use lib.Dec.{eqb}
+use lib.IntN.{ℤ, pos, negsuc}
+use borrow.Author.Tests.{eq-eqb, ne-eqb}
+use mir.Syntax.{w32}
+use mir.Val.{SFits, toZ, ofZ}
+use mir.ValLaws.{toZ-ofZ}
+use Rattle.columns.proofs.Columns.{getD-any}
+use Rattle.walks.specs.Answers.{weightIn}
+use Rattle.walks.proofs.FirstLeast.{orElse, IsFirst, first-least}
+use Rattle.prebuilt_entries.specs.Entries.{rank, isVirtual}
+use Rattle.prebuilt_entries.specs.Nearest.{isReached, amount, nearestIn}
+use Rattle.prebuilt_entries.proofs.Amounts.{amount-none, amount-some, reached-by, near-by, near-take, near-keep}
+use borrow.Author.Needs.{needs}
+use Rattle.prebuilt_entries.proofs.nearest.nearer.Statement.{statement}
+use Rattle.prebuilt_entries.proofs.nearest.nearer.Tie as tie
+
+returns : tie.Need-returns
+returns c = let s = c .before in λ bytes q inv. near-by bytes (s .args .least .now) (s .args .u) (s .args .best) (s .pre) inv (ap (λ k. not (eqb k 0) && isReached (weightIn (s .args .least .now) (s .args .u))) (q ∙ c .if1 .taken))
+
+is-reached-requires : tie.Need-is-reached-requires
+is-reached-requires c κs = search needs
+
+returns-2 : tie.Need-returns-2
+returns-2 c = let s = c .before .before .before .before in λ bytes q inv. let y : (isVirtual (getD bytes (s .args .u) 0) && isReached (weightIn (s .args .least .now) (s .args .u))) ≡ true = (λ i. isVirtual (q i) && isReached (weightIn (s .args .least .now) (s .args .u))) ∙ (λ i. not (ne-eqb (s .args .byte) 0 (c .before .before .before .if1 .left) i) && (sym (c .before .before .is-reached .ensures) ∙ c .before .if2 .taken) i) in near-take bytes (s .args .least .now) (s .args .u) (s .args .best) (s .pre) inv y (inl (c .if3 .taken))
+
+amount-at-requires : tie.Need-amount-at-requires
+amount-at-requires c κs = search needs
+
+amount-at-requires-2 : tie.Need-amount-at-requires-2
+amount-at-requires-2 c κs = search needs
+
+returns-3 : tie.Need-returns-3
+returns-3 c = let s = c .before .before .before .before .before .before .before in λ bytes q inv. let y : (isVirtual (getD bytes (s .args .u) 0) && isReached (weightIn (s .args .least .now) (s .args .u))) ≡ true = (λ i. isVirtual (q i) && isReached (weightIn (s .args .least .now) (s .args .u))) ∙ (λ i. not (ne-eqb (s .args .byte) 0 (c .before .before .before .before .before .before .if1 .left) i) && (sym (c .before .before .before .before .before .is-reached .ensures) ∙ c .before .before .before .before .if2 .taken) i) in near-take bytes (s .args .least .now) (s .args .u) (s .args .best) (s .pre) inv y (inr (omega (arith, c .before .before .amount-at .ensures, c .before .amount-at2 .ensures, c .if4 .taken)))
+
+returns-4 : tie.Need-returns-4
+returns-4 c = let s = c .before .before .before .before .before .before .before in λ bytes q inv. let y : (isVirtual (getD bytes (s .args .u) 0) && isReached (weightIn (s .args .least .now) (s .args .u))) ≡ true = (λ i. isVirtual (q i) && isReached (weightIn (s .args .least .now) (s .args .u))) ∙ (λ i. not (ne-eqb (s .args .byte) 0 (c .before .before .before .before .before .before .if1 .left) i) && (sym (c .before .before .before .before .before .is-reached .ensures) ∙ c .before .before .before .before .if2 .taken) i) in near-keep bytes (s .args .least .now) (s .args .u) (s .args .best) (s .pre) inv y (c .before .before .before .if3 .left) (omega (arith, c .before .before .amount-at .ensures, c .before .amount-at2 .ensures, c .if4 .left))
+
+returns-5 : tie.Need-returns-5
+returns-5 c = let s = c .before .before .before in λ bytes q inv. near-by bytes (s .args .least .now) (s .args .u) (s .args .best) (s .pre) inv ((λ i. isVirtual (q i) && isReached (weightIn (s .args .least .now) (s .args .u))) ∙ (λ i. not (ne-eqb (s .args .byte) 0 (c .before .before .if1 .left) i) && (sym (c .before .is-reached .ensures) ∙ c .if2 .left) i))
+
+pub nearer-spec : {M : Type 1} → statement M
+nearer-spec =
+    tie.close
+    (tie.spec
+    returns
+    is-reached-requires
+    returns-2
+    amount-at-requires
+    amount-at-requires-2
+    returns-3
+    returns-4
+    returns-5)

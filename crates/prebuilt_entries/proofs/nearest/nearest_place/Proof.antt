@@ -1,0 +1,71 @@
+-- `prebuilt_entries::nearest::nearest_place` meets its contract. Assumes nothing.
+use mathlib.Core.Path.{_≡_, refl, sym, ap, _∙_, subst}
+use mathlib.Core.Logic.{_⊎_, inl, inr}
+use Prim.Native.Nat.{ℕ, zero, suc, _+_, _*_, _-_, _<_, _≤_}
+use native.Mathlib.Omega.{arith}
+use mathlib.Core.Bool.{Bool, true, false, not, cond, _&&_}
+use mathlib.Core.List.{List}
+use mathlib.Core.Option.{Option, some, none}
+use lib.ListN.{length, getD, take, List·getD-eq-default}
+use lib.Dec.{eqb}
+use lib.IntN.{ℤ, pos, negsuc}
+use borrow.Author.Tests.{eq-eqb, ne-eqb}
+use mir.Syntax.{w32}
+use mir.Val.{SFits, toZ, ofZ}
+use mir.ValLaws.{toZ-ofZ}
+use Rattle.columns.proofs.Columns.{getD-any}
+use Rattle.walks.specs.Answers.{weightIn}
+use Rattle.walks.proofs.FirstLeast.{orElse, IsFirst, first-least}
+use Rattle.prebuilt_entries.specs.Entries.{rank, isVirtual}
+use Rattle.prebuilt_entries.specs.Nearest.{isReached, amount, nearestIn}
+use Rattle.prebuilt_entries.proofs.Amounts.{amount-none, amount-some, reached-by, near-by, near-take, near-keep}
+use Rattle.walks.specs.Settling.{firstLeast}
+use borrow.Author.Needs.{needs}
+use Rattle.prebuilt_entries.proofs.nearest.nearest_place.Statement.{statement}
+use Rattle.prebuilt_entries.proofs.nearest.nearest_place.Tie as tie
+
+abbrev Inv-loop : tie.InvT-loop
+Inv-loop boundary least best₀ u₀ best u = (u ≤ length least) × (best ≡ orElse (length least) (nearestIn boundary least u))
+
+abbrev μ-loop : tie.MeasureT-loop
+μ-loop boundary least best₀ u₀ best u = length least - u
+
+loop-holds : tie.Need-loop-holds Inv-loop μ-loop
+unfolding firstLeast
+loop-holds c = (search needs, refl)
+
+shared-slice-read-nearer : tie.Need-shared-slice-read-nearer Inv-loop μ-loop
+shared-slice-read-nearer c = let s = c .before .before .before .before in omega (arith, s .pre, c .before .loop-test .taken)
+
+nearer-requires : tie.Need-nearer-requires Inv-loop μ-loop
+nearer-requires c κs = omega (arith, c .before .loop-test .taken)
+
+add-u : tie.Need-add-u Inv-loop μ-loop
+add-u c = search needs
+
+loop-less : tie.Need-loop-less Inv-loop μ-loop
+loop-less c = search needs
+
+loop-again : tie.Need-loop-again Inv-loop μ-loop
+loop-again c = let s = c .before .before .before .before .before in let at = c .before .before .before .loop in (omega (arith, c .before .before .loop-test .taken), c .nearer .ensures (s .args .boundary .now) refl (at .inv .1))
+
+returns : tie.Need-returns Inv-loop μ-loop
+returns c =
+    let s = c .before .before .before in
+    let at = c .before .loop in
+    let e : at .u ≡ length (s .args .least .now) = omega (arith, at .inv .0, c .loop-test .left) in
+    at .inv .1 ∙ ap (λ k. orElse (length (s .args .least .now)) (nearestIn (s .args .boundary .now) (s .args .least .now) k)) e
+
+pub nearest-place-spec : {M : Type 1} → statement M
+nearest-place-spec =
+    tie.close
+    (tie.spec
+    Inv-loop
+    μ-loop
+    loop-holds
+    shared-slice-read-nearer
+    nearer-requires
+    add-u
+    loop-less
+    loop-again
+    returns)

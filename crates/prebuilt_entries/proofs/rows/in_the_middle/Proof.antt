@@ -1,0 +1,57 @@
+-- `prebuilt_entries::rows::in_the_middle` meets its contract. Assumes nothing.
+use mathlib.Core.Path.{_≡_, refl, sym, ap, _∙_, subst}
+use Prim.Native.Nat.{ℕ, zero, suc, _+_, _*_, _-_, _<_, _≤_}
+use native.Mathlib.Omega.{arith}
+use mathlib.Core.Bool.{Bool, true, false, not, cond, _||_}
+use mathlib.Core.List.{List}
+use Rattle.prebuilt_entries.specs.Entries.{rank, inTheMiddle}
+use Rattle.prebuilt_entries.proofs.Ranks.{own-none, peer-none, by-ranks}
+use lib.Dec.{ltb}
+use mir.Syntax.{w32}
+use mir.Val.{SFits, toZ, ofZ}
+use mir.ValLaws.{toZ-ofZ}
+use borrow.Author.Needs.{needs}
+use Rattle.prebuilt_entries.proofs.rows.in_the_middle.Statement.{statement}
+use Rattle.prebuilt_entries.proofs.rows.in_the_middle.Tie as tie
+
+rank-of-requires : tie.Need-rank-of-requires
+rank-of-requires c κs = search needs
+
+rank-of-requires-2 : tie.Need-rank-of-requires-2
+rank-of-requires-2 c κs = search needs
+
+rank-of-requires-3 : tie.Need-rank-of-requires-3
+rank-of-requires-3 c κs = search needs
+
+returns : tie.Need-returns
+returns c = let s = c .before .before .before .before in own-none (s .args .own) (s .args .peer) (s .args .x) (sym (c .before .before .before .rank-of .ensures .0 ∙ ap rank (toZ-ofZ w32 (s .args .own) (record { sfits = s .good .0 }))) ∙ c .if1 .taken)
+
+returns-2 : tie.Need-returns-2
+returns-2 c = let s = c .before .before .before .before .before in peer-none (s .args .own) (s .args .peer) (s .args .x) (sym (c .before .before .before .rank-of2 .ensures .0 ∙ ap rank (toZ-ofZ w32 (s .args .peer) (record { sfits = s .good .1 .0 }))) ∙ c .if2 .taken)
+
+add-result : tie.Need-add-result
+add-result c = search needs
+
+add-result-2 : tie.Need-add-result-2
+add-result-2 c = search needs
+
+returns-3 : tie.Need-returns-3
+returns-3 c =
+    let s = c .before .before .before .before .before in
+    let a = c .before .before .before .before .rank-of .ensures .0 ∙ ap rank (toZ-ofZ w32 (s .args .own) (record { sfits = s .good .0 })) in
+    let b = c .before .before .before .rank-of2 .ensures .0 ∙ ap rank (toZ-ofZ w32 (s .args .peer) (record { sfits = s .good .1 .0 })) in
+    let k = c .before .before .rank-of3 .ensures .0 ∙ ap rank (toZ-ofZ w32 (s .args .x) (record { sfits = s .good .1 .1 .0 })) in
+    (λ i. ltb (a i + b i) (k i + 1)) ∙ by-ranks (s .args .own) (s .args .peer) (s .args .x) (λ e. c .before .if1 .left (a ∙ e)) (λ e. c .if2 .left (b ∙ e))
+
+pub in-the-middle-spec : {M : Type 1} → statement M
+in-the-middle-spec =
+    tie.close
+    (tie.spec
+    rank-of-requires
+    rank-of-requires-2
+    rank-of-requires-3
+    returns
+    returns-2
+    add-result
+    add-result-2
+    returns-3)

@@ -1,0 +1,136 @@
+-- `prebuilt_entries::rows::write_row` meets its contract. Assumes nothing.
+use mathlib.Core.Path.{_≡_, refl, sym, ap, _∙_, subst}
+use Prim.Native.Nat.{ℕ, zero, suc, _+_, _*_, _-_, _<_, _≤_}
+use native.Mathlib.Omega.{arith}
+use mathlib.Core.Bool.{Bool, true, false, not, cond, _||_}
+use mathlib.Core.List.{List}
+use lib.ListN.{length, getD, set, length-set}
+use lib.Seq.{sets}
+use lib.IntN.{ℤ, pos, negsuc}
+use Rattle.columns.specs.Lists.{each}
+use Rattle.columns.proofs.Counting.{store-each, length-each}
+use Rattle.prebuilt_entries.specs.Entries.{rowEntry}
+use Rattle.prebuilt_entries.proofs.Stored.{not-yet}
+use mir.Syntax.{w32}
+use mir.Val.{SFits, toZ, ofZ}
+use mir.ValLaws.{toZ-ofZ}
+use Rattle.prebuilt_entries.specs.Entries.{isVirtual, entryBy}
+use lib.Dec.{eqb}
+use lib.Signed.{mag}
+use Rattle.walks.specs.Answers.{weightIn}
+use Rattle.columns.proofs.Columns.{getD-any}
+use Rattle.prebuilt_entries.proofs.Ranks.{entry-fits}
+use borrow.Author.Needs.{needs}
+use Rattle.prebuilt_entries.proofs.rows.write_row.Statement.{statement}
+use Rattle.prebuilt_entries.proofs.rows.write_row.Tie as tie
+
+abbrev Inv-loop : tie.InvT-loop
+Inv-loop boundary nearest v out₀ at u₀ out u = (u ≤ length boundary) × (length out ≡ length out₀) × (out ≡ sets out₀ 0 (each u (rowEntry boundary nearest v out₀)))
+
+abbrev μ-loop : tie.MeasureT-loop
+μ-loop boundary nearest v out₀ at u₀ out u = length boundary - u
+
+loop-holds : tie.Need-loop-holds Inv-loop μ-loop
+unfolding each
+loop-holds c = (search needs, refl, refl)
+
+shared-slice-read-is-hidden : tie.Need-shared-slice-read-is-hidden Inv-loop μ-loop
+shared-slice-read-is-hidden c = c .before .before .before .before .pre .2
+
+shared-slice-read-is-hidden-2 : tie.Need-shared-slice-read-is-hidden-2 Inv-loop μ-loop
+shared-slice-read-is-hidden-2 c = search needs
+
+is-hidden-requires : tie.Need-is-hidden-requires Inv-loop μ-loop
+is-hidden-requires c κs = search needs
+
+mul-row-entry : tie.Need-mul-row-entry Inv-loop μ-loop
+mul-row-entry c = search needs
+
+shared-slice-copy-out-row-entry : tie.Need-shared-slice-copy-out-row-entry Inv-loop μ-loop
+shared-slice-copy-out-row-entry c = let s = c .before .before .before .before .before .before in omega (arith, s .pre .0, s .pre .2)
+
+mul-row-entry-2 : tie.Need-mul-row-entry-2 Inv-loop μ-loop
+mul-row-entry-2 c = search needs
+
+shared-slice-copy-out-row-entry-2 : tie.Need-shared-slice-copy-out-row-entry-2 Inv-loop μ-loop
+shared-slice-copy-out-row-entry-2 c = let s = c .before .before .before .before .before .before .before in omega (arith, s .pre .0, c .before .before .before .before .loop-test .taken)
+
+mul-row-entry-3 : tie.Need-mul-row-entry-3 Inv-loop μ-loop
+mul-row-entry-3 c = search needs
+
+slice-copy-out-row-entry : tie.Need-slice-copy-out-row-entry Inv-loop μ-loop
+slice-copy-out-row-entry c = let s = c .before .before .before .before .before .before .before .before in let at = c .before .before .before .before .before .before .loop in omega (arith, s .pre .1, at .inv .1, c .before .before .before .before .before .loop-test .taken)
+
+row-entry-requires : tie.Need-row-entry-requires Inv-loop μ-loop
+row-entry-requires c κs = search needs
+
+mul-t23 : tie.Need-mul-t23 Inv-loop μ-loop
+mul-t23 c = search needs
+
+slice-set-from-out : tie.Need-slice-set-from-out Inv-loop μ-loop
+slice-set-from-out c = let s = c .before .before .before .before .before .before .before .before .before .before in let at = c .before .before .before .before .before .before .before .before .loop in omega (arith, s .pre .1, at .inv .1, c .before .before .before .before .before .before .before .loop-test .taken)
+
+add-u : tie.Need-add-u Inv-loop μ-loop
+add-u c = search needs
+
+loop-less : tie.Need-loop-less Inv-loop μ-loop
+loop-less c = search needs
+
+loop-again : tie.Need-loop-again Inv-loop μ-loop
+loop-again c =
+    let s = c .before .before .before .before .before .before .before .before .before .before in
+    let at = c .before .before .before .before .before .before .before .before .loop in
+    let u = at .u in
+    let v = s .args .v in
+    let bytes : List ℕ = s .args .boundary .now in
+    let near : List ℤ = s .args .nearest .now in
+    let column : List ℤ = s .args .out .now in
+    let f : ℕ → ℤ = rowEntry bytes near v column in
+    let hu : u < length bytes = c .before .before .before .before .before .before .before .loop-test .taken in
+    let hn : v < length near = omega (arith, s .pre .0, s .pre .2) in
+    let hp : u < length near = omega (arith, s .pre .0, hu) in
+    let ho : u < length column = omega (arith, s .pre .1, hu) in
+    let n = toZ-ofZ w32 (getD near v (pos 0)) (record { sfits = c .before .before .before .row-entry-arg .given }) ∙ getD-any near v (pos 0) (negsuc 0) hn in
+    let p = toZ-ofZ w32 (getD near u (pos 0)) (record { sfits = c .before .before .row-entry-arg2 .given }) ∙ getD-any near u (pos 0) (negsuc 0) hp in
+    let o : getD (at .out) u (pos 0) ≡ weightIn column u =
+    ap (λ (l : List ℤ). getD l u (pos 0)) (at .inv .2) ∙ not-yet column f (pos 0) u (omega (arith, ho)) ∙ getD-any column u (pos 0) (negsuc 0) ho in
+    let x = toZ-ofZ w32 (getD (at .out) u (pos 0)) (record { sfits = c .before .row-entry-arg3 .given }) ∙ o in
+    let r : c .row-entry .result ≡ f u = c .row-entry .ensures ∙ (λ i. entryBy (c .before .before .before .before .is-hidden .ensures i) (n i) (p i) (x i)) in
+    let g : mag (f u) < 2147483648 = entry-fits (isVirtual (getD bytes v 0) || (isVirtual (getD bytes u 0) || eqb u v)) (weightIn near v) (weightIn near u) (weightIn column u) (subst (λ z. mag z < 2147483648) o (c .before .row-entry-arg3 .given)) in
+    let z : toZ w32 (ofZ w32 (c .row-entry .result)) ≡ f u = ap (λ k. toZ w32 (ofZ w32 k)) r ∙ toZ-ofZ w32 (f u) (record { sfits = g }) in
+    (omega (arith, hu), length-set (at .out) u (toZ w32 (ofZ w32 (c .row-entry .result))) ∙ at .inv .1, (λ i. set (at .inv .2 i) u (z i)) ∙ store-each column u f)
+
+same-length : tie.Need-same-length Inv-loop μ-loop
+same-length c = c .before .loop .inv .1
+
+returns : tie.Need-returns Inv-loop μ-loop
+returns c =
+    let s = c .before .before .before in
+    let at = c .before .loop in
+    let e : at .u ≡ length (s .args .boundary .now) = omega (arith, at .inv .0, c .loop-test .left) in
+    at .inv .2 ∙ ap (λ k. sets (s .args .out .now) 0 (each k (rowEntry (s .args .boundary .now) (s .args .nearest .now) (s .args .v) (s .args .out .now)))) e
+
+pub write-row-spec : {M : Type 1} → statement M
+write-row-spec =
+    tie.close
+    (tie.spec
+    Inv-loop
+    μ-loop
+    loop-holds
+    shared-slice-read-is-hidden
+    shared-slice-read-is-hidden-2
+    is-hidden-requires
+    mul-row-entry
+    shared-slice-copy-out-row-entry
+    mul-row-entry-2
+    shared-slice-copy-out-row-entry-2
+    mul-row-entry-3
+    slice-copy-out-row-entry
+    row-entry-requires
+    mul-t23
+    slice-set-from-out
+    add-u
+    loop-less
+    loop-again
+    same-length
+    returns)

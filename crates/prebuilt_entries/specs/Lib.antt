@@ -1,0 +1,3 @@
+-- Entries: the entries of a row, edges in the middle removed. Nearest: the nearest virtual vertex in a table.
+pub mod Entries
+pub mod Nearest

@@ -1,0 +1,36 @@
+-- The nearest virtual vertex of a vertex in the Rust's `PrebuiltCompleteGraph`, in the vertex's table.
+use Prim.Native.Nat.{ℕ}
+use mathlib.Core.Bool.{Bool, true, false, cond, _&&_}
+use mathlib.Core.List.{List}
+use mathlib.Core.Option.{Option, some, none}
+use lib.ListN.{getD}
+use lib.IntN.{ℤ, pos, negsuc}
+use Rattle.walks.specs.Settling.{firstLeast}
+use Rattle.walks.specs.Answers.{weightIn}
+use Rattle.prebuilt_entries.specs.Entries.{isVirtual}
+
+-- a weight of a table: whether there is one, and how much
+abbrev pub isReached : ℤ → Bool
+isReached (pos k) = true
+isReached (negsuc n) = false
+
+abbrev pub amount : ℤ → ℕ
+amount (pos k) = k
+amount (negsuc n) = 0
+
+-- of the virtual vertices below n that a table reaches the one of least weight; of several the smallest
+abbrev pub nearestIn : (bytes : List ℕ) (weights : List ℤ) (n : ℕ) → Option ℕ
+nearestIn bytes weights n = firstLeast (λ u. isVirtual (getD bytes u 0) && isReached (weightIn weights u)) (λ u. amount (weightIn weights u)) n
+
+-- a virtual vertex has none
+abbrev pub boundaryIn : (bytes : List ℕ) (weights : List ℤ) (n v : ℕ) → Option ℕ
+boundaryIn bytes weights n v = cond (isVirtual (getD bytes v 0)) none (nearestIn bytes weights n)
+
+-- a vertex of a table: its weight, -1 for none, and its number, 0 for none
+abbrev pub weightTo : List ℤ → Option ℕ → ℤ
+weightTo weights none = negsuc 0
+weightTo weights (some u) = weightIn weights u
+
+abbrev pub vertexTo : Option ℕ → ℕ
+vertexTo none = 0
+vertexTo (some u) = u

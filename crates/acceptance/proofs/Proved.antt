@@ -8,10 +8,10 @@ use native.Mathlib.Omega.{arith}
 use lib.ListN.{length, getD}
 use lib.IntN.{ℤ, pos, negsuc}
 use Rattle.columns.specs.Lists.{over}
-use Rattle.edge_modifier.specs.Records.{Engine}
-use Rattle.edge_modifier.specs.Tally.{Tally, lengthsOf}
-use Rattle.edge_modifier.proofs.Agreement.{Agrees}
-use Rattle.edge_modifier.proofs.LastNamed.{weighs-last-named}
+use Rattle.engine_columns.specs.Records.{Engine}
+use Rattle.tally.specs.Tally.{Tally, lengthsOf}
+use Rattle.tally.proofs.Agreement.{Agrees}
+use Rattle.tally.proofs.LastNamed.{weighs-last-named}
 use Rattle.walks.specs.Graph.{Graph, edges, InRange}
 use Rattle.walks.specs.Answers.{crossing, leastFromLeft, weightIn}
 use Rattle.walks.specs.Claims.{CrossingAnswer, IsCrossing, LeftWeight, Alike, NotGreater, reached, unreached, signed}

@@ -9,13 +9,13 @@ use contract.Lifetimes.{Lfts}
 use borrow.Fn.Kinds.{Dens, endedOf}
 use denote.Triple.Clauses.{AtExit}
 use denote.Ref.{now}
-use Rattle.edge_modifier.specs.declared.EngineCounts.{EngineCounts}
-use Rattle.edge_modifier.specs.declared.EngineAnswer.{EngineAnswer}
-use Rattle.edge_modifier.specs.declared.EngineAnswer.the-variants.{Counts, Refused}
-use Rattle.edge_modifier.specs.Records.{Engine, engine, kept, numberOf}
-use Rattle.edge_modifier.specs.Step.{Call, loadErasures, loadWeights, reset}
-use Rattle.edge_modifier.specs.Open.{GraphColumns, graphColumns}
-use Rattle.edge_modifier.specs.Tally.{Fed, lengthsOf}
+use Rattle.engine_columns.specs.declared.EngineCounts.{EngineCounts}
+use Rattle.engine_columns.specs.declared.EngineAnswer.{EngineAnswer}
+use Rattle.engine_columns.specs.declared.EngineAnswer.the-variants.{Counts, Refused}
+use Rattle.engine_columns.specs.Records.{Engine, engine, kept, numberOf}
+use Rattle.engine_columns.specs.Step.{Call, loadErasures, loadWeights, reset}
+use Rattle.engine_columns.specs.Open.{GraphColumns, graphColumns}
+use Rattle.tally.specs.Tally.{Fed, lengthsOf}
 use Rattle.crossings.specs.declared.CrossingReply.{CrossingReply}
 use Rattle.crossings.specs.Crossing.{replyNumber}
 use Rattle.example_codes.specs.declared.Created.{Created}

@@ -2,8 +2,8 @@
 use Prim.Native.Nat.{ℕ}
 use mathlib.Core.Path.{_≡_}
 use mathlib.Core.Bool.{Bool, true, false}
-use Rattle.edge_modifier.specs.declared.EngineAnswer.{EngineAnswer}
-use Rattle.edge_modifier.specs.Records as engine
+use Rattle.engine_columns.specs.declared.EngineAnswer.{EngineAnswer}
+use Rattle.engine_columns.specs.Records as engine
 use Rattle.complete_graph.specs.declared.End.{End}
 use Rattle.complete_graph.specs.declared.End.the-variants.{None, At}
 use Rattle.c_engine.specs.declared.reports.EngineReport.{EngineReport}

@@ -9,7 +9,7 @@ use code_access::store_weights;
 use columns::Weight;
 use crossings::CrossingReply;
 use crossings::crossing;
-use edge_modifier::EngineCounts;
+use engine_columns::EngineCounts;
 use listing::write_listing;
 use listing::write_refusal;
 

@@ -10,13 +10,13 @@ use lib.Dec.{leb, eqb}
 use lib.IntN.{ℤ}
 use Rattle.columns.specs.Lists.{after}
 use Rattle.columns.specs.Questions.{ask}
-use Rattle.edge_modifier.specs.Records.{Engine}
-use Rattle.edge_modifier.specs.Door.{longEnough, sound}
+use Rattle.engine_columns.specs.Records.{Engine}
+use Rattle.engine_columns.specs.Door.{longEnough, sound}
 use Rattle.walks.specs.Answers.{crossing, leastFromLeft}
 use Rattle.crossings.specs.declared.CrossingReply.{CrossingReply}
 use Rattle.crossings.specs.declared.CrossingReply.the-variants.{Crossed, Refused}
-use Rattle.complete_graph.specs.Queries.{graphIn, weightsIn}
-use Rattle.complete_graph.specs.Steps.{ScratchColumns}
+use Rattle.searches.specs.Queries.{graphIn, weightsIn}
+use Rattle.searches.specs.Scratch.{ScratchColumns}
 
 -- document 01's number for each case: 0 where the call was accepted
 abbrev pub replyNumber : CrossingReply → ℕ
@@ -58,11 +58,6 @@ CrossingScratch zero s₀ s = Unit {0}
 CrossingScratch (suc n) s₀ s = s ≡ s₀
 
 -- ---- what private functions promise one another
-
--- a weight, or one that no vertex has
-abbrev pub codeOf : Option ℕ → ℕ
-codeOf none = 2147483648
-codeOf (some weight) = weight
 
 -- r stands for a crossing weight or for none
 abbrev pub Coded : ℕ → Option ℕ → Type 0

@@ -2,8 +2,8 @@
 use columns::Done;
 use columns::VertexIndex;
 use crossings::CrossingReply;
-use edge_modifier::EngineAnswer;
-use edge_modifier::EngineCounts;
+use engine_columns::EngineAnswer;
+use engine_columns::EngineCounts;
 use libc::STDOUT_FILENO;
 use paths::PathAnswer;
 

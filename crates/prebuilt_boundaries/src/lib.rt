@@ -7,11 +7,11 @@ ghost use lib.ListN.{length, getD, set};
 ghost use lib.Seq.{sets};
 ghost use lib.Dec.{ltb};
 ghost use Rattle.columns.specs.Lists.{each};
-ghost use Rattle.edge_modifier.specs.Records.{engine};
+ghost use Rattle.engine_columns.specs.Records.{engine};
 ghost use Rattle.walks.specs.Answers.{weightIn};
 ghost use Rattle.walks.proofs.FirstLeast.{orElse};
-ghost use Rattle.complete_graph.specs.Queries.{scratchLong, graphIn, weightsIn};
-ghost use Rattle.complete_graph.specs.Steps.{ScratchKept, scratchOf};
+ghost use Rattle.searches.specs.Queries.{scratchLong, graphIn, weightsIn};
+ghost use Rattle.searches.specs.Scratch.{ScratchKept, scratchOf};
 ghost use Rattle.prebuilt_complete_graph.specs.Nearest.{boundaryIn};
 ghost use Rattle.prebuilt_boundaries.specs.Boundaries.{weightTo, vertexTo, boundaryWeight, boundaryVertex, BoundariesStep, FirstKept};
 ghost use Rattle.prebuilt_boundaries.specs.Steps.{Fillable};
@@ -21,10 +21,10 @@ use columns::Weight;
 use columns::questions::at_most;
 use columns::questions::both;
 use complete_graph::all_edges;
-use complete_graph::query_door;
-use complete_graph::scratch_long;
-use edge_modifier::EngineCounts;
+use engine_columns::EngineCounts;
 use prebuilt_complete_graph::nearest::nearest_place;
+use searches::query_door;
+use searches::scratch_long;
 
 // The nearest virtual vertex of v in its table; the column's length stands for none.
 fn boundary_place(boundary: &[u8], least: &[i32], v: usize) -> usize

@@ -19,7 +19,7 @@ use Rattle.columns.specs.declared.Done.the-variants.{Accepted, Refused}
 use Rattle.walks.specs.Graph.{Graph}
 use Rattle.walks.specs.Answers.{weightIn}
 use Rattle.walks.proofs.FirstLeast.{orElse, IsFirst, first-least, pass-by, pass-take, pass-keep}
-use Rattle.complete_graph.specs.Steps.{ScratchColumns, ScratchKept}
+use Rattle.searches.specs.Scratch.{ScratchColumns, ScratchKept}
 use Rattle.prebuilt_complete_graph.specs.Rows.{rank, isVirtual}
 use Rattle.prebuilt_complete_graph.specs.Nearest.{isReached, amount, nearestIn, boundaryFound, boundaryReply, BoundaryKept}
 use Rattle.prebuilt_complete_graph.specs.declared.nearest.BoundaryAnswer.{BoundaryAnswer}

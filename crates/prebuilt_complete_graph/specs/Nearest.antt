@@ -6,13 +6,14 @@ use mathlib.Core.List.{List}
 use mathlib.Core.Option.{Option, some, none}
 use lib.ListN.{length, getD}
 use lib.IntN.{ℤ, pos, negsuc}
-use Rattle.edge_modifier.specs.Records.{Engine}
+use Rattle.engine_columns.specs.Records.{Engine}
 use Rattle.walks.specs.Graph.{Graph}
 use Rattle.walks.specs.Settling.{firstLeast}
 use Rattle.walks.specs.Answers.{weightIn, table}
 use Rattle.complete_graph.specs.declared.End.the-variants.{None}
-use Rattle.complete_graph.specs.Queries.{graphIn, weightsIn}
-use Rattle.complete_graph.specs.Steps.{tableDoor, ScratchColumns}
+use Rattle.searches.specs.Queries.{graphIn, weightsIn}
+use Rattle.complete_graph.specs.Steps.{tableDoor}
+use Rattle.searches.specs.Scratch.{ScratchColumns}
 use Rattle.prebuilt_complete_graph.specs.declared.nearest.BoundaryAnswer.{BoundaryAnswer}
 use Rattle.prebuilt_complete_graph.specs.declared.nearest.BoundaryAnswer.the-variants.{Nearest, NoBoundary, Refused}
 use Rattle.prebuilt_complete_graph.specs.Rows.{isVirtual}

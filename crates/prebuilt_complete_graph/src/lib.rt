@@ -9,9 +9,9 @@ ghost use lib.ListN.{length, getD};
 ghost use lib.Seq.{sets};
 ghost use lib.Dec.{eqb};
 ghost use Rattle.columns.specs.Lists.{each};
-ghost use Rattle.edge_modifier.specs.Records.{engine};
-ghost use Rattle.complete_graph.specs.Queries.{scratchLong};
-ghost use Rattle.complete_graph.specs.Steps.{ScratchKept, scratchOf};
+ghost use Rattle.engine_columns.specs.Records.{engine};
+ghost use Rattle.searches.specs.Queries.{scratchLong};
+ghost use Rattle.searches.specs.Scratch.{ScratchKept, scratchOf};
 ghost use Rattle.prebuilt_complete_graph.specs.Rows.{rank, inTheMiddle, isVirtual, entryBy, rowEntry, RowStep, ColumnKept};
 use columns::Done;
 use columns::VertexIndex;
@@ -19,9 +19,9 @@ use columns::Weight;
 use columns::questions::at_most;
 use columns::questions::both;
 use complete_graph::all_edges;
-use complete_graph::query_door;
-use complete_graph::scratch_long;
-use edge_modifier::EngineCounts;
+use engine_columns::EngineCounts;
+use searches::query_door;
+use searches::scratch_long;
 
 // One more than a weight, 0 for a negative number.
 fn rank_of(x: i32) -> u64

@@ -6,19 +6,20 @@ ghost use mathlib.Core.Option.{none};
 ghost use Prim.Native.Nat.{ℕ, _+_, _<_, _≤_};
 ghost use lib.ListN.{length, getD};
 ghost use Rattle.columns.specs.Answers.{numberOf};
-ghost use Rattle.edge_modifier.specs.Records.{engine};
+ghost use Rattle.engine_columns.specs.Records.{engine};
 ghost use Rattle.walks.specs.Answers.{weightIn};
 ghost use Rattle.walks.proofs.FirstLeast.{orElse};
 ghost use Rattle.complete_graph.specs.declared.End.the-variants.{None};
-ghost use Rattle.complete_graph.specs.Queries.{scratchLong, graphIn, weightsIn};
-ghost use Rattle.complete_graph.specs.Steps.{tableDoor, scratchOf};
+ghost use Rattle.searches.specs.Queries.{scratchLong, graphIn, weightsIn};
+ghost use Rattle.complete_graph.specs.Steps.{tableDoor};
+ghost use Rattle.searches.specs.Scratch.{scratchOf};
 ghost use Rattle.prebuilt_complete_graph.specs.Nearest.{isReached, amount, nearestIn, boundaryIn, boundaryFound, boundaryReply, BoundaryKept};
 use super::rank_of;
 use columns::Done;
 use columns::VertexIndex;
 use columns::Weight;
 use complete_graph::all_edges;
-use edge_modifier::EngineCounts;
+use engine_columns::EngineCounts;
 
 // The nearest virtual vertex and its weight, none, or the number of the question that is not met.
 pub enum BoundaryAnswer {

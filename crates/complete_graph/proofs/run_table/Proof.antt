@@ -17,9 +17,9 @@ use Rattle.walks.specs.Settling.{settled}
 use Rattle.walks.specs.Answers.{only, table}
 use Rattle.settling.specs.Ready.{graphOf, weighs, sources, endOf}
 use Rattle.settling.proofs.Keys.{ready-as}
-use Rattle.complete_graph.specs.Search.{Waiting}
-use Rattle.complete_graph.proofs.Listing.{searchable-as, waiting-as}
-use Rattle.complete_graph.proofs.Sources.{sources-only, waiting-one}
+use Rattle.searches.specs.Search.{Waiting}
+use Rattle.searches.proofs.Listing.{searchable-as, waiting-as}
+use Rattle.searches.proofs.Sources.{sources-only, waiting-one}
 use borrow.Author.Needs.{needs}
 use Rattle.complete_graph.proofs.run_table.Statement.{statement}
 use Rattle.complete_graph.proofs.run_table.Tie as tie

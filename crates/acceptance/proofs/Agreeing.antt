@@ -21,12 +21,12 @@ use Rattle.tally.proofs.Agreement.{Agrees, long-same}
 use Rattle.engine_columns.proofs.Doors.{sound-from}
 use Rattle.walks.specs.Graph.{Graph, edges, InRange}
 use Rattle.walks.specs.Answers.{crossing, leastFromLeft, weightIn}
-use Rattle.crossings.specs.declared.CrossingReply.{CrossingReply}
-use Rattle.crossings.specs.declared.CrossingReply.the-variants.{Crossed, Refused}
+use Rattle.crossing_answers.specs.declared.CrossingReply.{CrossingReply}
+use Rattle.crossing_answers.specs.declared.CrossingReply.the-variants.{Crossed, Refused}
 use Rattle.searches.specs.Queries as Q
 use Rattle.searches.specs.Queries.{scratchLong}
-use Rattle.crossings.specs.Crossing as C
-use Rattle.crossings.specs.Crossing.{isJoined, replyOf, replyNumber, replyWeight, CrossingStep}
+use Rattle.crossing_answers.specs.Crossing as C
+use Rattle.crossing_answers.specs.Crossing.{isJoined, replyOf, replyNumber, replyWeight, CrossingStep}
 use Rattle.crossings.proofs.Crossings.{left-length}
 use Rattle.searches.proofs.Ranges.{in-range}
 use Rattle.acceptance.specs.Listed.{OwnLengths, graphIn, weightsIn, crossingLong, before18, crossingNumber}

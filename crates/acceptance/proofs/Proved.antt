@@ -17,9 +17,9 @@ use Rattle.walks.specs.Answers.{crossing, leastFromLeft, weightIn}
 use Rattle.walks.specs.Claims.{CrossingAnswer, IsCrossing, LeftWeight, Alike, NotGreater, reached, unreached, signed}
 use Rattle.walks.proofs.LeastCrossing.{crossing-is-least}
 use Rattle.walks.proofs.TwoGraphs.{weights-compare}
-use Rattle.crossings.specs.declared.CrossingReply.{CrossingReply}
-use Rattle.crossings.specs.declared.CrossingReply.the-variants.{Crossed, Refused}
-use Rattle.crossings.specs.Crossing.{replyNumber, replyWeight, CrossingStep}
+use Rattle.crossing_answers.specs.declared.CrossingReply.{CrossingReply}
+use Rattle.crossing_answers.specs.declared.CrossingReply.the-variants.{Crossed, Refused}
+use Rattle.crossing_answers.specs.Crossing.{replyNumber, replyWeight, CrossingStep}
 use Rattle.acceptance.specs.Listed.{graphIn, weightsIn, crossingNumber, modifying, numbers}
 use Rattle.acceptance.specs.Demand3.{History, CrossingThen, TwoLists, tallyFirst, tallyLast, graphLeft, weightsLeft, refusedBefore, LeftJoinsRight, Demand3}
 use Rattle.acceptance.proofs.Agreeing.{scratchFits, range, edges-are, weight-at, crossing-number, accepted-of, accepted-when, column-at, graph-kept}

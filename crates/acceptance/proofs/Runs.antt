@@ -15,8 +15,8 @@ use Rattle.engine_columns.specs.Open.{GraphColumns, graphColumns, openDoor, Ope
 use Rattle.tally.specs.Tally.{Tally, tallyOf, lengthsOf, tallyStep}
 use Rattle.tally.proofs.Agreement.{Agrees, step-agrees, opened-agrees, number-is}
 use Rattle.engine_columns.proofs.Doors.{opens-of}
-use Rattle.crossings.specs.declared.CrossingReply.{CrossingReply}
-use Rattle.crossings.specs.Crossing.{CrossingStep}
+use Rattle.crossing_answers.specs.declared.CrossingReply.{CrossingReply}
+use Rattle.crossing_answers.specs.Crossing.{CrossingStep}
 use Rattle.acceptance.specs.Listed.{OwnLengths, ListedCall, tallyAtEnd, numbers}
 use Rattle.acceptance.specs.Called.{OpenCalled, opened, Called, erased, weighed, undid, CrossingCalled, crossed, Calls, none, modified, crossing}
 use Rattle.acceptance.proofs.Agreeing.{scratchFits, crossing-number}

@@ -16,8 +16,8 @@ use Rattle.engine_columns.specs.Records.{Engine, engine, kept, numberOf}
 use Rattle.engine_columns.specs.Step.{Call, loadErasures, loadWeights, reset}
 use Rattle.engine_columns.specs.Open.{GraphColumns, graphColumns}
 use Rattle.tally.specs.Tally.{Fed, lengthsOf}
-use Rattle.crossings.specs.declared.CrossingReply.{CrossingReply}
-use Rattle.crossings.specs.Crossing.{replyNumber}
+use Rattle.crossing_answers.specs.declared.CrossingReply.{CrossingReply}
+use Rattle.crossing_answers.specs.Crossing.{replyNumber}
 use Rattle.example_codes.specs.declared.Created.{Created}
 use Rattle.example_codes.specs.declared.Created.the-variants.{Code}
 use Rattle.acceptance.specs.Listed.{OwnLengths, ListedCall, modifies, crosses}

@@ -13,9 +13,9 @@ use Rattle.walks.specs.Lists.{sum}
 use Rattle.walks.specs.Graph.{Graph, Left, Right, Joined, CrossingSet}
 use Rattle.walks.specs.Answers.{weightIn}
 use Rattle.walks.specs.Claims.{Alike, NotGreater, LeftWeight}
-use Rattle.crossings.specs.declared.CrossingReply.{CrossingReply}
-use Rattle.crossings.specs.declared.CrossingReply.the-variants.{Crossed}
-use Rattle.crossings.specs.Crossing.{replyNumber, replyWeight}
+use Rattle.crossing_answers.specs.declared.CrossingReply.{CrossingReply}
+use Rattle.crossing_answers.specs.declared.CrossingReply.the-variants.{Crossed}
+use Rattle.crossing_answers.specs.Crossing.{replyNumber, replyWeight}
 use Rattle.acceptance.specs.Listed.{OwnLengths, ListedCall, graphIn, weightsIn, before18, crossingNumber, modifying, tallyAtEnd, numbers}
 use Rattle.acceptance.specs.Called.{OpenCalled, Calls, CrossingCalled, CodeBuilt}
 

@@ -10,7 +10,7 @@ use Rattle.tally.specs.Tally.{Lengths, Tally, Fed, tallyLong, tallyDoor, tallyS
 use Rattle.walks.specs.Graph.{Graph}
 use Rattle.walks.specs.Answers.{crossing}
 use Rattle.searches.specs.Queries.{scratchLong}
-use Rattle.crossings.specs.Crossing.{isJoined}
+use Rattle.crossing_answers.specs.Crossing.{isJoined}
 
 -- the lengths of the columns that only a crossing is lent: the weight column and scratch
 pub record OwnLengths : Type 0 where

@@ -13,7 +13,7 @@ ghost use Rattle.engine_columns.specs.Records.{engine, counts};
 ghost use Rattle.searches.specs.Queries.{scratchLong};
 ghost use Rattle.searches.specs.Scratch.{scratchOf};
 ghost use Rattle.paths.specs.GetPath.{PathStep, PathScratchKept};
-ghost use Rattle.crossings.specs.Crossing.{CrossingStep, CrossingScratch, crossingDoor};
+ghost use Rattle.crossing_answers.specs.Crossing.{CrossingStep, CrossingScratch, crossingDoor};
 ghost use Rattle.c_reports.specs.Reports.{Reported};
 ghost use Rattle.c_queries.specs.Reports.{ReportsPath, ReportsCrossing};
 

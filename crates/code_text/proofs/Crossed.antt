@@ -26,10 +26,10 @@ use Rattle.layers.proofs.Accepted.{accepted}
 use Rattle.layers.proofs.Counted.{edges-counted, vertices-counted}
 use Rattle.code_graphs.specs.Graphs.{codeGraph}
 use Rattle.code_graphs.proofs.Sound.{built}
-use Rattle.crossings.specs.declared.CrossingReply.{CrossingReply}
-use Rattle.crossings.specs.declared.CrossingReply.the-variants.{Crossed, Refused}
+use Rattle.crossing_answers.specs.declared.CrossingReply.{CrossingReply}
+use Rattle.crossing_answers.specs.declared.CrossingReply.the-variants.{Crossed, Refused}
 use Rattle.searches.specs.Queries.{graphIn, weightsIn, scratchLong}
-use Rattle.crossings.specs.Crossing.{isJoined, replyOf, crossingDoor, crossingNumber, CrossingStep}
+use Rattle.crossing_answers.specs.Crossing.{isJoined, replyOf, crossingDoor, crossingNumber, CrossingStep}
 use Rattle.code_text.specs.Answer.{weightsOf, crossingOf}
 use Rattle.code_text.specs.Steps.{HoldsWeights, ScratchRoom}
 

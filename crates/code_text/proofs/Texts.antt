@@ -18,9 +18,9 @@ use Rattle.code_columns.specs.Edges.{firsts, seconds, boundaries}
 use Rattle.layers.specs.Codes.{edgesOf, verticesOf}
 use Rattle.layers.specs.Counts.{vertexNum, edgeNum}
 use Rattle.listing.specs.Text.{ended, vertexLine, edgeLine, graphLine, crossingLine, vertexLines, edgeLines, listing, refusalLine}
-use Rattle.crossings.specs.declared.CrossingReply.{CrossingReply}
-use Rattle.crossings.specs.declared.CrossingReply.the-variants.{Crossed, Refused}
-use Rattle.crossings.specs.Crossing.{replyOf}
+use Rattle.crossing_answers.specs.declared.CrossingReply.{CrossingReply}
+use Rattle.crossing_answers.specs.declared.CrossingReply.the-variants.{Crossed, Refused}
+use Rattle.crossing_answers.specs.Crossing.{replyOf}
 use Rattle.listing.specs.Steps.{Put}
 use Rattle.code_line.specs.declared.CodeLine.{CodeLine}
 use Rattle.code_line.specs.declared.LineRead.{LineRead}

@@ -7,7 +7,7 @@ ghost use Rattle.code_text.specs.Answer.{listingOf};
 ghost use Rattle.code_text.specs.Steps.{HoldsCode, HoldsWeights, ScratchRoom, Replied, replyText};
 use code_access::store_weights;
 use columns::Weight;
-use crossings::CrossingReply;
+use crossing_answers::CrossingReply;
 use crossings::crossing;
 use engine_columns::EngineCounts;
 use listing::write_listing;

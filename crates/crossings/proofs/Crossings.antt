@@ -24,11 +24,12 @@ use Rattle.walks.specs.Graph.{Graph}
 use Rattle.walks.specs.Settling.{State, weightAt, lesser, firstLeast, settled}
 use Rattle.walks.specs.Answers.{left, taken, tableWeight, weightOf, fromLeft, leastFromLeft, nearestRight, crossing}
 use Rattle.settling.specs.Ready.{graphOf, sources, endOf, sumLimit}
-use Rattle.crossings.specs.declared.CrossingReply.{CrossingReply}
-use Rattle.crossings.specs.declared.CrossingReply.the-variants.{Crossed, Refused}
+use Rattle.crossing_answers.specs.declared.CrossingReply.{CrossingReply}
+use Rattle.crossing_answers.specs.declared.CrossingReply.the-variants.{Crossed, Refused}
 use Rattle.searches.specs.Search.{Waiting}
-use Rattle.crossings.specs.Crossing.{isJoined, replyOf, crossingDoor, CrossingScratch, Coded, wherever}
-use Rattle.right_vertices.specs.Codes.{codeOf}
+use Rattle.crossing_answers.specs.Crossing.{isJoined, replyOf, crossingDoor, CrossingScratch}
+use Rattle.crossing_answers.specs.Codes.{Coded, wherever}
+use Rattle.crossing_answers.specs.Codes.{codeOf}
 use Rattle.searches.specs.Scratch.{ScratchColumns}
 
 -- ---- what stands for a weight

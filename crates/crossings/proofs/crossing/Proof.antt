@@ -14,7 +14,8 @@ use Rattle.walks.specs.Answers.{crossing, leastFromLeft}
 use Rattle.settling.specs.Ready.{graphOf}
 use Rattle.searches.specs.Queries.{graphIn, weightsIn, scratchLong}
 use Rattle.searches.specs.Scratch.{scratchOf}
-use Rattle.crossings.specs.Crossing.{isJoined, replyOf, crossingDoor, Coded, wherever}
+use Rattle.crossing_answers.specs.Crossing.{isJoined, replyOf, crossingDoor}
+use Rattle.crossing_answers.specs.Codes.{Coded, wherever}
 use Rattle.searches.proofs.Asked.{ScratchLong, scratch-of, searchable}
 use Rattle.crossings.proofs.Crossings.{CrossingAsked, crossing-of, door-passed, door-refused, reply-of, reply-passed, reply-refused, column-after, left-length, scratch-free, scratch-same}
 use borrow.Author.Needs.{needs}

@@ -9,7 +9,7 @@ use Rattle.walks.specs.Answers.{fromLeft, crossing}
 use Rattle.settling.specs.Ready.{graphOf, weighs, stateOf, sources, endOf}
 use Rattle.settling.proofs.Keys.{ready-as}
 use Rattle.searches.specs.Search.{Waiting}
-use Rattle.crossings.specs.Crossing.{Coded}
+use Rattle.crossing_answers.specs.Codes.{Coded}
 use Rattle.searches.proofs.Listing.{searchable-as, waiting-as}
 use Rattle.crossings.proofs.Crossings.{waiting-left, settled-left, found-is, column-is}
 use borrow.Author.Needs.{needs}

@@ -1,7 +1,7 @@
--- `crossings::crossing_door` meets its contract. Assumes nothing.
+-- `crossing_answers::crossing_door` meets its contract. Assumes nothing.
 use borrow.Author.Needs.{needs}
-use Rattle.crossings.proofs.crossing_door.Statement.{statement}
-use Rattle.crossings.proofs.crossing_door.Tie as tie
+use Rattle.crossing_answers.proofs.crossing_door.Statement.{statement}
+use Rattle.crossing_answers.proofs.crossing_door.Tie as tie
 
 long-enough-requires : tie.Need-long-enough-requires
 long-enough-requires c κs = search needs

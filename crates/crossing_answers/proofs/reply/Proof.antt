@@ -1,12 +1,12 @@
--- `crossings::reply` meets its contract. Assumes nothing.
+-- `crossing_answers::reply` meets its contract. Assumes nothing.
 use mathlib.Core.Path.{_≡_, refl, sym, ap, _∙_}
 use mathlib.Core.Bool.{Bool, true, false, cond, _&&_}
 use lib.Dec.{eqb, ltb}
 use borrow.Author.Tests.{eq-eqb, ne-eqb}
-use Rattle.crossings.specs.declared.CrossingReply.{CrossingReply}
-use Rattle.crossings.specs.declared.CrossingReply.the-variants.{Crossed, Refused}
-use Rattle.crossings.proofs.reply.Statement.{statement}
-use Rattle.crossings.proofs.reply.Tie as tie
+use Rattle.crossing_answers.specs.declared.CrossingReply.{CrossingReply}
+use Rattle.crossing_answers.specs.declared.CrossingReply.the-variants.{Crossed, Refused}
+use Rattle.crossing_answers.proofs.reply.Statement.{statement}
+use Rattle.crossing_answers.proofs.reply.Tie as tie
 
 returns : tie.Need-returns
 returns c = let s = c .before in sym (ap (λ b. cond b (Refused 18) (Crossed (s .args .found))) (eq-eqb (s .args .found) 2147483648 (c .if1 .taken)))

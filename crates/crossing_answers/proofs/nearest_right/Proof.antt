@@ -1,4 +1,4 @@
--- `right_vertices::nearest_right` meets its contract. Invariant: the least weight among the first v vertices. Assumes nothing.
+-- `crossing_answers::nearest_right` meets its contract. Invariant: the least weight among the first v vertices. Assumes nothing.
 use mathlib.Core.Path.{_≡_, refl, sym, ap, _∙_, subst}
 use mathlib.Core.Bool.{Bool, true, false, cond, _&&_}
 use mathlib.Core.List.{List}
@@ -10,11 +10,11 @@ use lib.Dec.{eqb, ltb}
 use Rattle.walks.specs.Settling.{State, firstLeast, weightAt}
 use Rattle.walks.specs.Answers.{taken, weightOf}
 use Rattle.settling.specs.Ready.{stateOf}
-use Rattle.right_vertices.specs.Codes.{codeOf}
-use Rattle.right_vertices.proofs.Nearest.{best-next}
+use Rattle.crossing_answers.specs.Codes.{codeOf}
+use Rattle.crossing_answers.proofs.Nearest.{best-next}
 use borrow.Author.Needs.{needs}
-use Rattle.right_vertices.proofs.nearest_right.Statement.{statement}
-use Rattle.right_vertices.proofs.nearest_right.Tie as tie
+use Rattle.crossing_answers.proofs.nearest_right.Statement.{statement}
+use Rattle.crossing_answers.proofs.nearest_right.Tie as tie
 
 abbrev Inv-loop : tie.InvT-loop
 Inv-loop status weight boundary best₀ v₀ best v = (v ≤ length status) × ((p : List ℕ) → best ≡ codeOf (weightOf (stateOf status weight p) (firstLeast (λ u. eqb (getD boundary u 0) 2 && taken (stateOf status weight p) u) (weightAt (stateOf status weight p)) v)))

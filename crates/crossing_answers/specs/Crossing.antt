@@ -1,20 +1,19 @@
 -- What the crossing query answers and leaves in the weight column.
-use Prim.Native.Nat.{ℕ, zero, suc, _<_}
+use Prim.Native.Nat.{ℕ, zero, suc}
 use mathlib.Core.Path.{_≡_}
-use mathlib.Core.Bool.{Bool, true, false, _&&_, cond}
+use mathlib.Core.Bool.{Bool, true, false, _&&_}
 use mathlib.Core.List.{List}
 use mathlib.Core.Option.{Option, some, none}
 use lib.ListN.{length}
-use lib.Seq.{sets}
-use lib.Dec.{leb, eqb}
+use lib.Dec.{leb}
 use lib.IntN.{ℤ}
 use Rattle.columns.specs.Lists.{after}
 use Rattle.columns.specs.Questions.{ask}
 use Rattle.engine_columns.specs.Records.{Engine}
 use Rattle.engine_columns.specs.Door.{longEnough, sound}
 use Rattle.walks.specs.Answers.{crossing, leastFromLeft}
-use Rattle.crossings.specs.declared.CrossingReply.{CrossingReply}
-use Rattle.crossings.specs.declared.CrossingReply.the-variants.{Crossed, Refused}
+use Rattle.crossing_answers.specs.declared.CrossingReply.{CrossingReply}
+use Rattle.crossing_answers.specs.declared.CrossingReply.the-variants.{Crossed, Refused}
 use Rattle.searches.specs.Queries.{graphIn, weightsIn}
 use Rattle.searches.specs.Scratch.{ScratchColumns}
 
@@ -56,15 +55,3 @@ pub record CrossingStep (e : Engine) (scratch : Bool) (r : CrossingReply) (weigh
 abbrev pub CrossingScratch : (door : ℕ) → ScratchColumns → ScratchColumns → Type 0
 CrossingScratch zero s₀ s = Unit {0}
 CrossingScratch (suc n) s₀ s = s ≡ s₀
-
--- ---- what private functions promise one another
-
--- r stands for a crossing weight or for none
-abbrev pub Coded : ℕ → Option ℕ → Type 0
-Coded r none = r ≡ 2147483648
-Coded r (some weight) = (r ≡ weight) × (weight < 2147483648)
-
--- the column where a weight was found, else unchanged
-abbrev pub wherever : Option ℕ → List ℤ → List ℤ → List ℤ
-wherever none column weights₀ = weights₀
-wherever (some weight) column weights₀ = sets weights₀ 0 column

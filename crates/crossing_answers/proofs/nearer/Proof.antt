@@ -1,11 +1,11 @@
--- `right_vertices::nearer` meets its contract. Assumes nothing.
+-- `crossing_answers::nearer` meets its contract. Assumes nothing.
 use mathlib.Core.Path.{_≡_, refl, sym, ap, _∙_}
 use mathlib.Core.Bool.{Bool, true, false, cond, _&&_}
 use lib.Dec.{eqb, ltb}
 use native.Mathlib.Omega.{arith}
 use borrow.Author.Tests.{eq-eqb, ne-eqb, lt-ltb, le-ltb}
-use Rattle.right_vertices.proofs.nearer.Statement.{statement}
-use Rattle.right_vertices.proofs.nearer.Tie as tie
+use Rattle.crossing_answers.proofs.nearer.Statement.{statement}
+use Rattle.crossing_answers.proofs.nearer.Tie as tie
 
 returns : tie.Need-returns
 returns c = let s = c .before .before .before in sym (ap (λ b. cond (b && eqb (s .args .status) 2) (cond (ltb (s .args .weight) (s .args .best)) (s .args .weight) (s .args .best)) (s .args .best)) (eq-eqb (s .args .boundary) 2 (c .before .before .if1 .taken))

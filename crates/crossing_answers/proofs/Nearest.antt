@@ -8,7 +8,7 @@ use borrow.Author.Tests.{lt-ltb}
 use Rattle.walks.specs.Settling.{State, weightAt, lesser, firstLeast}
 use Rattle.walks.specs.Answers.{weightOf}
 use Rattle.settling.specs.Ready.{sumLimit}
-use Rattle.right_vertices.specs.Codes.{codeOf}
+use Rattle.crossing_answers.specs.Codes.{codeOf}
 
 module _ (s : State) (test : ℕ → Bool) where
   best : ℕ → ℕ

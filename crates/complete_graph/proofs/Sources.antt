@@ -15,7 +15,7 @@ use Rattle.columns.specs.Lists.{each}
 use Rattle.columns.proofs.Counting.{length-each}
 use Rattle.walks.specs.Answers.{only, table, tableWeight, tablePrevious}
 use Rattle.walks.proofs.Turns.{source-stops-nothing}
-use Rattle.settling.specs.Ready.{endOf}
+use Rattle.relaxing.specs.Ready.{endOf}
 use Rattle.complete_graph.specs.declared.End.{End}
 use Rattle.complete_graph.specs.declared.End.the-variants.{None, At}
 use Rattle.complete_graph.specs.Ends.{endIn, endInRange}

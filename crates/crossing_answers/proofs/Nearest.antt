@@ -7,7 +7,7 @@ use lib.Dec.{ltb}
 use borrow.Author.Tests.{lt-ltb}
 use Rattle.walks.specs.Settling.{State, weightAt, lesser, firstLeast}
 use Rattle.walks.specs.Answers.{weightOf}
-use Rattle.settling.specs.Ready.{sumLimit}
+use Rattle.relaxing.specs.Ready.{sumLimit}
 use Rattle.crossing_answers.specs.Codes.{codeOf}
 
 module _ (s : State) (test : ℕ → Bool) where

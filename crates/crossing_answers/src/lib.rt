@@ -8,7 +8,7 @@ ghost use lib.Dec.{eqb, ltb};
 ghost use Rattle.engine_columns.specs.Records.{engine};
 ghost use Rattle.walks.specs.Settling.{firstLeast, weightAt};
 ghost use Rattle.walks.specs.Answers.{taken, weightOf};
-ghost use Rattle.settling.specs.Ready.{stateOf, sumLimit};
+ghost use Rattle.relaxing.specs.Ready.{stateOf, sumLimit};
 ghost use Rattle.crossing_answers.specs.Codes.{codeOf};
 ghost use Rattle.crossing_answers.specs.Crossing.{crossingDoor};
 use columns::Weight;

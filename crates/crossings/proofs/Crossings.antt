@@ -23,7 +23,7 @@ use Rattle.walks.specs.Lists.{bit, delta}
 use Rattle.walks.specs.Graph.{Graph}
 use Rattle.walks.specs.Settling.{State, weightAt, lesser, firstLeast, settled}
 use Rattle.walks.specs.Answers.{left, taken, tableWeight, weightOf, fromLeft, leastFromLeft, nearestRight, crossing}
-use Rattle.settling.specs.Ready.{graphOf, sources, endOf, sumLimit}
+use Rattle.relaxing.specs.Ready.{graphOf, sources, endOf, sumLimit}
 use Rattle.crossing_answers.specs.declared.CrossingReply.{CrossingReply}
 use Rattle.crossing_answers.specs.declared.CrossingReply.the-variants.{Crossed, Refused}
 use Rattle.searches.specs.Search.{Waiting}

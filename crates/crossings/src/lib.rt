@@ -9,7 +9,7 @@ ghost use lib.Dec.{eqb};
 ghost use Rattle.columns.specs.Lists.{each};
 ghost use Rattle.engine_columns.specs.Records.{engine};
 ghost use Rattle.walks.specs.Answers.{tableWeight, crossing, leastFromLeft};
-ghost use Rattle.settling.specs.Ready.{graphOf, weighs, stateOf, sumLimit};
+ghost use Rattle.relaxing.specs.Ready.{graphOf, weighs, stateOf, sumLimit};
 ghost use Rattle.searches.specs.Queries.{scratchLong};
 ghost use Rattle.searches.specs.Scratch.{scratchOf};
 ghost use Rattle.searches.specs.Search.{Searchable};

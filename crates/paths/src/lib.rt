@@ -5,7 +5,7 @@ ghost use Prim.Native.Nat.{ℕ, _<_, _≤_};
 ghost use lib.ListN.{length};
 ghost use Rattle.engine_columns.specs.Records.{engine};
 ghost use Rattle.walks.specs.Answers.{path};
-ghost use Rattle.settling.specs.Ready.{stateOf, graphOf, weighs};
+ghost use Rattle.relaxing.specs.Ready.{stateOf, graphOf, weighs};
 ghost use Rattle.searches.specs.Queries.{scratchLong};
 ghost use Rattle.searches.specs.Scratch.{scratchOf};
 ghost use Rattle.paths.specs.GetPath.{found, verticesAfter, stepsAfter, PathStep, PathScratchKept, GetPathIsLeast};

@@ -5,7 +5,7 @@ ghost use Prim.Native.Nat.{ℕ, _≤_};
 ghost use lib.ListN.{length, getD};
 ghost use lib.Seq.{sets};
 ghost use Rattle.walks.specs.Answers.{entry, readBack, stepInto, taken};
-ghost use Rattle.settling.specs.Ready.{stateOf};
+ghost use Rattle.relaxing.specs.Ready.{stateOf};
 ghost use Rattle.read_back.specs.Path.{stepBack, entryOf};
 use columns::VertexIndex;
 use columns::Weight;

@@ -6,7 +6,7 @@ use native.Mathlib.Omega.{arith}
 use lib.ListN.{length, getD, take}
 use Rattle.columns.proofs.Columns.{take-over}
 use Rattle.neighbors.specs.Lists.{lists, ListsFilled}
-use Rattle.settling.specs.Ready.{Listed}
+use Rattle.relaxing.specs.Ready.{Listed}
 use Rattle.searches.specs.Search.{Searchable, Waiting}
 
 pub listed : {n : ℕ} {a b w numbers₀ ends₀ weight previous node leaf lengths₀ lengths numbers ends : List ℕ} → Searchable n a b w numbers₀ ends₀ weight previous node leaf

@@ -10,7 +10,7 @@ use lib.Seq.{getD-set-same, getD-set-other}
 use lib.Dec.{eqb}
 use borrow.Author.Tests.{eq-eqb, ne-eqb}
 use Rattle.walks.specs.Answers.{only}
-use Rattle.settling.specs.Ready.{sources}
+use Rattle.relaxing.specs.Ready.{sources}
 use Rattle.searches.specs.Search.{Waiting}
 
 module _ (n a : ℕ) (inside : a < n) where

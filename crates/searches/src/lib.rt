@@ -11,7 +11,7 @@ ghost use Rattle.columns.specs.Lists.{each};
 ghost use Rattle.engine_columns.specs.Records.{engine};
 ghost use Rattle.walks.specs.Settling.{settled};
 ghost use Rattle.walks.specs.Answers.{tableWeight, tablePrevious};
-ghost use Rattle.settling.specs.Ready.{graphOf, weighs, stateOf, Ready, sources, endOf, sumLimit};
+ghost use Rattle.relaxing.specs.Ready.{graphOf, weighs, stateOf, Ready, sources, endOf, sumLimit};
 ghost use Rattle.searches.specs.Queries.{scratchLong, queryDoor};
 ghost use Rattle.searches.specs.Search.{Searchable, Waiting};
 use columns::VertexIndex;

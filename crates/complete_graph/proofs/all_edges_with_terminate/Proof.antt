@@ -10,7 +10,7 @@ use Rattle.columns.specs.Lists.{after}
 use Rattle.columns.proofs.Columns.{sets-over, after-accepted, after-refused}
 use Rattle.engine_columns.specs.Records.{Engine, engine}
 use Rattle.walks.specs.Answers.{table}
-use Rattle.settling.specs.Ready.{endOf, graphOf, weighs}
+use Rattle.relaxing.specs.Ready.{endOf, graphOf, weighs}
 use Rattle.searches.specs.Queries.{graphIn, weightsIn, scratchLong}
 use Rattle.complete_graph.specs.Ends.{endIn}
 use Rattle.complete_graph.specs.Steps.{tableDoor}

@@ -9,7 +9,7 @@ use lib.ListN.{length, getD}
 use lib.Dec.{eqb, ltb}
 use Rattle.walks.specs.Settling.{State, firstLeast, weightAt}
 use Rattle.walks.specs.Answers.{taken, weightOf}
-use Rattle.settling.specs.Ready.{stateOf}
+use Rattle.relaxing.specs.Ready.{stateOf}
 use Rattle.crossing_answers.specs.Codes.{codeOf}
 use Rattle.crossing_answers.proofs.Nearest.{best-next}
 use borrow.Author.Needs.{needs}

@@ -11,7 +11,7 @@ use Rattle.columns.specs.Questions.{ask}
 use Rattle.columns.proofs.Columns.{after-refused}
 use Rattle.engine_columns.specs.Records.{Engine, engine}
 use Rattle.walks.specs.Answers.{crossing, leastFromLeft}
-use Rattle.settling.specs.Ready.{graphOf}
+use Rattle.relaxing.specs.Ready.{graphOf}
 use Rattle.searches.specs.Queries.{graphIn, weightsIn, scratchLong}
 use Rattle.searches.specs.Scratch.{scratchOf}
 use Rattle.crossing_answers.specs.Crossing.{isJoined, replyOf, crossingDoor}

@@ -10,7 +10,7 @@ use lib.Seq.{sets}
 use Rattle.columns.proofs.Columns.{sets-over}
 use Rattle.walks.specs.Settling.{State, weightAt}
 use Rattle.walks.specs.Answers.{readBack, stepInto, taken, FoundPath}
-use Rattle.settling.specs.Ready.{stateOf}
+use Rattle.relaxing.specs.Ready.{stateOf}
 use Rattle.paths.specs.declared.PathAnswer.the-variants.{Found, Refused}
 use Rattle.read_back.specs.Path.{pathOf}
 use Rattle.paths.specs.GetPath.{found, verticesAfter, stepsAfter}

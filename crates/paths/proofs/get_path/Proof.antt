@@ -11,7 +11,7 @@ use lib.Dec.{eqb}
 use borrow.Author.Tests.{ne-eqb}
 use Rattle.engine_columns.specs.Records.{Engine, engine}
 use Rattle.walks.specs.Answers.{path}
-use Rattle.settling.specs.Ready.{graphOf}
+use Rattle.relaxing.specs.Ready.{graphOf}
 use Rattle.searches.specs.Queries.{graphIn, weightsIn, scratchLong}
 use Rattle.paths.specs.GetPath.{pathDoor, found, pathReply, verticesAfter, stepsAfter}
 use Rattle.searches.proofs.Asked.{ScratchLong, scratch-of, searchable}

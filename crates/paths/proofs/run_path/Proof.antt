@@ -10,8 +10,8 @@ use lib.Dec.{ltb}
 use borrow.Author.Tests.{lt-ltb}
 use Rattle.walks.specs.Settling.{State, settled}
 use Rattle.walks.specs.Answers.{only, path}
-use Rattle.settling.specs.Ready.{stateOf, graphOf, weighs, sources, endOf, Ready}
-use Rattle.settling.proofs.Keys.{ready-as}
+use Rattle.relaxing.specs.Ready.{stateOf, graphOf, weighs, sources, endOf, Ready}
+use Rattle.relaxing.proofs.Keys.{ready-as}
 use Rattle.read_back.specs.Path.{pathOf}
 use Rattle.paths.specs.GetPath.{found, verticesAfter, stepsAfter}
 use Rattle.searches.specs.Search.{Waiting}

@@ -9,7 +9,7 @@ use lib.ListN.{length, getD, List·getD-eq-default}
 use lib.Dec.{eqb}
 use borrow.Author.Tests.{eq-eqb, ne-eqb}
 use Rattle.walks.specs.Answers.{entry, readBack}
-use Rattle.settling.specs.Ready.{stateOf}
+use Rattle.relaxing.specs.Ready.{stateOf}
 use Rattle.read_back.specs.Path.{entryOf, stepBack}
 use borrow.Author.Needs.{needs}
 use Rattle.read_back.proofs.entry_at.Statement.{statement}

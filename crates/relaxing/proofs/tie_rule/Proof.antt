@@ -1,11 +1,11 @@
--- `settling::tie_rule` meets its contract. Assumes nothing.
+-- `relaxing::tie_rule` meets its contract. Assumes nothing.
 use mathlib.Core.Path.{_≡_, refl, sym, ap, ap₂, _∙_}
 use Prim.Native.Nat.{ℕ, zero, suc, _+_, _*_, _<_, _≤_}
 use native.Mathlib.Omega.{arith}
 use Rattle.walks.proofs.TurnCases.{changes-lighter, changes-heavier, changes-nearer, changes-farther, changes-equally-near}
 use borrow.Author.Needs.{needs}
-use Rattle.settling.proofs.tie_rule.Statement.{statement}
-use Rattle.settling.proofs.tie_rule.Tie as tie
+use Rattle.relaxing.proofs.tie_rule.Statement.{statement}
+use Rattle.relaxing.proofs.tie_rule.Tie as tie
 
 returns : tie.Need-returns
 returns c = let s = c .before .args in sym (changes-lighter (s .u) (s .k) (s .q) (s .w) (s .p) (c .if1 .taken))

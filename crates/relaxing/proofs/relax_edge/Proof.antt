@@ -1,14 +1,14 @@
--- `settling::relax_edge` meets its contract. Assumes nothing.
+-- `relaxing::relax_edge` meets its contract. Assumes nothing.
 use mathlib.Core.Path.{_≡_, refl, sym, ap, ap₂, _∙_}
 use Prim.Native.Nat.{ℕ, zero, suc, _+_, _*_, _<_, _≤_}
 use native.Mathlib.Omega.{arith}
 use lib.ListN.{length, getD}
 use Rattle.walks.specs.Settling.{offer}
-use Rattle.settling.specs.Ready.{stateOf, graphOf, weighs}
-use Rattle.settling.proofs.Keys.{other-in, edge-by}
+use Rattle.relaxing.specs.Ready.{stateOf, graphOf, weighs}
+use Rattle.relaxing.proofs.Keys.{other-in, edge-by}
 use borrow.Author.Needs.{needs}
-use Rattle.settling.proofs.relax_edge.Statement.{statement}
-use Rattle.settling.proofs.relax_edge.Tie as tie
+use Rattle.relaxing.proofs.relax_edge.Statement.{statement}
+use Rattle.relaxing.proofs.relax_edge.Tie as tie
 
 mul-other-end : tie.Need-mul-other-end
 mul-other-end c = search needs

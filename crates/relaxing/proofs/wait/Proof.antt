@@ -1,11 +1,11 @@
--- `settling::wait` meets its contract. Assumes nothing.
+-- `relaxing::wait` meets its contract. Assumes nothing.
 use mathlib.Core.Path.{_≡_, refl, sym, ap, ap₂, _∙_}
 use Prim.Native.Nat.{ℕ, zero, suc, _+_, _*_, _<_, _≤_}
 use native.Mathlib.Omega.{arith}
-use Rattle.settling.proofs.Keys.{ready-waits}
+use Rattle.relaxing.proofs.Keys.{ready-waits}
 use borrow.Author.Needs.{needs}
-use Rattle.settling.proofs.wait.Statement.{statement}
-use Rattle.settling.proofs.wait.Tie as tie
+use Rattle.relaxing.proofs.wait.Statement.{statement}
+use Rattle.relaxing.proofs.wait.Tie as tie
 
 slice-write-status : tie.Need-slice-write-status
 slice-write-status c = let s = c .before .before .before .before .before in omega (arith, s .pre .0 .status-fits)

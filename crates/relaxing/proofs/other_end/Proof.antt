@@ -1,11 +1,11 @@
--- `settling::other_end` meets its contract. Assumes nothing.
+-- `relaxing::other_end` meets its contract. Assumes nothing.
 use mathlib.Core.Path.{_≡_, refl, sym, ap, ap₂, _∙_}
 use Prim.Native.Nat.{ℕ, zero, suc, _+_, _*_, _<_, _≤_}
 use native.Mathlib.Omega.{arith}
 use borrow.Author.Tests.{eq-eqb, ne-eqb}
 use borrow.Author.Needs.{needs}
-use Rattle.settling.proofs.other_end.Statement.{statement}
-use Rattle.settling.proofs.other_end.Tie as tie
+use Rattle.relaxing.proofs.other_end.Statement.{statement}
+use Rattle.relaxing.proofs.other_end.Tie as tie
 
 returns : tie.Need-returns
 returns c = simp (eq-eqb _ _ (c .if1 .taken))

@@ -1,12 +1,12 @@
--- `settling::is_accepted` meets its contract. Assumes nothing.
+-- `relaxing::is_accepted` meets its contract. Assumes nothing.
 use mathlib.Core.Path.{_≡_, refl, sym, ap, ap₂, _∙_}
 use Prim.Native.Nat.{ℕ, zero, suc, _+_, _*_, _<_, _≤_}
 use native.Mathlib.Omega.{arith}
 use mathlib.Core.Bool.{Bool, false}
-use Rattle.settling.specs.Ready.{accepts}
+use Rattle.relaxing.specs.Ready.{accepts}
 use borrow.Author.Needs.{needs}
-use Rattle.settling.proofs.is_accepted.Statement.{statement}
-use Rattle.settling.proofs.is_accepted.Tie as tie
+use Rattle.relaxing.proofs.is_accepted.Statement.{statement}
+use Rattle.relaxing.proofs.is_accepted.Tie as tie
 
 go : (x : ℕ) → (x ≡ 0 → ⊥) → (x ≡ 1 → ⊥) → (b : Bool) → false ≡ accepts x b
 go zero f g b = absurd (f refl)

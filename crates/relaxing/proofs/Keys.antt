@@ -15,7 +15,7 @@ use Rattle.priority_queue.specs.Tree as Q
 use Rattle.walks.specs.Graph.{Graph, endA, endB}
 use Rattle.walks.specs.Settling.{State, statusAt, weightAt, previousAt, changes, waits, mark, byStatus, offer, relaxEdge}
 use Rattle.walks.proofs.TurnCases.{edge-from-a, edge-from-b}
-use Rattle.settling.specs.Ready.{keyOf, accepts, Ready, Listed, sumLimit, graphOf, weighs}
+use Rattle.relaxing.specs.Ready.{keyOf, accepts, Ready, Listed, sumLimit, graphOf, weighs}
 
 -- a store into one place, read at any place
 stored : (l : List ℕ) (u x v : ℕ) → u < length l → ((v ≡ u) × (getD (set l u x) v 0 ≡ x)) ⊎ ((v ≡ u → ⊥) × (getD (set l u x) v 0 ≡ getD l v 0))

@@ -1,14 +1,14 @@
--- `settling::offer_to` meets its contract. Assumes nothing.
+-- `relaxing::offer_to` meets its contract. Assumes nothing.
 use mathlib.Core.Path.{_≡_, refl, sym, ap, ap₂, _∙_}
 use Prim.Native.Nat.{ℕ, zero, suc, _+_, _*_, _<_, _≤_}
 use native.Mathlib.Omega.{arith}
 use mathlib.Core.Bool.{true, false, cond}
 use Rattle.walks.specs.Settling.{statusAt, weightAt, previousAt, changes, waits}
-use Rattle.settling.specs.Ready.{stateOf, accepts}
-use Rattle.settling.proofs.Keys.{offer-by}
+use Rattle.relaxing.specs.Ready.{stateOf, accepts}
+use Rattle.relaxing.proofs.Keys.{offer-by}
 use borrow.Author.Needs.{needs}
-use Rattle.settling.proofs.offer_to.Statement.{statement}
-use Rattle.settling.proofs.offer_to.Tie as tie
+use Rattle.relaxing.proofs.offer_to.Statement.{statement}
+use Rattle.relaxing.proofs.offer_to.Tie as tie
 
 mul-tie-rule : tie.Need-mul-tie-rule
 mul-tie-rule c = omega (arith, c .before .before .before .before .before .pre .0 .few)

@@ -12,23 +12,23 @@ use lib.IntN.{ℤ, negsuc}
 use Rattle.columns.specs.Lists.{over, after}
 use Rattle.columns.specs.Questions.{ask}
 use Rattle.columns.proofs.Columns.{over-in, after-accepted}
-use Rattle.edge_modifier.specs.declared.EngineCounts.{EngineCounts}
-use Rattle.edge_modifier.specs.Records.{Engine}
-use Rattle.edge_modifier.specs.Door.{longEnough, sound}
-use Rattle.edge_modifier.specs.Tally.{Tally, Fed, Lengths, lengthsOf, tallyLong, tallied, accepts, tallyStep, tallyAfter}
-use Rattle.edge_modifier.specs.Step.{Call, loadErasures, loadWeights, reset}
-use Rattle.edge_modifier.proofs.Agreement.{Agrees, long-same}
-use Rattle.edge_modifier.proofs.Doors.{sound-from}
+use Rattle.engine_columns.specs.declared.EngineCounts.{EngineCounts}
+use Rattle.engine_columns.specs.Records.{Engine}
+use Rattle.engine_columns.specs.Door.{longEnough, sound}
+use Rattle.tally.specs.Tally.{Tally, Fed, Lengths, lengthsOf, tallyLong, tallied, accepts, tallyStep, tallyAfter}
+use Rattle.engine_columns.specs.Step.{Call, loadErasures, loadWeights, reset}
+use Rattle.tally.proofs.Agreement.{Agrees, long-same}
+use Rattle.engine_columns.proofs.Doors.{sound-from}
 use Rattle.walks.specs.Graph.{Graph, edges, InRange}
 use Rattle.walks.specs.Answers.{crossing, leastFromLeft, weightIn}
-use Rattle.crossings.specs.declared.CrossingReply.{CrossingReply}
-use Rattle.crossings.specs.declared.CrossingReply.the-variants.{Crossed, Refused}
-use Rattle.complete_graph.specs.Queries as Q
-use Rattle.complete_graph.specs.Queries.{scratchLong}
-use Rattle.crossings.specs.Crossing as C
-use Rattle.crossings.specs.Crossing.{isJoined, replyOf, replyNumber, replyWeight, CrossingStep}
+use Rattle.crossing_answers.specs.declared.CrossingReply.{CrossingReply}
+use Rattle.crossing_answers.specs.declared.CrossingReply.the-variants.{Crossed, Refused}
+use Rattle.searches.specs.Queries as Q
+use Rattle.searches.specs.Queries.{scratchLong}
+use Rattle.crossing_answers.specs.Crossing as C
+use Rattle.crossing_answers.specs.Crossing.{isJoined, replyOf, replyNumber, replyWeight, CrossingStep}
 use Rattle.crossings.proofs.Crossings.{left-length}
-use Rattle.complete_graph.proofs.Ranges.{in-range}
+use Rattle.searches.proofs.Ranges.{in-range}
 use Rattle.acceptance.specs.Listed.{OwnLengths, graphIn, weightsIn, crossingLong, before18, crossingNumber}
 
 -- whether scratch is long enough, from its lengths

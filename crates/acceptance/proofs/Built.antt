@@ -8,8 +8,8 @@ use lib.ListN.{length, take, length-map}
 use lib.Ieee.{Float}
 use Rattle.columns.specs.Lists.{over, after}
 use Rattle.columns.proofs.Columns.{take-over, after-accepted}
-use Rattle.edge_modifier.specs.Open.{GraphColumns}
-use Rattle.edge_modifier.specs.Tally.{tallyOf}
+use Rattle.engine_columns.specs.Open.{GraphColumns}
+use Rattle.tally.specs.Tally.{tallyOf}
 use Rattle.walks.specs.Answers.{crossing}
 use Rattle.code_columns.specs.Edges.{Ends, firsts, seconds, boundaries}
 use Rattle.code_columns.specs.declared.CodeVertex.{CodeVertex}

@@ -6,17 +6,17 @@ use Prim.Native.Nat.{ℕ, _≤_, _<_}
 use lib.ListN.{length}
 use lib.Dec.{eqb}
 use lib.IntN.{ℤ}
-use Rattle.edge_modifier.specs.declared.EngineCounts.{EngineCounts}
-use Rattle.edge_modifier.specs.declared.EngineAnswer.{EngineAnswer}
-use Rattle.edge_modifier.specs.declared.EngineAnswer.the-variants.{Counts, Refused}
-use Rattle.edge_modifier.specs.Records.{Engine, engine, counts, kept, numberOf}
-use Rattle.edge_modifier.specs.Step.{Call, Step, answered}
-use Rattle.edge_modifier.specs.Open.{GraphColumns, graphColumns, openDoor, OpenStep}
-use Rattle.edge_modifier.specs.Tally.{Tally, tallyOf, lengthsOf, tallyStep}
-use Rattle.edge_modifier.proofs.Agreement.{Agrees, step-agrees, opened-agrees, number-is}
-use Rattle.edge_modifier.proofs.Doors.{opens-of}
-use Rattle.crossings.specs.declared.CrossingReply.{CrossingReply}
-use Rattle.crossings.specs.Crossing.{CrossingStep}
+use Rattle.engine_columns.specs.declared.EngineCounts.{EngineCounts}
+use Rattle.engine_columns.specs.declared.EngineAnswer.{EngineAnswer}
+use Rattle.engine_columns.specs.declared.EngineAnswer.the-variants.{Counts, Refused}
+use Rattle.engine_columns.specs.Records.{Engine, engine, counts, kept, numberOf}
+use Rattle.engine_columns.specs.Step.{Call, Step, answered}
+use Rattle.engine_columns.specs.Open.{GraphColumns, graphColumns, openDoor, OpenStep}
+use Rattle.tally.specs.Tally.{Tally, tallyOf, lengthsOf, tallyStep}
+use Rattle.tally.proofs.Agreement.{Agrees, step-agrees, opened-agrees, number-is}
+use Rattle.engine_columns.proofs.Doors.{opens-of}
+use Rattle.crossing_answers.specs.declared.CrossingReply.{CrossingReply}
+use Rattle.crossing_answers.specs.Crossing.{CrossingStep}
 use Rattle.acceptance.specs.Listed.{OwnLengths, ListedCall, tallyAtEnd, numbers}
 use Rattle.acceptance.specs.Called.{OpenCalled, opened, Called, erased, weighed, undid, CrossingCalled, crossed, Calls, none, modified, crossing}
 use Rattle.acceptance.proofs.Agreeing.{scratchFits, crossing-number}

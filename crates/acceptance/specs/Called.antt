@@ -9,15 +9,15 @@ use contract.Lifetimes.{Lfts}
 use borrow.Fn.Kinds.{Dens, endedOf}
 use denote.Triple.Clauses.{AtExit}
 use denote.Ref.{now}
-use Rattle.edge_modifier.specs.declared.EngineCounts.{EngineCounts}
-use Rattle.edge_modifier.specs.declared.EngineAnswer.{EngineAnswer}
-use Rattle.edge_modifier.specs.declared.EngineAnswer.the-variants.{Counts, Refused}
-use Rattle.edge_modifier.specs.Records.{Engine, engine, kept, numberOf}
-use Rattle.edge_modifier.specs.Step.{Call, loadErasures, loadWeights, reset}
-use Rattle.edge_modifier.specs.Open.{GraphColumns, graphColumns}
-use Rattle.edge_modifier.specs.Tally.{Fed, lengthsOf}
-use Rattle.crossings.specs.declared.CrossingReply.{CrossingReply}
-use Rattle.crossings.specs.Crossing.{replyNumber}
+use Rattle.engine_columns.specs.declared.EngineCounts.{EngineCounts}
+use Rattle.engine_columns.specs.declared.EngineAnswer.{EngineAnswer}
+use Rattle.engine_columns.specs.declared.EngineAnswer.the-variants.{Counts, Refused}
+use Rattle.engine_columns.specs.Records.{Engine, engine, kept, numberOf}
+use Rattle.engine_columns.specs.Step.{Call, loadErasures, loadWeights, reset}
+use Rattle.engine_columns.specs.Open.{GraphColumns, graphColumns}
+use Rattle.tally.specs.Tally.{Fed, lengthsOf}
+use Rattle.crossing_answers.specs.declared.CrossingReply.{CrossingReply}
+use Rattle.crossing_answers.specs.Crossing.{replyNumber}
 use Rattle.example_codes.specs.declared.Created.{Created}
 use Rattle.example_codes.specs.declared.Created.the-variants.{Code}
 use Rattle.acceptance.specs.Listed.{OwnLengths, ListedCall, modifies, crosses}

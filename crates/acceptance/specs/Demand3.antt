@@ -5,17 +5,17 @@ use mathlib.Core.Logic.{_↔_}
 use mathlib.Core.List.{List}
 use lib.ListN.{getD, take}
 use lib.IntN.{ℤ}
-use Rattle.edge_modifier.specs.Records.{Engine}
-use Rattle.edge_modifier.specs.Open.{GraphColumns}
-use Rattle.edge_modifier.specs.Tally.{Tally, tallyOf, tallyNumbers, lengthsOf}
-use Rattle.edge_modifier.specs.Readers.{callsSay, weightBy}
+use Rattle.engine_columns.specs.Records.{Engine}
+use Rattle.engine_columns.specs.Open.{GraphColumns}
+use Rattle.tally.specs.Tally.{Tally, tallyOf, tallyNumbers, lengthsOf}
+use Rattle.tally.specs.Readers.{callsSay, weightBy}
 use Rattle.walks.specs.Lists.{sum}
 use Rattle.walks.specs.Graph.{Graph, Left, Right, Joined, CrossingSet}
 use Rattle.walks.specs.Answers.{weightIn}
 use Rattle.walks.specs.Claims.{Alike, NotGreater, LeftWeight}
-use Rattle.crossings.specs.declared.CrossingReply.{CrossingReply}
-use Rattle.crossings.specs.declared.CrossingReply.the-variants.{Crossed}
-use Rattle.crossings.specs.Crossing.{replyNumber, replyWeight}
+use Rattle.crossing_answers.specs.declared.CrossingReply.{CrossingReply}
+use Rattle.crossing_answers.specs.declared.CrossingReply.the-variants.{Crossed}
+use Rattle.crossing_answers.specs.Crossing.{replyNumber, replyWeight}
 use Rattle.acceptance.specs.Listed.{OwnLengths, ListedCall, graphIn, weightsIn, before18, crossingNumber, modifying, tallyAtEnd, numbers}
 use Rattle.acceptance.specs.Called.{OpenCalled, Calls, CrossingCalled, CodeBuilt}
 

@@ -5,12 +5,12 @@ use mathlib.Core.List.{List, [], _∷_}
 use lib.ListN.{getD}
 use lib.Dec.{leb}
 use Rattle.columns.specs.Questions.{ask}
-use Rattle.edge_modifier.specs.declared.EngineCounts.{EngineCounts}
-use Rattle.edge_modifier.specs.Tally.{Lengths, Tally, Fed, tallyLong, tallyDoor, tallyStep, tallyAfter}
+use Rattle.engine_columns.specs.declared.EngineCounts.{EngineCounts}
+use Rattle.tally.specs.Tally.{Lengths, Tally, Fed, tallyLong, tallyDoor, tallyStep, tallyAfter}
 use Rattle.walks.specs.Graph.{Graph}
 use Rattle.walks.specs.Answers.{crossing}
-use Rattle.complete_graph.specs.Queries.{scratchLong}
-use Rattle.crossings.specs.Crossing.{isJoined}
+use Rattle.searches.specs.Queries.{scratchLong}
+use Rattle.crossing_answers.specs.Crossing.{isJoined}
 
 -- the lengths of the columns that only a crossing is lent: the weight column and scratch
 pub record OwnLengths : Type 0 where

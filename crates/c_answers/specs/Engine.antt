@@ -1,8 +1,8 @@
 -- What is handed to C for an answer of the engine, and an end from numbers.
 use Prim.Native.Nat.{ℕ, zero, suc}
 use mathlib.Core.Path.{_≡_}
-use Rattle.edge_modifier.specs.declared.EngineAnswer.{EngineAnswer}
-use Rattle.edge_modifier.specs.Records as engine
+use Rattle.engine_columns.specs.declared.EngineAnswer.{EngineAnswer}
+use Rattle.engine_columns.specs.Records as engine
 use Rattle.complete_graph.specs.declared.End.{End}
 use Rattle.complete_graph.specs.declared.End.the-variants.{None, At}
 use Rattle.c_answers.specs.declared.engine.EngineReport.{EngineReport}

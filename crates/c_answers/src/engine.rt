@@ -1,10 +1,10 @@
 // Answers as structs of numbers, and enum arguments from numbers.
 use columns::VertexIndex;
 use complete_graph::End;
-use edge_modifier::EngineAnswer;
-use edge_modifier::EngineCounts;
+use engine_columns::EngineAnswer;
+use engine_columns::EngineCounts;
 ghost use mathlib.Core.Path.{_≡_};
-ghost use Rattle.edge_modifier.specs.Records as engine;
+ghost use Rattle.engine_columns.specs.Records as engine;
 ghost use Rattle.c_answers.specs.Engine.{ReportsEngine, verticesOf, edgesOf, entriesOf, endOf};
 
 #[repr(C)]

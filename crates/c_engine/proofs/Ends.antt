@@ -5,7 +5,7 @@ use mathlib.Core.Bool.{Bool}
 use mathlib.Core.List.{List}
 use lib.IntN.{ℤ}
 use Rattle.columns.specs.declared.Done.{Done}
-use Rattle.edge_modifier.specs.Records.{Engine}
+use Rattle.engine_columns.specs.Records.{Engine}
 use Rattle.complete_graph.specs.declared.End.{End}
 use Rattle.complete_graph.specs.Steps.{TableStep}
 

@@ -1,12 +1,12 @@
 ghost use Rattle.c_reports.specs.Reports.{Reported};
 ghost use Rattle.c_answers.specs.Engine.{ReportsEngine};
-ghost use Rattle.edge_modifier.specs.Open.{OpenStep, graphColumns};
-ghost use Rattle.edge_modifier.specs.Records.{engine, kept, counts};
-ghost use Rattle.edge_modifier.specs.Step.{Step, loadErasures, loadWeights, reset};
+ghost use Rattle.engine_columns.specs.Open.{OpenStep, graphColumns};
+ghost use Rattle.engine_columns.specs.Records.{engine, kept, counts};
+ghost use Rattle.engine_columns.specs.Step.{Step, loadErasures, loadWeights, reset};
 use c_answers::engine::EngineReport;
 use c_answers::engine::engine_report;
 use columns::Weight;
-use edge_modifier::EngineCounts;
+use engine_columns::EngineCounts;
 
 // Opens a graph: copies ends, weights and boundary bytes into the engine's own columns, with an empty log.
 #[no_mangle]

@@ -1,14 +1,15 @@
 ghost use Rattle.c_reports.specs.Reports.{Reported, ReportsDone};
 ghost use Rattle.c_answers.specs.Engine.{endOf, noEnd};
-ghost use Rattle.complete_graph.specs.Queries.{scratchLong};
-ghost use Rattle.complete_graph.specs.Steps.{TableStep, ScratchKept, scratchOf};
-ghost use Rattle.edge_modifier.specs.Records.{engine, counts};
+ghost use Rattle.searches.specs.Queries.{scratchLong};
+ghost use Rattle.complete_graph.specs.Steps.{TableStep};
+ghost use Rattle.searches.specs.Scratch.{ScratchKept, scratchOf};
+ghost use Rattle.engine_columns.specs.Records.{engine, counts};
 ghost use lib.ListN.{length};
 use c_answers::engine::end_of;
 use c_reports::done_number;
 use columns::VertexIndex;
 use columns::Weight;
-use edge_modifier::EngineCounts;
+use engine_columns::EngineCounts;
 
 // The least weight from the source and the previous vertex of every vertex, up to the named end: -1 and 0 where a vertex was not taken.
 // There is an end where `has_end` is not 0.

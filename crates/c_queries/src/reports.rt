@@ -2,11 +2,11 @@
 use c_reports::OneCount;
 use c_reports::TwoCounts;
 use columns::Weight;
-use crossings::CrossingReply;
+use crossing_answers::CrossingReply;
 use paths::PathAnswer;
 ghost use mathlib.Core.Path.{_≡_};
 ghost use Rattle.paths.specs.GetPath.{numberOf, lengthOf, totalOf};
-ghost use Rattle.crossings.specs.Crossing.{replyNumber, replyWeight};
+ghost use Rattle.crossing_answers.specs.Crossing.{replyNumber, replyWeight};
 ghost use Rattle.c_queries.specs.Reports.{ReportsPath, ReportsCrossing};
 
 fn path_number(answer: PathAnswer) -> u32

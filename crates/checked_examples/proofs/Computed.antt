@@ -29,18 +29,18 @@ use Rattle.code_questions.specs.Answers.{vertexNumAnswer}
 use Rattle.weights.specs.Rounding.{halfWeight}
 use Rattle.weights.proofs.Theorems.{zero-among}
 use Rattle.neighbors.specs.Sound.{endsDiffer, pairsApart, endsInRange, graphSound, logSound}
-use Rattle.edge_modifier.specs.Door.{columnsLong, longEnough, columnsSound, sound}
+use Rattle.engine_columns.specs.Door.{columnsLong, longEnough, columnsSound, sound}
 use Rattle.walks.specs.Settling as S
 use Rattle.walks.specs.Settling.{firstLeast, start, changes, byStatus, offer, relaxEdge, relax, stopped, next, settle}
 use Rattle.walks.specs.Answers.{readBack, stepInto, pathIn, path, fromLeft, nearestRight, crossing}
 use Rattle.walks.specs.Graph.{Graph}
 use Rattle.code_columns.specs.Edges.{firsts, seconds, boundaries}
 use Rattle.weights.specs.Logarithm.{edgeWeight}
-use Rattle.edge_modifier.specs.Records.{Engine, engine, counts}
-use Rattle.edge_modifier.specs.Step.{Call, loadErasures, loadWeights, reset}
-use Rattle.edge_modifier.specs.Open.{GraphColumns, graphColumns}
-use Rattle.edge_modifier.specs.Tally.{Tally, Fed, tallyOf, tallyAfter}
-use Rattle.complete_graph.specs.Queries as Q
+use Rattle.engine_columns.specs.Records.{Engine, engine, counts}
+use Rattle.engine_columns.specs.Step.{Call, loadErasures, loadWeights, reset}
+use Rattle.engine_columns.specs.Open.{GraphColumns, graphColumns}
+use Rattle.tally.specs.Tally.{Tally, Fed, tallyOf, tallyAfter}
+use Rattle.searches.specs.Queries as Q
 use Rattle.paths.specs.GetPath.{numberOf, pathDoor, pathReply}
 use Rattle.acceptance.specs.Listed.{graphIn, weightsIn}
 use Rattle.checked_examples.specs.Starred.{StarredExamples, listing, fed, crossingAfter, listingEngine}

@@ -14,12 +14,12 @@ use Rattle.code_questions.specs.Answers.{vertexNumAnswer, edgeNumAnswer}
 use Rattle.weights.specs.Calls.{isLargestHalfWeight, halfWeights, computeDoor}
 use Rattle.columns.specs.Limits.{edgeLimit}
 use Rattle.layers.specs.Accepts.{kindKnown}
-use Rattle.edge_modifier.specs.Records.{Engine, engine, counts}
-use Rattle.edge_modifier.specs.Step.{Call, loadErasures, loadWeights, reset}
-use Rattle.edge_modifier.specs.Open.{GraphColumns, graphColumns}
-use Rattle.edge_modifier.specs.Tally.{Lengths, Tally, Fed, tallyOf, tallyAfter}
+use Rattle.engine_columns.specs.Records.{Engine, engine, counts}
+use Rattle.engine_columns.specs.Step.{Call, loadErasures, loadWeights, reset}
+use Rattle.engine_columns.specs.Open.{GraphColumns, graphColumns}
+use Rattle.tally.specs.Tally.{Lengths, Tally, Fed, tallyOf, tallyAfter}
 use Rattle.walks.specs.Answers.{path, crossing}
-use Rattle.complete_graph.specs.Queries as Q
+use Rattle.searches.specs.Queries as Q
 use Rattle.paths.specs.GetPath.{numberOf, pathDoor, pathReply}
 use Rattle.acceptance.specs.Listed.{graphIn, weightsIn}
 

@@ -14,8 +14,8 @@ use Rattle.columns.specs.Lists.{over}
 use Rattle.columns.specs.Questions.{ask, all, weightsSound, boundariesSound, allBelow, allWithin}
 use Rattle.columns.proofs.Tests.{both-and}
 use Rattle.neighbors.specs.Sound.{graphSound, logSound}
-use Rattle.edge_modifier.specs.Records.{Engine, engine, counts}
-use Rattle.edge_modifier.specs.Door.{columnsLong, longEnough, columnsSound, sound}
+use Rattle.engine_columns.specs.Records.{Engine, engine, counts}
+use Rattle.engine_columns.specs.Door.{columnsLong, longEnough, columnsSound, sound}
 use Rattle.walks.specs.Answers.{crossing}
 use Rattle.walks.specs.Graph.{Graph}
 use Rattle.code_columns.specs.declared.CodeVertex.{CodeVertex}
@@ -26,10 +26,10 @@ use Rattle.layers.proofs.Accepted.{accepted}
 use Rattle.layers.proofs.Counted.{edges-counted, vertices-counted}
 use Rattle.code_graphs.specs.Graphs.{codeGraph}
 use Rattle.code_graphs.proofs.Sound.{built}
-use Rattle.crossings.specs.declared.CrossingReply.{CrossingReply}
-use Rattle.crossings.specs.declared.CrossingReply.the-variants.{Crossed, Refused}
-use Rattle.complete_graph.specs.Queries.{graphIn, weightsIn, scratchLong}
-use Rattle.crossings.specs.Crossing.{isJoined, replyOf, crossingDoor, crossingNumber, CrossingStep}
+use Rattle.crossing_answers.specs.declared.CrossingReply.{CrossingReply}
+use Rattle.crossing_answers.specs.declared.CrossingReply.the-variants.{Crossed, Refused}
+use Rattle.searches.specs.Queries.{graphIn, weightsIn, scratchLong}
+use Rattle.crossing_answers.specs.Crossing.{isJoined, replyOf, crossingDoor, crossingNumber, CrossingStep}
 use Rattle.code_listing.specs.Listing.{weightsOf, crossingOf}
 use Rattle.code_listing.specs.Steps.{HoldsWeights, ScratchRoom}
 

@@ -13,9 +13,9 @@ use Rattle.layers.specs.Codes.{edgesOf, verticesOf}
 use Rattle.layers.specs.Counts.{vertexNum, edgeNum}
 use Rattle.listing.specs.Text.{ended, vertexLine, edgeLine, graphLine, crossingLine, vertexLines, edgeLines, listing, refusalLine}
 use Rattle.listing.specs.Steps.{Put}
-use Rattle.crossings.specs.declared.CrossingReply.{CrossingReply}
-use Rattle.crossings.specs.declared.CrossingReply.the-variants.{Crossed, Refused}
-use Rattle.crossings.specs.Crossing.{replyOf}
+use Rattle.crossing_answers.specs.declared.CrossingReply.{CrossingReply}
+use Rattle.crossing_answers.specs.declared.CrossingReply.the-variants.{Crossed, Refused}
+use Rattle.crossing_answers.specs.Crossing.{replyOf}
 use Rattle.example_codes.specs.declared.Created.{Created}
 use Rattle.example_codes.specs.declared.Created.the-variants as made
 use Rattle.example_codes.specs.Columns.{CodeColumns}

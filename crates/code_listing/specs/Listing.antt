@@ -7,7 +7,7 @@ use lib.Dec.{eqb, leb}
 use lib.ListN.{getD}
 use lib.Ieee.{Float}
 use Rattle.columns.specs.Questions.{ask}
-use Rattle.code_access.specs.Calls.{weights}
+use Rattle.whole_weights.specs.Weights.{weights}
 use Rattle.code_columns.specs.Edges.{firsts, seconds, boundaries}
 use Rattle.layers.specs.Codes.{edgesOf, verticesOf}
 use Rattle.layers.specs.Counts.{vertexNum, edgeNum}

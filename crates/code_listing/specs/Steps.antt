@@ -14,9 +14,9 @@ use Rattle.columns.specs.Questions.{weightsSound}
 use Rattle.example_codes.specs.declared.Created.{Created}
 use Rattle.example_codes.specs.declared.Created.the-variants as made
 use Rattle.example_codes.specs.Columns.{CodeColumns, edgeRoom, vertexRoom}
-use Rattle.crossings.specs.declared.CrossingReply.{CrossingReply}
-use Rattle.crossings.specs.declared.CrossingReply.the-variants.{Crossed, Refused}
-use Rattle.crossings.specs.Crossing.{replyOf}
+use Rattle.crossing_answers.specs.declared.CrossingReply.{CrossingReply}
+use Rattle.crossing_answers.specs.declared.CrossingReply.the-variants.{Crossed, Refused}
+use Rattle.crossing_answers.specs.Crossing.{replyOf}
 use Rattle.listing.specs.Text.{refusalLine, listing}
 use Rattle.code_listing.specs.Listing.{weightsOf, crossingOf, listingOf}
 use Rattle.weighted_codes.specs.Probabilities.{probabilities, diagonalOf}

@@ -5,13 +5,13 @@ ghost use lib.ListN.{length};
 ghost use Rattle.listing.specs.Steps.{Put};
 ghost use Rattle.code_listing.specs.Listing.{listingOf};
 ghost use Rattle.code_listing.specs.Steps.{HoldsCode, HoldsWeights, ScratchRoom, Replied, replyText};
-use code_access::store_weights;
 use columns::Weight;
-use crossings::CrossingReply;
+use crossing_answers::CrossingReply;
 use crossings::crossing;
-use edge_modifier::EngineCounts;
+use engine_columns::EngineCounts;
 use listing::write_listing;
 use listing::write_refusal;
+use whole_weights::store_weights;
 
 // The crossing of a built code under these weights; the columns from `out_weight` on are scratch here.
 fn crossing_in(

@@ -1,6 +1,3 @@
--- Listing: the neighbour lists of a search. Sources: one source, and the end after which its search stops. Asked: what an accepted query says of its columns.
--- Ranges: an accepted engine graph is a graph of `walks`.
-pub mod Listing
+-- Sources: the end after which the search from one source stops. Tables: what an accepted table query says of its columns.
 pub mod Sources
-pub mod Asked
-pub mod Ranges
+pub mod Tables

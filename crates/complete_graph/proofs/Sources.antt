@@ -1,14 +1,12 @@
--- One source, and the end after which its search stops. Assumes nothing.
-use mathlib.Core.Path.{_≡_, refl, sym, ap, _∙_, subst}
+-- The end after which the search from one source stops. Assumes nothing.
+use mathlib.Core.Path.{_≡_, refl, sym, ap, _∙_}
 use mathlib.Core.Logic.{_≢_}
 use mathlib.Core.Bool.{Bool, true, false, cond, not, _&&_}
-use mathlib.Core.List.{List}
 use mathlib.Core.Option.{Option, some, none}
 use Prim.Native.Nat.{ℕ, zero, suc, _+_, _<_, _≤_}
-use native.Mathlib.Decide.{ℕ-discrete, decLt}
+use native.Mathlib.Decide.{ℕ-discrete}
 use native.Mathlib.Omega.{arith}
-use lib.ListN.{length, getD, set, replicate, length-set, length-replicate, getD-replicate, List·getD-eq-default}
-use lib.Seq.{getD-set-same, getD-set-other}
+use lib.ListN.{length}
 use lib.Dec.{eqb, ltb}
 use borrow.Author.Tests.{eq-eqb, ne-eqb, lt-ltb, le-ltb}
 use Rattle.walks.specs.Graph.{Graph}
@@ -17,43 +15,11 @@ use Rattle.columns.specs.Lists.{each}
 use Rattle.columns.proofs.Counting.{length-each}
 use Rattle.walks.specs.Answers.{only, table, tableWeight, tablePrevious}
 use Rattle.walks.proofs.Turns.{source-stops-nothing}
-use Rattle.settling.specs.Ready.{sources, endOf}
+use Rattle.relaxing.specs.Ready.{endOf}
 use Rattle.complete_graph.specs.declared.End.{End}
 use Rattle.complete_graph.specs.declared.End.the-variants.{None, At}
-use Rattle.complete_graph.specs.Queries.{endIn, endInRange}
-use Rattle.complete_graph.specs.Search.{Waiting, stopOf}
-
-module _ (n a : ℕ) (inside : a < n) where
-  abbrev first : List ℕ
-  first = set (replicate n 0) a 1
-
-  zero-at : (v : ℕ) → getD {A = ℕ} (replicate n 0) v 0 ≡ 0
-  zero-at v = elim (decLt v n) [
-    | yes h ↦ getD-replicate n v 0 0 h
-    | no h ↦ List·getD-eq-default (replicate n 0) 0 {n = v} (omega (arith, length-replicate {A = ℕ} n 0))
-  ]
-
-  at-source : getD first a 0 ≡ 1
-  at-source = getD-set-same (replicate n 0) a 1 0 (omega (arith, length-replicate {A = ℕ} n 0))
-
-  elsewhere : (v : ℕ) → v ≢ a → getD first v 0 ≡ 0
-  elsewhere v f = getD-set-other (replicate n 0) a v 1 0 f ∙ zero-at v
-
-  pub sources-only : sources first ≡ only a
-  sources-only = λ i v. one v i
-    where
-      one : (v : ℕ) → eqb (getD first v 0) 1 ≡ eqb v a
-      one v = elim (ℕ-discrete v a) [
-        | yes e ↦ ap (λ k. eqb (getD first k 0) 1) e ∙ ap (λ k. eqb k 1) at-source ∙ sym (eq-eqb v a e)
-        | no e ↦ ap (λ k. eqb k 1) (elsewhere v e) ∙ sym (ne-eqb v a e)
-      ]
-
-  pub waiting-one : (stop : ℕ) → stop ≢ a → Waiting n first stop
-  waiting-one stop f = record {
-    fits = length-set (replicate n 0) a 1 ∙ length-replicate n 0;
-    bytes = λ v. elim (ℕ-discrete v a) [ yes e ↦ omega (arith, ap (λ k. getD first k 0) e, at-source) | no e ↦ omega (arith, elsewhere v e) ];
-    no-source = λ q. omega (arith, elsewhere stop f);
-  }
+use Rattle.complete_graph.specs.Ends.{endIn, endInRange}
+use Rattle.complete_graph.specs.Ends.{stopOf}
 
 -- an end that is the source stops nothing
 source-end : (g : Graph) (w : ℕ → ℕ) (a k : ℕ) → settle g w (only a) none k ≡ settle g w (only a) (some a) k

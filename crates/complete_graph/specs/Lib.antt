@@ -1,5 +1,3 @@
--- Queries: the engine graph as `walks` has it, and the questions of a query. Steps: what a table query answers and leaves. Search: what the functions that all
--- queries share promise one another.
-pub mod Queries
+-- Ends: the vertex after which a search stops. Steps: what a table query answers and leaves.
+pub mod Ends
 pub mod Steps
-pub mod Search

@@ -9,11 +9,11 @@ use lib.IntN.{ℤ}
 use Rattle.columns.specs.Lists.{after}
 use Rattle.columns.specs.Answers.{done}
 use Rattle.columns.specs.declared.Done.{Done}
-use Rattle.columns.specs.declared.Done.the-variants.{Accepted, Refused}
-use Rattle.edge_modifier.specs.Records.{Engine}
+use Rattle.engine_columns.specs.Records.{Engine}
 use Rattle.walks.specs.Answers.{table}
 use Rattle.complete_graph.specs.declared.End.{End}
-use Rattle.complete_graph.specs.Queries.{graphIn, weightsIn, endIn, endInRange, queryDoor}
+use Rattle.searches.specs.Queries.{graphIn, weightsIn, queryDoor}
+use Rattle.complete_graph.specs.Ends.{endIn, endInRange}
 
 -- the number of the first question of a table query that is not met, or 0; `scratch` says whether scratch is long enough
 abbrev pub tableDoor : Engine → (scratch : Bool) (source : ℕ) → End → (weights previous : ℕ) → ℕ
@@ -25,22 +25,3 @@ pub record TableStep (e : Engine) (scratch : Bool) (source : ℕ) (end : End) (r
   pub answer : r ≡ done (tableDoor e scratch source end (length weights₀) (length previous₀))
   pub weights-left : weights ≡ after (tableDoor e scratch source end (length weights₀) (length previous₀)) (table (graphIn e) (weightsIn e) source (endIn end) .weights) weights₀
   pub previous-left : previous ≡ after (tableDoor e scratch source end (length weights₀) (length previous₀)) (table (graphIn e) (weightsIn e) source (endIn end) .previous) previous₀
-
--- the scratch columns of a query
-pub record ScratchColumns : Type 0 where
-  pub numbers : List ℕ
-  pub ends : List ℕ
-  pub status : List ℕ
-  pub weight : List ℕ
-  pub previous : List ℕ
-  pub node : List ℕ
-  pub leaf : List ℕ
-
-abbrev pub scratchOf : (numbers ends status weight previous node leaf : List ℕ) → ScratchColumns
-scratchOf numbers ends status weight previous node leaf =
-    record { numbers = numbers; ends = ends; status = status; weight = weight; previous = previous; node = node; leaf = leaf }
-
--- a refused call leaves scratch as it was; an accepted one leaves anything in it
-abbrev pub ScratchKept : Done → ScratchColumns → ScratchColumns → Type 0
-ScratchKept Accepted s₀ s = Unit {0}
-ScratchKept (Refused n) s₀ s = s ≡ s₀

@@ -1,4 +1,4 @@
--- The search for the nearest right vertex, and the door of a crossing. Assumes nothing.
+-- What the nearest right vertex says of a crossing, and the door. Assumes nothing.
 use mathlib.Core.Path.{_≡_, refl, sym, ap, _∙_, subst}
 use mathlib.Core.Bool.{Bool, true, false, _&&_, cond}
 use mathlib.Core.List.{List}
@@ -16,41 +16,23 @@ use Rattle.columns.specs.Questions.{ask}
 use Rattle.columns.proofs.Counting.{length-each, getD-each}
 use Rattle.columns.proofs.Columns.{sets-over}
 use Rattle.columns.proofs.Tests.{and-both}
-use Rattle.edge_modifier.specs.Records.{Engine}
-use Rattle.edge_modifier.specs.Door.{longEnough, sound}
-use Rattle.edge_modifier.proofs.Doors.{Long, long-of, Sound, sound-of, met-of, next-of}
+use Rattle.engine_columns.specs.Records.{Engine}
+use Rattle.engine_columns.specs.Door.{longEnough, sound}
+use Rattle.engine_columns.proofs.Doors.{Long, long-of, Sound, sound-of, met-of, next-of}
 use Rattle.walks.specs.Lists.{bit, delta}
 use Rattle.walks.specs.Graph.{Graph}
 use Rattle.walks.specs.Settling.{State, weightAt, lesser, firstLeast, settled}
 use Rattle.walks.specs.Answers.{left, taken, tableWeight, weightOf, fromLeft, leastFromLeft, nearestRight, crossing}
-use Rattle.settling.specs.Ready.{graphOf, sources, endOf, sumLimit}
-use Rattle.crossings.specs.declared.CrossingReply.{CrossingReply}
-use Rattle.crossings.specs.declared.CrossingReply.the-variants.{Crossed, Refused}
-use Rattle.complete_graph.specs.Search.{Waiting}
-use Rattle.crossings.specs.Crossing.{isJoined, replyOf, crossingDoor, CrossingScratch, codeOf, Coded, wherever}
-use Rattle.complete_graph.specs.Steps.{ScratchColumns}
+use Rattle.relaxing.specs.Ready.{graphOf, sources, endOf, sumLimit}
+use Rattle.crossing_answers.specs.declared.CrossingReply.{CrossingReply}
+use Rattle.crossing_answers.specs.declared.CrossingReply.the-variants.{Crossed, Refused}
+use Rattle.searches.specs.Search.{Waiting}
+use Rattle.crossing_answers.specs.Crossing.{isJoined, replyOf, crossingDoor, CrossingScratch}
+use Rattle.crossing_answers.specs.Codes.{Coded, wherever}
+use Rattle.crossing_answers.specs.Codes.{codeOf}
+use Rattle.searches.specs.Scratch.{ScratchColumns}
 
--- ---- the least weight so far
-
-module _ (s : State) (test : ℕ → Bool) where
-  best : ℕ → ℕ
-  best v = codeOf (weightOf s (firstLeast test (weightAt s) v))
-
-  choice : (b : Bool) (v u : ℕ) → cond b (weightAt s v) (weightAt s u) ≡ codeOf (weightOf s (cond b (some v) (some u)))
-  choice true v u = refl
-  choice false v u = refl
-
-  next : (b : Bool) (v : ℕ) (p : Option ℕ) → weightAt s v < sumLimit
-      → cond b (cond (ltb (weightAt s v) (codeOf (weightOf s p))) (weightAt s v) (codeOf (weightOf s p))) (codeOf (weightOf s p)) ≡ codeOf (weightOf s (cond b (lesser (weightAt s) v p) p))
-  next false v p h = refl
-  next true v none h = ap (λ b. cond b (weightAt s v) sumLimit) (lt-ltb (weightAt s v) sumLimit h)
-  next true v (some u) h = choice (ltb (weightAt s v) (weightAt s u)) v u
-
-  pub best-next : (v : ℕ) → weightAt s v < sumLimit
-      → cond (test v) (cond (ltb (weightAt s v) (codeOf (weightOf s (firstLeast test (weightAt s) v)))) (weightAt s v) (codeOf (weightOf s (firstLeast test (weightAt s) v)))) (codeOf (weightOf s (firstLeast test (weightAt s) v)))
-      ≡ codeOf (weightOf s (firstLeast test (weightAt s) (suc v)))
-  unfolding firstLeast
-  best-next v h = next (test v) v (firstLeast test (weightAt s) v) h
+-- ---- what stands for a weight
 
 pub coded-of : (s : State) (p : Option ℕ) → ((v : ℕ) → weightAt s v < sumLimit) → Coded (codeOf (weightOf s p)) (weightOf s p)
 coded-of s none h = refl

@@ -1,97 +1,30 @@
 // The crossing query: the least weight of a walk from a left to a right vertex, and the least weight from the left of every vertex.
 ghost use mathlib.Core.Path.{_≡_};
-ghost use mathlib.Core.Bool.{cond, _&&_};
+ghost use mathlib.Core.Bool.{cond};
 ghost use mathlib.Core.List.{List};
 ghost use Prim.Native.Nat.{ℕ, _<_, _≤_};
 ghost use lib.ListN.{length, getD};
 ghost use lib.Seq.{sets};
-ghost use lib.Dec.{eqb, ltb, leb};
-ghost use lib.IntN.{pos, negsuc};
+ghost use lib.Dec.{eqb};
 ghost use Rattle.columns.specs.Lists.{each};
-ghost use Rattle.edge_modifier.specs.Records.{engine};
-ghost use Rattle.walks.specs.Settling.{firstLeast, weightAt};
-ghost use Rattle.walks.specs.Answers.{taken, tableWeight, weightOf, crossing, leastFromLeft};
-ghost use Rattle.settling.specs.Ready.{graphOf, weighs, stateOf, sumLimit};
-ghost use Rattle.complete_graph.specs.Queries.{scratchLong};
-ghost use Rattle.complete_graph.specs.Steps.{scratchOf};
-ghost use Rattle.complete_graph.specs.Search.{Searchable};
-ghost use Rattle.crossings.specs.Crossing.{CrossingStep, CrossingScratch, crossingDoor, codeOf, Coded, wherever};
+ghost use Rattle.engine_columns.specs.Records.{engine};
+ghost use Rattle.walks.specs.Answers.{tableWeight, crossing, leastFromLeft};
+ghost use Rattle.relaxing.specs.Ready.{graphOf, weighs, stateOf, sumLimit};
+ghost use Rattle.searches.specs.Queries.{scratchLong};
+ghost use Rattle.searches.specs.Scratch.{scratchOf};
+ghost use Rattle.searches.specs.Search.{Searchable};
+ghost use Rattle.crossing_answers.specs.Crossing.{CrossingStep, CrossingScratch, crossingDoor};
+ghost use Rattle.crossing_answers.specs.Codes.{Coded, wherever};
 use columns::Weight;
-use columns::questions::asked;
-use columns::questions::at_most;
-use columns::questions::both;
-use complete_graph::scratch_long;
-use complete_graph::search;
-use complete_graph::write_weights;
-use edge_modifier::EngineCounts;
-use edge_modifier::engine_sound;
-use edge_modifier::long_enough;
-
-// The crossing weight, or the number of the question that is not met.
-pub enum CrossingReply {
-    Crossed(Weight),
-    Refused(u32),
-}
-
-// A weight that no vertex has.
-const NO_WEIGHT: Weight = 2147483648;
-
-// Questions 6 and 7 of a crossing.
-fn crossing_door(
-    c: EngineCounts,
-    ends_a: &[u32],
-    ends_b: &[u32],
-    weights: &[Weight],
-    boundary: &[u8],
-    log_edges: &[u32],
-    log_weights: &[Weight],
-    out: usize,
-    scratch: bool,
-) -> u32
-    ensures { λ r. ⌜ r ≡ crossingDoor (engine c (now («ends_a» .entry)) (now («ends_b» .entry)) (now (weights .entry)) (now (boundary .entry)) (now («log_edges» .entry)) (now («log_weights» .entry))) scratch out 0 ⌝ }
-{
-    let long = long_enough(
-        c,
-        ends_a,
-        ends_b,
-        weights,
-        boundary,
-        log_edges,
-        log_weights,
-        0,
-    );
-    let fits = both(at_most(c.vertices as usize, out), scratch);
-    let sound = engine_sound(c, ends_a, ends_b, weights, boundary, log_edges, log_weights);
-    asked(both(long, fits), 6, asked(sound, 7, 0))
-}
-
-// The lesser of two weights, where the second is that of a right vertex that was taken.
-fn nearer(best: Weight, boundary: u8, status: u8, weight: Weight) -> Weight
-    ensures { λ r. ⌜ r ≡ cond (eqb boundary 2 && eqb status 2) (cond (ltb weight best) weight best) best ⌝ }
-{
-    if boundary == 2 {
-        if status == 2 {
-            if weight < best {
-                return weight;
-            }
-        }
-    }
-    best
-}
-
-// The least weight of a right vertex that was taken.
-fn nearest_right(status: &[u8], weight: &[Weight], boundary: &[u8]) -> Weight
-    requires { ⌜ (length (now weight) ≡ length (now status)) × (length (now boundary) ≡ length (now status)) × ((v : ℕ) → v < length (now status) → getD (now weight) v 0 < sumLimit) ⌝ }
-    ensures { λ r. ⌜ ((p : List ℕ) → r ≡ codeOf (weightOf (stateOf (now (status .entry)) (now (weight .entry)) p) (firstLeast (λ v. eqb (getD (now (boundary .entry)) v 0) 2 && taken (stateOf (now (status .entry)) (now (weight .entry)) p) v) (weightAt (stateOf (now (status .entry)) (now (weight .entry)) p)) (length (now (status .entry)))))) ⌝ }
-{
-    let mut best: Weight = NO_WEIGHT;
-    let mut v: usize = 0;
-    while v < status.len() {
-        best = nearer(best, boundary[v], status[v], weight[v]);
-        v += 1;
-    }
-    best
-}
+use crossing_answers::CrossingReply;
+use crossing_answers::NO_WEIGHT;
+use crossing_answers::crossing_door;
+use crossing_answers::nearest_right;
+use crossing_answers::reply;
+use engine_columns::EngineCounts;
+use searches::scratch_long;
+use searches::search;
+use searches::write_weights;
 
 // The crossing weight and, where there is one, the weight column, over columns that hold vertices and edges alone.
 fn run_crossing(
@@ -142,16 +75,6 @@ fn write_found(found: Weight, status: &[u8], weight: &[Weight], out: &mut [i32])
         return;
     }
     write_weights(status, weight, out);
-}
-
-// 18, or the crossing weight that was found.
-fn reply(found: Weight) -> CrossingReply
-    ensures { λ r. ⌜ r ≡ cond (eqb found 2147483648) (CrossingReply.Refused 18) (CrossingReply.Crossed found) ⌝ }
-{
-    if found == NO_WEIGHT {
-        return CrossingReply::Refused(18);
-    }
-    CrossingReply::Crossed(found)
 }
 
 // The least weight of a walk from a left to a right vertex; the weight column then holds the least weight from the left, -1 for unreached.

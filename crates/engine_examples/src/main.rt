@@ -1,9 +1,9 @@
 // Document 01's checked examples on the listing's graph: paths, and crossings under loads and a reset. And every p 0.5.
 use columns::Done;
 use columns::VertexIndex;
-use crossings::CrossingReply;
-use edge_modifier::EngineAnswer;
-use edge_modifier::EngineCounts;
+use crossing_answers::CrossingReply;
+use engine_columns::EngineAnswer;
+use engine_columns::EngineCounts;
 use libc::STDOUT_FILENO;
 use paths::PathAnswer;
 

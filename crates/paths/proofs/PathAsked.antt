@@ -9,16 +9,16 @@ use lib.Dec.{leb, ltb, eqb}
 use borrow.Author.Tests.{leb-true, ltb-true, eq-eqb}
 use Rattle.columns.specs.Questions.{ask}
 use Rattle.columns.proofs.Tests.{and-both}
-use Rattle.edge_modifier.specs.Records.{Engine}
-use Rattle.edge_modifier.specs.Door.{longEnough, sound}
-use Rattle.edge_modifier.proofs.Doors.{Long, Sound, met-of}
-use Rattle.complete_graph.specs.Queries.{queryDoor}
+use Rattle.engine_columns.specs.Records.{Engine}
+use Rattle.engine_columns.specs.Door.{longEnough, sound}
+use Rattle.engine_columns.proofs.Doors.{Long, Sound, met-of}
+use Rattle.searches.specs.Queries.{queryDoor}
 use Rattle.walks.specs.Answers.{FoundPath}
 use Rattle.paths.specs.declared.PathAnswer.{PathAnswer}
 use Rattle.paths.specs.declared.PathAnswer.the-variants.{Found, Refused}
-use Rattle.complete_graph.specs.Steps.{ScratchColumns}
+use Rattle.searches.specs.Scratch.{ScratchColumns}
 use Rattle.paths.specs.GetPath.{pathDoor, found, pathReply, PathScratchKept}
-use Rattle.complete_graph.proofs.Asked.{query-of}
+use Rattle.searches.proofs.Asked.{query-of}
 
 pub record PathAsked (e : Engine) (scratch : Bool) (a b vertices steps : ℕ) : Type 0 where
   pub long : Long 0 e

@@ -14,16 +14,16 @@ use Rattle.columns.specs.Lists.{over}
 use Rattle.columns.proofs.Columns.{take-over}
 use Rattle.columns.proofs.Tests.{within-at}
 use Rattle.neighbors.proofs.Ends.{GraphSound, graph-says}
-use Rattle.edge_modifier.specs.Records.{Engine}
-use Rattle.edge_modifier.proofs.Doors.{Long, Sound}
+use Rattle.engine_columns.specs.Records.{Engine}
+use Rattle.engine_columns.proofs.Doors.{Long, Sound}
 use Rattle.walks.specs.Graph.{Graph, InRange, Joined, Walk}
 use Rattle.walks.specs.Answers.{FoundPath, path}
 use Rattle.walks.specs.Claims.{Route, arrived, onto, IsPath, PathAnswer}
 use Rattle.walks.proofs.TableAndPath.{path-is-least}
 use Rattle.paths.specs.declared.PathAnswer.{PathAnswer as Reply}
-use Rattle.complete_graph.specs.Queries.{graphIn, weightsIn}
+use Rattle.searches.specs.Queries.{graphIn, weightsIn}
 use Rattle.paths.specs.GetPath.{numberOf, lengthOf, totalOf, pathDoor, found, pathReply, verticesAfter, stepsAfter, PathStep, PathSays, GetPathIsLeast}
-use Rattle.complete_graph.proofs.Ranges.{in-range}
+use Rattle.searches.proofs.Ranges.{in-range}
 use Rattle.paths.proofs.PathAsked.{path-asked, before-17}
 
 -- a route has as many steps as vertices

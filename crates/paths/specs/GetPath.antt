@@ -9,14 +9,14 @@ use lib.ListN.{length, take}
 use lib.Dec.{leb, ltb, eqb}
 use Rattle.columns.specs.Lists.{over}
 use Rattle.columns.specs.Questions.{ask}
-use Rattle.edge_modifier.specs.Records.{Engine}
+use Rattle.engine_columns.specs.Records.{Engine}
 use Rattle.walks.specs.Graph.{Joined}
 use Rattle.walks.specs.Answers.{FoundPath, path}
 use Rattle.walks.specs.Claims.{IsPath}
 use Rattle.paths.specs.declared.PathAnswer.{PathAnswer}
 use Rattle.paths.specs.declared.PathAnswer.the-variants.{Found, Refused}
-use Rattle.complete_graph.specs.Queries.{graphIn, weightsIn, queryDoor}
-use Rattle.complete_graph.specs.Steps.{ScratchColumns}
+use Rattle.searches.specs.Queries.{graphIn, weightsIn, queryDoor}
+use Rattle.searches.specs.Scratch.{ScratchColumns}
 
 -- document 01's number for each case of an answer, 0 where there is a path, and its values: length and total, both 0 at a refusal
 abbrev pub numberOf : PathAnswer → ℕ

@@ -1,135 +1,29 @@
 // The path between two vertices: settled from the one, read back from the other.
 ghost use mathlib.Core.Path.{_≡_};
-ghost use mathlib.Core.List.{List, map};
+ghost use mathlib.Core.List.{List};
 ghost use Prim.Native.Nat.{ℕ, _<_, _≤_};
-ghost use lib.ListN.{length, getD};
-ghost use lib.Seq.{sets};
-ghost use Rattle.edge_modifier.specs.Records.{engine};
-ghost use Rattle.walks.specs.Answers.{entry, readBack, stepInto, taken, path};
-ghost use Rattle.settling.specs.Ready.{stateOf, graphOf, weighs};
-ghost use Rattle.complete_graph.specs.Queries.{scratchLong};
-ghost use Rattle.complete_graph.specs.Steps.{scratchOf};
+ghost use lib.ListN.{length};
+ghost use Rattle.engine_columns.specs.Records.{engine};
+ghost use Rattle.walks.specs.Answers.{path};
+ghost use Rattle.relaxing.specs.Ready.{stateOf, graphOf, weighs};
+ghost use Rattle.searches.specs.Queries.{scratchLong};
+ghost use Rattle.searches.specs.Scratch.{scratchOf};
 ghost use Rattle.paths.specs.GetPath.{found, verticesAfter, stepsAfter, PathStep, PathScratchKept, GetPathIsLeast};
-ghost use Rattle.paths.specs.Path.{stepBack, entryOf, pathOf};
-ghost use Rattle.complete_graph.specs.Search.{Searchable};
+ghost use Rattle.searches.specs.Search.{Searchable};
+ghost use Rattle.read_back.specs.Path.{pathOf};
 use columns::VertexIndex;
 use columns::Weight;
 use columns::questions::asked;
 use columns::questions::at_most;
 use columns::questions::both;
-use complete_graph::query_door;
-use complete_graph::scratch_long;
-use complete_graph::search;
-use edge_modifier::EngineCounts;
-
-// An entry of the table: a previous vertex or none.
-pub enum TableEntry {
-    Previous(VertexIndex),
-    None,
-}
-
-// The entry of vertex v.
-fn entry_at(status: &[u8], previous: &[u32], v: u32) -> TableEntry
-    ensures { λ r. ⌜ ((w : List ℕ) → r ≡ entryOf (entry (stateOf (now (status .entry)) w (now (previous .entry))) v)) ⌝ }
-{
-    let at = v as usize;
-    if status.len() <= at {
-        return TableEntry::None;
-    }
-    if status[at] != 2 {
-        return TableEntry::None;
-    }
-    TableEntry::Previous(VertexIndex(load(previous, v)))
-}
-
-// What a column holds for v, 0 past its end.
-fn load(column: &[u32], v: u32) -> u32
-    ensures { λ r. ⌜ r ≡ getD (now (column .entry)) v 0 ⌝ }
-{
-    let at = v as usize;
-    if at < column.len() {
-        return column[at];
-    }
-    0
-}
-
-// One step back from v on the way to a: none at a, and where v was not taken.
-fn step_back(status: &[u8], previous: &[u32], a: u32, v: u32) -> TableEntry
-    ensures { λ r. ⌜ ((w : List ℕ) → r ≡ entryOf (stepBack (stateOf (now (status .entry)) w (now (previous .entry))) a v)) ⌝ }
-{
-    if v == a {
-        return TableEntry::None;
-    }
-    let TableEntry::Previous(p) = entry_at(status, previous, v) else {
-        return TableEntry::None;
-    };
-    TableEntry::Previous(p)
-}
-
-// How many vertices the path from a to b has.
-fn path_length(status: &[u8], previous: &[u32], a: u32, b: u32) -> usize
-    ensures { λ r. ⌜ ((w : List ℕ) → r ≡ length (readBack (stateOf (now (status .entry)) w (now (previous .entry))) a (length (now (status .entry))) b)) ⌝ }
-{
-    let n = status.len();
-    let mut v = b;
-    let mut j: usize = 0;
-    while j < n {
-        let TableEntry::Previous(p) = step_back(status, previous, a, v) else {
-            return j;
-        };
-        v = p.0;
-        j += 1;
-    }
-    j
-}
-
-// The weight of the last step to v.
-fn step_into(weight: &[Weight], previous: &[u32], v: u32) -> Weight
-    ensures { λ r. ⌜ ((t : List ℕ) → r ≡ stepInto (stateOf t (now (weight .entry)) (now (previous .entry))) v) ⌝ }
-{
-    let at = load(weight, v);
-    let before = load(weight, load(previous, v));
-    if at < before {
-        return 0;
-    }
-    at - before
-}
-
-// The path's vertices and the weights of its steps, from the last back to the first.
-fn write_path(
-    status: &[u8],
-    weight: &[Weight],
-    previous: &[u32],
-    a: u32,
-    b: u32,
-    count: usize,
-    out_vertices: &mut [u32],
-    out_steps: &mut [Weight],
-)
-    requires { ⌜ (count ≡ length (readBack (stateOf (now status) (now weight) (now previous)) a (length (now status)) b)) × (count ≤ length (now «out_vertices»)) × (count ≤ length (now «out_steps»)) ⌝ }
-    ensures { λ _. ⌜ now («out_vertices» .exit) ≡ sets (now («out_vertices» .entry)) 0 (readBack (stateOf (now (status .entry)) (now (weight .entry)) (now (previous .entry))) a (length (now (status .entry))) b) ⌝ }
-    ensures { λ _. ⌜ now («out_steps» .exit) ≡ sets (now («out_steps» .entry)) 0 (map (stepInto (stateOf (now (status .entry)) (now (weight .entry)) (now (previous .entry)))) (readBack (stateOf (now (status .entry)) (now (weight .entry)) (now (previous .entry))) a (length (now (status .entry))) b)) ⌝ }
-{
-    let mut v = b;
-    let mut i = count;
-    while 0 < i {
-        i -= 1;
-        out_vertices[i] = v;
-        out_steps[i] = step_into(weight, previous, v);
-        v = load(previous, v);
-    }
-}
-
-// Whether v was taken.
-fn is_taken(status: &[u8], v: u32) -> bool
-    ensures { λ r. ⌜ ((w p : List ℕ) → r ≡ taken (stateOf (now (status .entry)) w p) v) ⌝ }
-{
-    let at = v as usize;
-    if at < status.len() {
-        return status[at] == 2;
-    }
-    false
-}
+use engine_columns::EngineCounts;
+use read_back::is_taken;
+use read_back::load;
+use read_back::path_length;
+use read_back::write_path;
+use searches::query_door;
+use searches::scratch_long;
+use searches::search;
 
 // The path's length and total, or the number of the question that is not met.
 pub enum PathAnswer {

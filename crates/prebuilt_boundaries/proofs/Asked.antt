@@ -6,12 +6,12 @@ use native.Mathlib.Omega.{arith}
 use lib.Dec.{leb}
 use borrow.Author.Tests.{lt-ltb, le-leb, leb-true}
 use Rattle.columns.proofs.Tests.{and-both}
-use Rattle.edge_modifier.specs.Records.{Engine}
-use Rattle.edge_modifier.proofs.Doors.{long-from, sound-from}
+use Rattle.engine_columns.specs.Records.{Engine}
+use Rattle.engine_columns.proofs.Doors.{long-from, sound-from}
 use Rattle.complete_graph.specs.declared.End.the-variants.{None}
-use Rattle.complete_graph.specs.Queries.{scratchLong}
+use Rattle.searches.specs.Queries.{scratchLong}
 use Rattle.complete_graph.specs.Steps.{tableDoor}
-use Rattle.complete_graph.proofs.Asked.{query-of}
+use Rattle.searches.proofs.Asked.{query-of}
 use Rattle.prebuilt_boundaries.specs.Steps.{Fillable}
 use Rattle.prebuilt_boundaries.specs.Boundaries.{boundariesDoor}
 

@@ -5,9 +5,9 @@ use mathlib.Core.Bool.{true}
 use mathlib.Core.List.{List}
 use lib.ListN.{length}
 use lib.IntN.{ℤ}
-use Rattle.edge_modifier.specs.Records.{Engine}
-use Rattle.edge_modifier.specs.Door.{longEnough, sound}
-use Rattle.complete_graph.specs.Queries.{scratchLong}
+use Rattle.engine_columns.specs.Records.{Engine}
+use Rattle.engine_columns.specs.Door.{longEnough, sound}
+use Rattle.searches.specs.Queries.{scratchLong}
 
 -- an engine graph that 6 and 7 accept, with room in every column lent
 pub record Fillable (e : Engine) (weights vertices least before numbers ends status weight previous node leaf : ℕ) : Type 0 where

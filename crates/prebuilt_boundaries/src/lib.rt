@@ -4,9 +4,9 @@ ghost use Prim.Native.Nat.{_<_};
 ghost use lib.ListN.{length, set};
 ghost use lib.Seq.{sets};
 ghost use Rattle.columns.specs.Lists.{each};
-ghost use Rattle.edge_modifier.specs.Records.{engine};
-ghost use Rattle.complete_graph.specs.Queries.{scratchLong, graphIn, weightsIn};
-ghost use Rattle.complete_graph.specs.Steps.{ScratchKept, scratchOf};
+ghost use Rattle.engine_columns.specs.Records.{engine};
+ghost use Rattle.searches.specs.Queries.{scratchLong, graphIn, weightsIn};
+ghost use Rattle.searches.specs.Scratch.{ScratchKept, scratchOf};
 ghost use Rattle.prebuilt_boundaries.specs.Boundaries.{boundaryWeight, boundaryVertex, BoundariesStep, FirstKept};
 ghost use Rattle.prebuilt_boundaries.specs.Steps.{Fillable};
 use columns::Done;
@@ -15,10 +15,10 @@ use columns::Weight;
 use columns::questions::at_most;
 use columns::questions::both;
 use complete_graph::all_edges;
-use complete_graph::query_door;
-use complete_graph::scratch_long;
-use edge_modifier::EngineCounts;
+use engine_columns::EngineCounts;
 use prebuilt_entries::boundaries::store_boundary;
+use searches::query_door;
+use searches::scratch_long;
 
 // The weight and the number of the nearest virtual vertex of v, by a search from v. The columns from `least` on are scratch.
 fn fill_one(

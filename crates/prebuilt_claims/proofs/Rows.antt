@@ -14,13 +14,13 @@ use Rattle.columns.specs.Answers.{done, numberOf}
 use Rattle.columns.specs.declared.Done.the-variants.{Accepted}
 use Rattle.columns.proofs.Columns.{after-accepted, over-in}
 use Rattle.columns.proofs.Counting.{length-each, getD-each}
-use Rattle.edge_modifier.specs.Records.{Engine}
+use Rattle.engine_columns.specs.Records.{Engine}
 use Rattle.walks.specs.Graph.{Graph, LeastWeight}
 use Rattle.walks.specs.Answers.{weightIn, table}
 use Rattle.walks.specs.Claims.{Row}
 use Rattle.walks.proofs.TableAndPath.{table-is-least}
-use Rattle.complete_graph.specs.Queries.{graphIn, weightsIn}
-use Rattle.complete_graph.proofs.Ranges.{in-range}
+use Rattle.searches.specs.Queries.{graphIn, weightsIn}
+use Rattle.searches.proofs.Ranges.{in-range}
 use Rattle.prebuilt_entries.specs.Entries.{inTheMiddle, rowEntry, entryBy}
 use Rattle.prebuilt_complete_graph.specs.Rows.{RowStep, row, rowDoor}
 use Rattle.prebuilt_complete_graph.proofs.Entries.{row-asked}

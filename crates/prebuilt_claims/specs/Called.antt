@@ -8,7 +8,7 @@ use borrow.Fn.Kinds.{Dens, endedOf}
 use denote.Triple.Clauses.{AtExit}
 use denote.Ref.{now}
 use Rattle.columns.specs.declared.Done.the-variants.{Accepted}
-use Rattle.edge_modifier.specs.Records.{Engine, engine}
+use Rattle.engine_columns.specs.Records.{Engine, engine}
 use Rattle.prebuilt_boundaries.proofs.fill_boundaries.Kinds as boundaries-kinds
 use Rattle.prebuilt_boundaries.proofs.fill_boundaries.Reads as boundaries-reads
 use Rattle.prebuilt_complete_graph.proofs.fill_row.Kinds as row-kinds

@@ -4,10 +4,10 @@ use mathlib.Core.Path.{_≡_}
 use mathlib.Core.List.{List}
 use lib.ListN.{getD}
 use lib.IntN.{ℤ, pos}
-use Rattle.edge_modifier.specs.Records.{Engine}
+use Rattle.engine_columns.specs.Records.{Engine}
 use Rattle.walks.specs.Graph.{LeastWeight}
 use Rattle.walks.specs.Answers.{weightIn}
-use Rattle.complete_graph.specs.Queries.{graphIn, weightsIn}
+use Rattle.searches.specs.Queries.{graphIn, weightsIn}
 use Rattle.prebuilt_claims.specs.Prebuilt.{boundaryWeight, edgeWeight, edgeEntry, weightEntry, vertexEntry}
 use Rattle.prebuilt_claims.specs.Called.{BoundariesFilled, RowFilled}
 

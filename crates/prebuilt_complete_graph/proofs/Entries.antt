@@ -15,12 +15,12 @@ use Rattle.columns.proofs.Counting.{length-each, each-same}
 use Rattle.columns.specs.Questions.{ask}
 use Rattle.columns.proofs.Tests.{and-both, both-and}
 use Rattle.walks.specs.Answers.{weightIn}
-use Rattle.edge_modifier.specs.Records.{Engine}
-use Rattle.edge_modifier.proofs.Doors.{Long, long-from, Sound, sound-from}
+use Rattle.engine_columns.specs.Records.{Engine}
+use Rattle.engine_columns.proofs.Doors.{Long, long-from, Sound, sound-from}
 use Rattle.complete_graph.specs.declared.End.the-variants.{None}
-use Rattle.complete_graph.specs.Queries.{queryDoor}
+use Rattle.searches.specs.Queries.{queryDoor}
 use Rattle.complete_graph.specs.Steps.{tableDoor}
-use Rattle.complete_graph.proofs.Asked.{query-of}
+use Rattle.searches.proofs.Asked.{query-of}
 use Rattle.prebuilt_entries.specs.Entries.{isVirtual, entryBy, rowEntry}
 use Rattle.prebuilt_entries.proofs.Stored.{over-over}
 use Rattle.prebuilt_complete_graph.specs.Rows.{rowDoor}

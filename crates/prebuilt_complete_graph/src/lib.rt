@@ -2,9 +2,9 @@
 pub mod nearest;
 
 ghost use lib.ListN.{length};
-ghost use Rattle.edge_modifier.specs.Records.{engine};
-ghost use Rattle.complete_graph.specs.Queries.{scratchLong};
-ghost use Rattle.complete_graph.specs.Steps.{ScratchKept, scratchOf};
+ghost use Rattle.engine_columns.specs.Records.{engine};
+ghost use Rattle.searches.specs.Queries.{scratchLong};
+ghost use Rattle.searches.specs.Scratch.{ScratchKept, scratchOf};
 ghost use Rattle.prebuilt_complete_graph.specs.Rows.{RowStep, ColumnKept};
 use columns::Done;
 use columns::VertexIndex;
@@ -12,10 +12,10 @@ use columns::Weight;
 use columns::questions::at_most;
 use columns::questions::both;
 use complete_graph::all_edges;
-use complete_graph::query_door;
-use complete_graph::scratch_long;
-use edge_modifier::EngineCounts;
+use engine_columns::EngineCounts;
 use prebuilt_entries::rows::write_row;
+use searches::query_door;
+use searches::scratch_long;
 
 // The row of a vertex: for each vertex the least weight to it, -1 where there is no edge. `nearest` holds each vertex's least weight to a virtual one,
 // -1 for none. The columns from `before` on are scratch.

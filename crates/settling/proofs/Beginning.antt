@@ -14,7 +14,7 @@ use Rattle.columns.proofs.Counting.{length-each, getD-each}
 use Rattle.priority_queue.specs.Tree.{Tree, Same}
 use Rattle.priority_queue.specs.Tree as Q
 use Rattle.walks.specs.Settling.{statusAt, weightAt}
-use Rattle.settling.specs.Ready.{keyOf, stateOf, Ready, Keyed, sumLimit}
+use Rattle.relaxing.specs.Ready.{keyOf, stateOf, Ready, Keyed, sumLimit}
 
 module _ (status : List ℕ) where
   -- no key at first

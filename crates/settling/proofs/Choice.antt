@@ -22,7 +22,7 @@ use Rattle.walks.specs.Settling as S
 use Rattle.walks.specs.Settling.{State, statusAt, weightAt, previousAt, toTake, mark, relax, relaxEdge, takeChosen}
 use Rattle.walks.proofs.FirstLeast.{first-least-one}
 use Rattle.walks.proofs.Neighbours.{incident, incident-is, relaxAlong, along-next, relax-incident}
-use Rattle.settling.specs.Ready.{keyOf, Ready, Listed, Along, Offers, sumLimit, graphOf, weighs, startIn}
+use Rattle.relaxing.specs.Ready.{keyOf, Ready, Listed, Along, Offers, sumLimit, graphOf, weighs, startIn}
 
 -- ---- the least key
 

@@ -1,5 +1,4 @@
--- Keys: the columns of a state and its keys, after a store. Choice: the vertex to take next, and the edges of its list. Settled: the loop of turns. Beginning: the state before the first.
-pub mod Keys
+-- Choice: the vertex to take next, and the edges of its list. Settled: the loop of turns. Beginning: the state before the first.
 pub mod Choice
 pub mod Settled
 pub mod Beginning

@@ -17,7 +17,7 @@ use Rattle.walks.specs.Graph.{Graph, InRange}
 use Rattle.walks.specs.Settling.{State, statusAt, weightAt, start, stopped, toTake, takeChosen, next, settle, settled}
 use Rattle.walks.proofs.Limits.{sums-fit}
 use Rattle.walks.proofs.TurnCases.{settle-next, next-stopped, next-none, settled-early}
-use Rattle.settling.specs.Ready.{graphOf, weighs, stateOf, sources, endOf, Listed, Offers, Begun, sumLimit}
+use Rattle.relaxing.specs.Ready.{graphOf, weighs, stateOf, sources, endOf, Listed, Offers, Begun, sumLimit}
 
 module _ (n : ℕ) (a b w status weight previous : List ℕ) (stop : ℕ) (len : length status ≡ n) (begun : Begun status weight previous w stop) where
   abbrev source : ℕ → Bool

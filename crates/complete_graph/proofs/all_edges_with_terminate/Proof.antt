@@ -8,13 +8,15 @@ use lib.ListN.{length, getD, take}
 use lib.Seq.{sets, length-take-le}
 use Rattle.columns.specs.Lists.{after}
 use Rattle.columns.proofs.Columns.{sets-over, after-accepted, after-refused}
-use Rattle.edge_modifier.specs.Records.{Engine, engine}
+use Rattle.engine_columns.specs.Records.{Engine, engine}
 use Rattle.walks.specs.Answers.{table}
-use Rattle.settling.specs.Ready.{endOf, graphOf, weighs}
-use Rattle.complete_graph.specs.Queries.{graphIn, weightsIn, endIn, scratchLong}
+use Rattle.relaxing.specs.Ready.{endOf, graphOf, weighs}
+use Rattle.searches.specs.Queries.{graphIn, weightsIn, scratchLong}
+use Rattle.complete_graph.specs.Ends.{endIn}
 use Rattle.complete_graph.specs.Steps.{tableDoor}
-use Rattle.complete_graph.specs.Search.{stopOf}
-use Rattle.complete_graph.proofs.Asked.{TableAsked, table-of, table-number, ScratchLong, scratch-of, searchable, cut-length, done-zero, done-no}
+use Rattle.complete_graph.specs.Ends.{stopOf}
+use Rattle.complete_graph.proofs.Tables.{TableAsked, table-of, table-number}
+use Rattle.searches.proofs.Asked.{ScratchLong, scratch-of, searchable, cut-length, done-zero, done-no}
 use Rattle.complete_graph.proofs.Sources.{table-same, stop-other, table-weights-length, table-previous-length}
 use borrow.Author.Needs.{needs}
 use Rattle.complete_graph.proofs.all_edges_with_terminate.Statement.{statement}

@@ -12,14 +12,14 @@ use borrow.Author.Tests.{eq-eqb, ne-eqb, lt-ltb}
 use Rattle.columns.specs.Lists.{each}
 use Rattle.columns.proofs.Counting.{store-each, length-each}
 use Rattle.walks.specs.Answers.{tableWeight, tablePrevious}
-use Rattle.settling.specs.Ready.{stateOf, Ready, sumLimit}
+use Rattle.relaxing.specs.Ready.{stateOf, Ready, sumLimit}
 use Rattle.walks.specs.Settling.{settled}
 use Rattle.walks.specs.Answers.{only, table}
-use Rattle.settling.specs.Ready.{graphOf, weighs, sources, endOf}
-use Rattle.settling.proofs.Keys.{ready-as}
-use Rattle.complete_graph.specs.Search.{Waiting}
-use Rattle.complete_graph.proofs.Listing.{searchable-as, waiting-as}
-use Rattle.complete_graph.proofs.Sources.{sources-only, waiting-one}
+use Rattle.relaxing.specs.Ready.{graphOf, weighs, sources, endOf}
+use Rattle.relaxing.proofs.Keys.{ready-as}
+use Rattle.searches.specs.Search.{Waiting}
+use Rattle.searches.proofs.Listing.{searchable-as, waiting-as}
+use Rattle.searches.proofs.Sources.{sources-only, waiting-one}
 use borrow.Author.Needs.{needs}
 use Rattle.complete_graph.proofs.run_table.Statement.{statement}
 use Rattle.complete_graph.proofs.run_table.Tie as tie

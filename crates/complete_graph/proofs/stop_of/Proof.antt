@@ -12,7 +12,7 @@ use borrow.Author.Tests.{eq-eqb, ne-eqb, lt-ltb}
 use Rattle.columns.specs.Lists.{each}
 use Rattle.columns.proofs.Counting.{store-each, length-each}
 use Rattle.walks.specs.Answers.{tableWeight, tablePrevious}
-use Rattle.settling.specs.Ready.{stateOf, Ready, sumLimit}
+use Rattle.relaxing.specs.Ready.{stateOf, Ready, sumLimit}
 use borrow.Author.Needs.{needs}
 use Rattle.complete_graph.proofs.stop_of.Statement.{statement}
 use Rattle.complete_graph.proofs.stop_of.Tie as tie

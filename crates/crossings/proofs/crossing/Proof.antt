@@ -9,13 +9,14 @@ use lib.Seq.{length-take-le}
 use Rattle.columns.specs.Lists.{after}
 use Rattle.columns.specs.Questions.{ask}
 use Rattle.columns.proofs.Columns.{after-refused}
-use Rattle.edge_modifier.specs.Records.{Engine, engine}
+use Rattle.engine_columns.specs.Records.{Engine, engine}
 use Rattle.walks.specs.Answers.{crossing, leastFromLeft}
-use Rattle.settling.specs.Ready.{graphOf}
-use Rattle.complete_graph.specs.Queries.{graphIn, weightsIn, scratchLong}
-use Rattle.complete_graph.specs.Steps.{scratchOf}
-use Rattle.crossings.specs.Crossing.{isJoined, replyOf, crossingDoor, Coded, wherever}
-use Rattle.complete_graph.proofs.Asked.{ScratchLong, scratch-of, searchable}
+use Rattle.relaxing.specs.Ready.{graphOf}
+use Rattle.searches.specs.Queries.{graphIn, weightsIn, scratchLong}
+use Rattle.searches.specs.Scratch.{scratchOf}
+use Rattle.crossing_answers.specs.Crossing.{isJoined, replyOf, crossingDoor}
+use Rattle.crossing_answers.specs.Codes.{Coded, wherever}
+use Rattle.searches.proofs.Asked.{ScratchLong, scratch-of, searchable}
 use Rattle.crossings.proofs.Crossings.{CrossingAsked, crossing-of, door-passed, door-refused, reply-of, reply-passed, reply-refused, column-after, left-length, scratch-free, scratch-same}
 use borrow.Author.Needs.{needs}
 use Rattle.crossings.proofs.crossing.Statement.{statement}

@@ -6,11 +6,11 @@ use native.Mathlib.Omega.{arith}
 use lib.ListN.{length, getD}
 use Rattle.walks.specs.Settling.{State, settled}
 use Rattle.walks.specs.Answers.{fromLeft, crossing}
-use Rattle.settling.specs.Ready.{graphOf, weighs, stateOf, sources, endOf}
-use Rattle.settling.proofs.Keys.{ready-as}
-use Rattle.complete_graph.specs.Search.{Waiting}
-use Rattle.crossings.specs.Crossing.{Coded}
-use Rattle.complete_graph.proofs.Listing.{searchable-as, waiting-as}
+use Rattle.relaxing.specs.Ready.{graphOf, weighs, stateOf, sources, endOf}
+use Rattle.relaxing.proofs.Keys.{ready-as}
+use Rattle.searches.specs.Search.{Waiting}
+use Rattle.crossing_answers.specs.Codes.{Coded}
+use Rattle.searches.proofs.Listing.{searchable-as, waiting-as}
 use Rattle.crossings.proofs.Crossings.{waiting-left, settled-left, found-is, column-is}
 use borrow.Author.Needs.{needs}
 use Rattle.crossings.proofs.run_crossing.Statement.{statement}

@@ -7,7 +7,7 @@ use lib.Dec.{eqb}
 use borrow.Author.Tests.{eq-eqb, ne-eqb}
 use Rattle.columns.specs.Lists.{each}
 use Rattle.walks.specs.Answers.{tableWeight}
-use Rattle.settling.specs.Ready.{stateOf}
+use Rattle.relaxing.specs.Ready.{stateOf}
 use borrow.Author.Needs.{needs}
 use Rattle.crossings.proofs.write_found.Statement.{statement}
 use Rattle.crossings.proofs.write_found.Tie as tie

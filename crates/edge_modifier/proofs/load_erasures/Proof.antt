@@ -4,9 +4,9 @@ use mathlib.Core.Path.{_≡_, refl, sym, _∙_}
 use native.Mathlib.Omega.{arith}
 use lib.ListN.{length, getD}
 use Rattle.columns.specs.Questions.{ask, allWithin}
-use Rattle.edge_modifier.specs.Records.{engine}
-use Rattle.edge_modifier.specs.Step.{loadErasures, door}
-use Rattle.edge_modifier.proofs.Doors.{accepted, refused, columns, Loads, loads-of, named-of, Weighed, weighed-of}
+use Rattle.engine_columns.specs.Records.{engine}
+use Rattle.engine_columns.specs.Step.{loadErasures, door}
+use Rattle.engine_columns.proofs.Doors.{accepted, refused, columns, Loads, loads-of, named-of, Weighed, weighed-of}
 use borrow.Author.Needs.{needs}
 use Rattle.edge_modifier.proofs.load_erasures.Statement.{statement}
 use Rattle.edge_modifier.proofs.load_erasures.Tie as tie

@@ -2,10 +2,10 @@
 use mathlib.Core.Path.{_≡_, refl, sym, ap, _∙_}
 use lib.ListN.{take}
 use Rattle.columns.proofs.Columns.{copy-after, after-refused}
-use Rattle.edge_modifier.specs.declared.EngineAnswer.the-variants.{Refused}
-use Rattle.edge_modifier.specs.Records.{counts}
-use Rattle.edge_modifier.specs.Open.{graphColumns, openDoor}
-use Rattle.edge_modifier.proofs.Doors.{opens-of, answered-zero, answered-no}
+use Rattle.engine_columns.specs.declared.EngineAnswer.the-variants.{Refused}
+use Rattle.engine_columns.specs.Records.{counts}
+use Rattle.engine_columns.specs.Open.{graphColumns, openDoor}
+use Rattle.engine_columns.proofs.Doors.{opens-of, answered-zero, answered-no}
 use borrow.Author.Needs.{needs}
 use Rattle.edge_modifier.proofs.open.Statement.{statement}
 use Rattle.edge_modifier.proofs.open.Tie as tie

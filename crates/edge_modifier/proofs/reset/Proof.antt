@@ -3,9 +3,9 @@ use Prim.Native.Nat.{ℕ, _+_, _≤_, _<_}
 use mathlib.Core.Path.{_≡_, refl, sym, _∙_}
 use native.Mathlib.Omega.{arith}
 use lib.ListN.{length, getD}
-use Rattle.edge_modifier.specs.Records.{engine}
-use Rattle.edge_modifier.specs.Step.{door, reset}
-use Rattle.edge_modifier.proofs.Doors.{accepted, refused, columns, reset-long, reset-named}
+use Rattle.engine_columns.specs.Records.{engine}
+use Rattle.engine_columns.specs.Step.{door, reset}
+use Rattle.engine_columns.proofs.Doors.{accepted, refused, columns, reset-long, reset-named}
 use borrow.Author.Needs.{needs}
 use Rattle.edge_modifier.proofs.reset.Statement.{statement}
 use Rattle.edge_modifier.proofs.reset.Tie as tie

@@ -10,11 +10,11 @@ use lib.Seq.{sets}
 use Rattle.columns.proofs.Columns.{sets-over}
 use Rattle.walks.specs.Settling.{State, weightAt}
 use Rattle.walks.specs.Answers.{readBack, stepInto, taken, FoundPath}
-use Rattle.settling.specs.Ready.{stateOf}
+use Rattle.relaxing.specs.Ready.{stateOf}
 use Rattle.paths.specs.declared.PathAnswer.the-variants.{Found, Refused}
-use Rattle.paths.specs.Path.{pathOf}
+use Rattle.read_back.specs.Path.{pathOf}
 use Rattle.paths.specs.GetPath.{found, verticesAfter, stepsAfter}
-use Rattle.paths.proofs.Back.{read-short}
+use Rattle.read_back.proofs.Back.{read-short}
 use borrow.Author.Needs.{needs}
 use Rattle.paths.proofs.found_path.Statement.{statement}
 use Rattle.paths.proofs.found_path.Tie as tie

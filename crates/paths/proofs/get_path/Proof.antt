@@ -9,12 +9,12 @@ use lib.ListN.{length, getD, take}
 use lib.Seq.{length-take-le}
 use lib.Dec.{eqb}
 use borrow.Author.Tests.{ne-eqb}
-use Rattle.edge_modifier.specs.Records.{Engine, engine}
+use Rattle.engine_columns.specs.Records.{Engine, engine}
 use Rattle.walks.specs.Answers.{path}
-use Rattle.settling.specs.Ready.{graphOf}
-use Rattle.complete_graph.specs.Queries.{graphIn, weightsIn, scratchLong}
+use Rattle.relaxing.specs.Ready.{graphOf}
+use Rattle.searches.specs.Queries.{graphIn, weightsIn, scratchLong}
 use Rattle.paths.specs.GetPath.{pathDoor, found, pathReply, verticesAfter, stepsAfter}
-use Rattle.complete_graph.proofs.Asked.{ScratchLong, scratch-of, searchable}
+use Rattle.searches.proofs.Asked.{ScratchLong, scratch-of, searchable}
 use Rattle.paths.proofs.PathAsked.{PathAsked, path-asked, path-number, reply-no, scratch-free}
 use borrow.Author.Needs.{needs}
 use Rattle.paths.proofs.get_path.Statement.{statement}

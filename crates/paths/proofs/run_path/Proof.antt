@@ -10,14 +10,14 @@ use lib.Dec.{ltb}
 use borrow.Author.Tests.{lt-ltb}
 use Rattle.walks.specs.Settling.{State, settled}
 use Rattle.walks.specs.Answers.{only, path}
-use Rattle.settling.specs.Ready.{stateOf, graphOf, weighs, sources, endOf, Ready}
-use Rattle.settling.proofs.Keys.{ready-as}
-use Rattle.paths.specs.Path.{pathOf}
+use Rattle.relaxing.specs.Ready.{stateOf, graphOf, weighs, sources, endOf, Ready}
+use Rattle.relaxing.proofs.Keys.{ready-as}
+use Rattle.read_back.specs.Path.{pathOf}
 use Rattle.paths.specs.GetPath.{found, verticesAfter, stepsAfter}
-use Rattle.complete_graph.specs.Search.{Waiting}
-use Rattle.complete_graph.proofs.Listing.{searchable-as, waiting-as}
-use Rattle.complete_graph.proofs.Sources.{sources-only, waiting-one}
-use Rattle.paths.proofs.Back.{path-of}
+use Rattle.searches.specs.Search.{Waiting}
+use Rattle.searches.proofs.Listing.{searchable-as, waiting-as}
+use Rattle.searches.proofs.Sources.{sources-only, waiting-one}
+use Rattle.read_back.proofs.Back.{path-of}
 use borrow.Author.Needs.{needs}
 use Rattle.paths.proofs.run_path.Statement.{statement}
 use Rattle.paths.proofs.run_path.Tie as tie

@@ -10,12 +10,12 @@ use lib.Seq.{length-take-le}
 use lib.IntN.{ℤ}
 use Rattle.columns.proofs.Columns.{after-accepted}
 use Rattle.neighbors.proofs.Ends.{GraphSound, graph-says}
-use Rattle.edge_modifier.specs.Records.{Engine, engine}
+use Rattle.engine_columns.specs.Records.{Engine, engine}
 use Rattle.walks.specs.Answers.{table}
 use Rattle.complete_graph.specs.declared.End.the-variants.{None}
-use Rattle.complete_graph.specs.Queries.{graphIn, weightsIn, scratchLong}
+use Rattle.searches.specs.Queries.{graphIn, weightsIn, scratchLong}
 use Rattle.complete_graph.specs.Steps.{tableDoor}
-use Rattle.complete_graph.proofs.Asked.{TableAsked, table-of}
+use Rattle.complete_graph.proofs.Tables.{TableAsked, table-of}
 use Rattle.complete_graph.proofs.Sources.{table-weights-length}
 use Rattle.prebuilt_entries.specs.Nearest.{boundaryIn, weightTo, vertexTo}
 use Rattle.prebuilt_entries.proofs.Amounts.{cut-fits}

@@ -10,12 +10,12 @@ use lib.Seq.{sets, length-take-le}
 use lib.IntN.{ℤ}
 use Rattle.columns.specs.Lists.{each, over, after}
 use Rattle.columns.proofs.Columns.{length-over, after-accepted, after-refused}
-use Rattle.edge_modifier.specs.Records.{Engine, engine}
+use Rattle.engine_columns.specs.Records.{Engine, engine}
 use Rattle.walks.specs.Answers.{table}
 use Rattle.complete_graph.specs.declared.End.the-variants.{None}
-use Rattle.complete_graph.specs.Queries.{graphIn, weightsIn, scratchLong}
+use Rattle.searches.specs.Queries.{graphIn, weightsIn, scratchLong}
 use Rattle.complete_graph.specs.Steps.{tableDoor}
-use Rattle.complete_graph.proofs.Asked.{done-zero, done-no}
+use Rattle.searches.proofs.Asked.{done-zero, done-no}
 use Rattle.complete_graph.proofs.Sources.{table-weights-length}
 use Rattle.prebuilt_complete_graph.specs.Rows.{row, rowDoor}
 use Rattle.prebuilt_entries.specs.Entries.{rowEntry}

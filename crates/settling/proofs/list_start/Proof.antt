@@ -4,7 +4,7 @@ use Prim.Native.Nat.{ℕ, zero, suc, _+_, _*_, _-_, _%_, _<_, _≤_}
 use native.Mathlib.Omega.{arith}
 use mathlib.Core.List.{List}
 use lib.ListN.{length, getD, take, drop}
-use Rattle.settling.specs.Ready.{stateOf, graphOf, weighs, Ready, startIn}
+use Rattle.relaxing.specs.Ready.{stateOf, graphOf, weighs, Ready, startIn}
 use borrow.Author.Needs.{needs}
 use Rattle.settling.proofs.list_start.Statement.{statement}
 use Rattle.settling.proofs.list_start.Tie as tie

@@ -11,7 +11,7 @@ use borrow.Author.Tests.{eq-eqb, ne-eqb}
 use Rattle.columns.specs.Lists.{each}
 use Rattle.columns.proofs.Counting.{store-each, whole, replicate-each, length-each}
 use Rattle.priority_queue.specs.Tree.{Tree}
-use Rattle.settling.specs.Ready.{Keyed}
+use Rattle.relaxing.specs.Ready.{Keyed}
 use Rattle.settling.proofs.Beginning.{keyed-none, keyed-more}
 use borrow.Author.Needs.{needs}
 use Rattle.settling.proofs.put_sources.Statement.{statement}

@@ -4,10 +4,10 @@ use Prim.Native.Nat.{ℕ, zero, suc, _+_, _*_, _-_, _%_, _<_, _≤_}
 use native.Mathlib.Omega.{arith}
 use mathlib.Core.List.{List}
 use lib.ListN.{length, getD, take, drop}
-use Rattle.settling.specs.Ready.{stateOf, graphOf, weighs, Ready, startIn}
+use Rattle.relaxing.specs.Ready.{stateOf, graphOf, weighs, Ready, startIn}
 use Rattle.walks.specs.Settling.{relaxEdge}
 use Rattle.walks.proofs.Neighbours.{relaxAlong}
-use Rattle.settling.proofs.Keys.{ready-as}
+use Rattle.relaxing.proofs.Keys.{ready-as}
 use Rattle.settling.proofs.Choice.{along-more, along-none}
 use borrow.Author.Needs.{needs}
 use Rattle.settling.proofs.relax_list.Statement.{statement}

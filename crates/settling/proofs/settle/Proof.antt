@@ -9,8 +9,8 @@ use lib.Dec.{eqb, ltb}
 use borrow.Author.Tests.{lt-ltb, le-ltb, not-true, not-false}
 use Rattle.walks.specs.Settling as S
 use Rattle.walks.specs.Settling.{takeChosen, toTake}
-use Rattle.settling.specs.Ready.{stateOf, graphOf, weighs, Ready, sources, endOf}
-use Rattle.settling.proofs.Keys.{ready-as, listed-as}
+use Rattle.relaxing.specs.Ready.{stateOf, graphOf, weighs, Ready, sources, endOf}
+use Rattle.relaxing.proofs.Keys.{ready-as, listed-as}
 use Rattle.settling.proofs.Settled.{begins, offers-fit, ends-stopped, ends-none, goes-on}
 use borrow.Author.Needs.{needs}
 use Rattle.settling.proofs.settle.Statement.{statement}

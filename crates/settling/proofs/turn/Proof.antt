@@ -7,8 +7,8 @@ use mathlib.Core.List.{List}
 use lib.ListN.{length, getD, take, drop, length-set}
 use lib.ListN.{set}
 use Rattle.walks.specs.Settling.{takeChosen}
-use Rattle.settling.specs.Ready.{stateOf, graphOf, weighs, Ready, startIn}
-use Rattle.settling.proofs.Keys.{ready-as, ready-takes}
+use Rattle.relaxing.specs.Ready.{stateOf, graphOf, weighs, Ready, startIn}
+use Rattle.relaxing.proofs.Keys.{ready-as, ready-takes}
 use Rattle.settling.proofs.Choice.{takes-none, taken-is, v-in, turn-along, turn-is}
 use borrow.Author.Needs.{needs}
 use Rattle.settling.proofs.turn.Statement.{statement}

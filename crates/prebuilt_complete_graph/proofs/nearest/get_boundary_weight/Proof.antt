@@ -12,12 +12,12 @@ use Rattle.columns.specs.Lists.{over, after}
 use Rattle.columns.specs.Answers.{numberOf}
 use Rattle.columns.proofs.Columns.{after-accepted, after-refused}
 use Rattle.neighbors.proofs.Ends.{GraphSound, graph-says}
-use Rattle.edge_modifier.specs.Records.{Engine, engine}
+use Rattle.engine_columns.specs.Records.{Engine, engine}
 use Rattle.walks.specs.Answers.{table}
 use Rattle.complete_graph.specs.declared.End.the-variants.{None}
-use Rattle.complete_graph.specs.Queries.{graphIn, weightsIn, scratchLong}
+use Rattle.searches.specs.Queries.{graphIn, weightsIn, scratchLong}
 use Rattle.complete_graph.specs.Steps.{tableDoor}
-use Rattle.complete_graph.proofs.Asked.{TableAsked, table-of}
+use Rattle.complete_graph.proofs.Tables.{TableAsked, table-of}
 use Rattle.complete_graph.proofs.Sources.{table-weights-length}
 use Rattle.prebuilt_entries.specs.Nearest.{boundaryIn}
 use Rattle.prebuilt_entries.proofs.Amounts.{cut-fits}

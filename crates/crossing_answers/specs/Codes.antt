@@ -1,0 +1,22 @@
+-- How one number stands for a weight or for none: what private functions promise one another.
+use Prim.Native.Nat.{ℕ, _<_}
+use mathlib.Core.Path.{_≡_}
+use mathlib.Core.List.{List}
+use mathlib.Core.Option.{Option, some, none}
+use lib.Seq.{sets}
+use lib.IntN.{ℤ}
+
+-- a weight, or one that no vertex has
+abbrev pub codeOf : Option ℕ → ℕ
+codeOf none = 2147483648
+codeOf (some weight) = weight
+
+-- r stands for a crossing weight or for none
+abbrev pub Coded : ℕ → Option ℕ → Type 0
+Coded r none = r ≡ 2147483648
+Coded r (some weight) = (r ≡ weight) × (weight < 2147483648)
+
+-- the column where a weight was found, else unchanged
+abbrev pub wherever : Option ℕ → List ℤ → List ℤ → List ℤ
+wherever none column weights₀ = weights₀
+wherever (some weight) column weights₀ = sets weights₀ 0 column

@@ -1,0 +1,57 @@
+-- What the crossing query answers and leaves in the weight column.
+use Prim.Native.Nat.{ℕ, zero, suc}
+use mathlib.Core.Path.{_≡_}
+use mathlib.Core.Bool.{Bool, true, false, _&&_}
+use mathlib.Core.List.{List}
+use mathlib.Core.Option.{Option, some, none}
+use lib.ListN.{length}
+use lib.Dec.{leb}
+use lib.IntN.{ℤ}
+use Rattle.columns.specs.Lists.{after}
+use Rattle.columns.specs.Questions.{ask}
+use Rattle.engine_columns.specs.Records.{Engine}
+use Rattle.engine_columns.specs.Door.{longEnough, sound}
+use Rattle.walks.specs.Answers.{crossing, leastFromLeft}
+use Rattle.crossing_answers.specs.declared.CrossingReply.{CrossingReply}
+use Rattle.crossing_answers.specs.declared.CrossingReply.the-variants.{Crossed, Refused}
+use Rattle.searches.specs.Queries.{graphIn, weightsIn}
+use Rattle.searches.specs.Scratch.{ScratchColumns}
+
+-- document 01's number for each case: 0 where the call was accepted
+abbrev pub replyNumber : CrossingReply → ℕ
+replyNumber (Crossed weight) = 0
+replyNumber (Refused number) = number
+
+-- document 01's value for each case, the crossing weight: 0 where the call was refused
+abbrev pub replyWeight : CrossingReply → ℕ
+replyWeight (Crossed weight) = weight
+replyWeight (Refused number) = 0
+
+-- 18, from the crossing weight if there is one
+abbrev pub isJoined : Option ℕ → Bool
+isJoined none = false
+isJoined (some weight) = true
+
+-- the case for each number and weight; no refusal has the number 0
+abbrev pub replyOf : ℕ → Option ℕ → CrossingReply
+replyOf zero (some weight) = Crossed weight
+replyOf zero none = Refused 18
+replyOf (suc n) weight = Refused (suc n)
+
+-- 6 and 7 of a crossing, and the question after them; `scratch` says whether scratch is long enough
+abbrev pub crossingDoor : Engine → (scratch : Bool) (weights next : ℕ) → ℕ
+crossingDoor e scratch weights next = ask (longEnough 0 e && (leb (e .counts .vertices) weights && scratch)) 6 (ask (sound e) 7 next)
+
+-- the number of the first question of a crossing that is not met, or 0
+abbrev pub crossingNumber : Engine → (scratch : Bool) (weights : ℕ) → ℕ
+crossingNumber e scratch weights = crossingDoor e scratch weights (ask (isJoined (crossing (graphIn e) (weightsIn e))) 18 0)
+
+-- the answer, and the weight column
+pub record CrossingStep (e : Engine) (scratch : Bool) (r : CrossingReply) (weights₀ weights : List ℤ) : Type 0 where
+  pub answer : r ≡ replyOf (crossingNumber e scratch (length weights₀)) (crossing (graphIn e) (weightsIn e))
+  pub weights-left : weights ≡ after (crossingNumber e scratch (length weights₀)) (leastFromLeft (graphIn e) (weightsIn e)) weights₀
+
+-- a call that 6 or 7 refuses leaves scratch as it was; after success and after 18 anything may stand in it
+abbrev pub CrossingScratch : (door : ℕ) → ScratchColumns → ScratchColumns → Type 0
+CrossingScratch zero s₀ s = Unit {0}
+CrossingScratch (suc n) s₀ s = s ≡ s₀

@@ -1,0 +1,2 @@
+-- Loads: laws of loads and of their undoing.
+pub mod Loads

@@ -1,0 +1,2 @@
+-- Load: what loads and reset leave.
+pub mod Load

@@ -1,0 +1,35 @@
+-- `engine_columns::long_enough` meets its contract. Assumes nothing.
+use Rattle.engine_columns.specs.Door.{longEnough}
+use borrow.Author.Needs.{needs}
+use Rattle.engine_columns.proofs.long_enough.Statement.{statement}
+use Rattle.engine_columns.proofs.long_enough.Tie as tie
+
+columns-long-requires : tie.Need-columns-long-requires
+columns-long-requires c κs = search needs
+
+has-room-requires : tie.Need-has-room-requires
+has-room-requires c κs = search needs
+
+has-room-requires-2 : tie.Need-has-room-requires-2
+has-room-requires-2 c κs = search needs
+
+both-requires : tie.Need-both-requires
+both-requires c κs = search needs
+
+both-requires-2 : tie.Need-both-requires-2
+both-requires-2 c κs = search needs
+
+returns : tie.Need-returns
+unfolding longEnough
+returns c = cc
+
+pub long-enough-spec : {M : Type 1} → statement M
+long-enough-spec =
+    tie.close
+    (tie.spec
+    columns-long-requires
+    has-room-requires
+    has-room-requires-2
+    both-requires
+    both-requires-2
+    returns)

@@ -1,0 +1,24 @@
+-- `engine_columns::reset_door` meets its contract. Assumes nothing.
+use borrow.Author.Needs.{needs}
+use Rattle.engine_columns.proofs.reset_door.Statement.{statement}
+use Rattle.engine_columns.proofs.reset_door.Tie as tie
+
+long-enough-requires : tie.Need-long-enough-requires
+long-enough-requires c κs = search needs
+
+engine-sound-requires : tie.Need-engine-sound-requires
+engine-sound-requires c κs = search needs
+
+asked-requires : tie.Need-asked-requires
+asked-requires c κs = search needs
+
+asked-requires-2 : tie.Need-asked-requires-2
+asked-requires-2 c κs = search needs
+
+returns : tie.Need-returns
+returns c = cc
+
+pub reset-door-spec : {M : Type 1} → statement M
+reset-door-spec =
+    tie.close
+    (tie.spec long-enough-requires engine-sound-requires asked-requires asked-requires-2 returns)

@@ -1,0 +1,61 @@
+-- What one call answers and what it leaves in every lent column: the relation that the functions' contracts cite.
+use Prim.Native.Nat.{ℕ}
+use mathlib.Core.Path.{_≡_}
+use mathlib.Core.Bool.{cond}
+use mathlib.Core.List.{List}
+use lib.ListN.{length}
+use lib.Dec.{eqb}
+use Rattle.columns.specs.Limits.{weightLimit}
+use Rattle.columns.specs.Questions.{ask, allBelow, allWithin}
+use Rattle.engine_columns.specs.declared.EngineCounts.{EngineCounts}
+use Rattle.engine_columns.specs.declared.EngineAnswer.{EngineAnswer}
+use Rattle.engine_columns.specs.declared.EngineAnswer.the-variants.{Counts, Refused}
+use Rattle.engine_columns.specs.Records.{Engine, engine, counts}
+use Rattle.edge_log.specs.Load.{loaded, earlier, named, undone, erased, given}
+use Rattle.engine_columns.specs.Door.{longEnough, sound}
+
+-- a call with its arguments
+pub data Call : Type 0 where
+  loadErasures : List ℕ → Call
+  loadWeights : List ℕ → List ℕ → Call
+  reset : Call
+
+-- the number of the first question that is not met, or 0
+abbrev pub door : Call → Engine → ℕ
+door (loadErasures es) e =
+    ask (longEnough (length es) e) 6
+    (ask (sound e) 7
+    (ask (eqb (e .counts .entries) 0) 12
+    (ask (allBelow (e .counts .edges) es) 13 0)))
+door (loadWeights es xs) e =
+    ask (eqb (length es) (length xs)) 6
+    (ask (longEnough (length es) e) 6
+    (ask (sound e) 7
+    (ask (eqb (e .counts .entries) 0) 12
+    (ask (allBelow (e .counts .edges) es) 13
+    (ask (allWithin weightLimit xs) 15 0)))))
+door reset e = ask (longEnough 0 e) 6 (ask (sound e) 7 0)
+
+-- the columns after an accepted load
+abbrev pub loadedBy : List ℕ → (ℕ → ℕ) → Engine → Engine
+loadedBy es x e =
+    engine (counts (e .counts .vertices) (e .counts .edges) (length es)) (e .endsA) (e .endsB)
+    (loaded es x (length es) (e .weights)) (e .boundary)
+    (named es (length es) (e .logEdges)) (earlier es x (length es) (e .weights) (e .logWeights))
+
+-- the columns after an accepted call
+abbrev pub changed : Call → Engine → Engine
+changed (loadErasures es) e = loadedBy es erased e
+changed (loadWeights es xs) e = loadedBy es (given xs) e
+changed reset e =
+    engine (counts (e .counts .vertices) (e .counts .edges) 0) (e .endsA) (e .endsB)
+    (undone (e .logEdges) (e .logWeights) (e .counts .entries) (e .weights)) (e .boundary) (e .logEdges) (e .logWeights)
+
+-- the answer for a number: the counts to go on with, or the refusal
+abbrev pub answered : ℕ → EngineCounts → EngineAnswer
+answered n c = cond (eqb n 0) (Counts c) (Refused n)
+
+-- the answer, and every column left, refusals included
+pub record Step (call : Call) (before : Engine) (r : EngineAnswer) (after : Engine) : Type 0 where
+  pub answer : r ≡ answered (door call before) (changed call before .counts)
+  pub left : after ≡ cond (eqb (door call before) 0) (changed call before) before

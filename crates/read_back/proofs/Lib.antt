@@ -1,0 +1,2 @@
+-- Back: reading a path back.
+pub mod Back

@@ -1,0 +1,6 @@
+-- Listing: the neighbour lists of a search. Sources: one source. Asked: what an accepted query says of its columns. Ranges: an accepted engine graph is a graph
+-- of `walks`.
+pub mod Listing
+pub mod Sources
+pub mod Asked
+pub mod Ranges

@@ -1,0 +1,31 @@
+-- The engine graph that a query reads, and its questions 6, 7 and 13.
+use Prim.Native.Nat.{ℕ, _*_}
+use mathlib.Core.Bool.{Bool, _&&_}
+use lib.ListN.{take, getD}
+use lib.Dec.{leb}
+use Rattle.columns.specs.Questions.{ask}
+use Rattle.engine_columns.specs.Records.{Engine}
+use Rattle.engine_columns.specs.Door.{longEnough, sound}
+use Rattle.walks.specs.Graph.{Graph}
+
+-- the graph in the columns, without the places past the counts
+abbrev pub graphIn : Engine → Graph
+graphIn e = record {
+  vertices = e .counts .vertices;
+  endsA = take (e .counts .edges) (e .endsA);
+  endsB = take (e .counts .edges) (e .endsB);
+  boundary = take (e .counts .vertices) (e .boundary);
+}
+
+-- the weights in force
+abbrev pub weightsIn : Engine → ℕ → ℕ
+weightsIn e k = getD (take (e .counts .edges) (e .weights)) k 0
+
+-- 6, of scratch: each column as long as the vertices, neighbour numbers twice the edges
+unfoldable pub scratchLong : (v e numbers ends status weight previous node leaf : ℕ) → Bool
+scratchLong v e numbers ends status weight previous node leaf =
+    leb (2 * e) numbers && (leb v ends && (leb v status && (leb v weight && (leb v previous && (leb v node && leb v leaf)))))
+
+-- 6, 7 and 13 of a query, then its later questions: `fits` says whether output and scratch columns are long enough, `inRange` whether the numbers handed over are
+abbrev pub queryDoor : Engine → (fits inRange : Bool) (next : ℕ) → ℕ
+queryDoor e fits inRange next = ask (longEnough 0 e && fits) 6 (ask (sound e) 7 (ask inRange 13 next))

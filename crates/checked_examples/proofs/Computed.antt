@@ -22,11 +22,11 @@ use Rattle.layers.specs.Codes.{rows, width, layerEdges, gapEdges, edgesOf, vert
 use Rattle.layers.specs.Counts.{layerVertexNum, vertexNum, layerEdgeNum, gapEdgeNum, edgeNum}
 use Rattle.layers.specs.Accepts.{kindKnown, distanceSound, roundsSound, codeRefusal}
 use Rattle.weights.specs.Calls.{isLargestHalfWeight, halfWeights, largestWeight, computeDoor, someAbove, edgeWeights}
-use Rattle.weights.specs.Probabilities.{isProbability}
+use Rattle.edge_weights.specs.Probabilities.{isProbability}
 use Rattle.columns.specs.Limits.{edgeLimit}
 use Rattle.code_questions.specs.declared.Count.the-variants.{Counted, Refused}
 use Rattle.code_questions.specs.Answers.{vertexNumAnswer}
-use Rattle.weights.specs.Rounding.{halfWeight}
+use Rattle.edge_weights.specs.Rounding.{halfWeight}
 use Rattle.weights.proofs.Theorems.{zero-among}
 use Rattle.neighbors.specs.Sound.{endsDiffer, pairsApart, endsInRange, graphSound, logSound}
 use Rattle.engine_columns.specs.Door.{columnsLong, longEnough, columnsSound, sound}
@@ -35,7 +35,7 @@ use Rattle.walks.specs.Settling.{firstLeast, start, changes, byStatus, offer, r
 use Rattle.walks.specs.Answers.{readBack, stepInto, pathIn, path, fromLeft, nearestRight, crossing}
 use Rattle.walks.specs.Graph.{Graph}
 use Rattle.code_columns.specs.Edges.{firsts, seconds, boundaries}
-use Rattle.weights.specs.Logarithm.{edgeWeight}
+use Rattle.edge_weights.specs.Logarithm.{edgeWeight}
 use Rattle.engine_columns.specs.Records.{Engine, engine, counts}
 use Rattle.engine_columns.specs.Step.{Call, loadErasures, loadWeights, reset}
 use Rattle.engine_columns.specs.Open.{GraphColumns, graphColumns}

@@ -22,8 +22,8 @@ use Rattle.code_columns.specs.Edges.{Ends, firsts, seconds, boundaries}
 use Rattle.layers.specs.Codes.{edgesOf, verticesOf}
 use Rattle.layers.specs.Counts.{vertexNum, edgeNum}
 use Rattle.layers.proofs.Counted.{edges-counted, vertices-counted}
-use Rattle.weights.specs.Logarithm.{edgeWeight}
-use Rattle.weights.specs.Rounding.{halfWeight}
+use Rattle.edge_weights.specs.Logarithm.{edgeWeight}
+use Rattle.edge_weights.specs.Rounding.{halfWeight}
 use Rattle.weights.specs.Calls.{largestWeight, halfWeights}
 use Rattle.weights.proofs.Theorems.{within}
 use Rattle.example_codes.specs.declared.Created.{Created}

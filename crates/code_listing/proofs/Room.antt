@@ -15,7 +15,7 @@ use Rattle.layers.specs.Accepts.{codeRefusal}
 use Rattle.layers.proofs.ByKind.{few}
 use Rattle.code_questions.proofs.Clamped.{next-same}
 use Rattle.weights.specs.declared.diagonal.DiagonalProbability.{DiagonalProbability}
-use Rattle.weights.specs.Probabilities.{isProbability}
+use Rattle.edge_weights.specs.Probabilities.{isProbability}
 use Rattle.weights.specs.Diagonal.{isDiagonalProbability}
 use Rattle.weights.specs.Calls.{edgeWeights, someAbove, isLargestHalfWeight}
 use Rattle.example_codes.specs.Columns.{longEnough}

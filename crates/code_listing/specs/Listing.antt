@@ -14,7 +14,7 @@ use Rattle.layers.specs.Counts.{vertexNum, edgeNum}
 use Rattle.layers.specs.Accepts.{codeRefusal}
 use Rattle.code_graphs.specs.Graphs.{codeGraph}
 use Rattle.walks.specs.Answers.{crossing}
-use Rattle.weights.specs.Probabilities.{isProbability}
+use Rattle.edge_weights.specs.Probabilities.{isProbability}
 use Rattle.weights.specs.Diagonal.{isDiagonalProbability}
 use Rattle.weights.specs.Calls.{edgeWeights, someAbove, isLargestHalfWeight, halfWeights}
 use Rattle.weighted_codes.specs.Probabilities.{probabilities, diagonalOf}

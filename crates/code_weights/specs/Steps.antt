@@ -10,8 +10,8 @@ use lib.Ieee.{Float}
 use Rattle.columns.specs.Lists.{each}
 use Rattle.columns.specs.Places.{zeroFloat, positionAt}
 use Rattle.columns.specs.Questions.{ask}
-use Rattle.weights.specs.Logarithm.{edgeWeight}
-use Rattle.weights.specs.Rounding.{halfWeight}
+use Rattle.edge_weights.specs.Logarithm.{edgeWeight}
+use Rattle.edge_weights.specs.Rounding.{halfWeight}
 use Rattle.weights.specs.Diagonal.{isDiagonal, replaced}
 use Rattle.weights.specs.Calls.{larger}
 use Rattle.weights.specs.declared.diagonal.DiagonalProbability.{DiagonalProbability}

@@ -3,7 +3,7 @@ ghost use mathlib.Core.Path.{_≡_};
 ghost use mathlib.Core.Bool.{_&&_};
 ghost use lib.Ieee.{lt};
 ghost use Rattle.columns.specs.Places.{zeroFloat};
-ghost use Rattle.weights.specs.Probabilities.{isProbability};
+ghost use Rattle.edge_weights.specs.Probabilities.{isProbability};
 ghost use Rattle.weights.specs.Diagonal.{isDiagonalProbability};
 ghost use Rattle.weights.specs.Calls.{isLargestHalfWeight};
 ghost use Rattle.code_weights.specs.Steps.{largestOf, doorNumber};
@@ -11,12 +11,12 @@ use super::weigh::diagonal_p;
 use columns::Weight;
 use columns::questions::asked;
 use columns::questions::both;
+use edge_weights::logarithm::edge_weight;
 use weights::diagonal::DiagonalProbability;
 use weights::diagonal::is_diagonal_probability;
 use weights::is_above_zero;
 use weights::is_largest_half_weight;
 use weights::larger_weight;
-use weights::logarithm::edge_weight;
 use weights::probabilities::is_probability;
 
 // The largest weight of a code's edges. Some edge is not diagonal; from one round on some edge of kind 4 is.

@@ -8,7 +8,7 @@ use native.Mathlib.Omega.{arith}
 use lib.ListN.{length, getD, set}
 use lib.Seq.{sets}
 use lib.Ieee.{Float, lt, nan}
-use Rattle.weights.specs.Constants.{half}
+use Rattle.edge_weights.specs.Constants.{half}
 use Rattle.columns.specs.Lists.{each, when}
 use Rattle.columns.specs.Places.{zeroFloat}
 use Rattle.columns.proofs.Columns.{getD-any, sets-more}

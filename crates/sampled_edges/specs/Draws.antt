@@ -4,7 +4,7 @@ use mathlib.Core.Bool.{Bool, cond}
 use mathlib.Core.List.{List}
 use lib.ListN.{getD}
 use lib.Ieee.{Float, lt}
-use Rattle.weights.specs.Constants.{half}
+use Rattle.edge_weights.specs.Constants.{half}
 use Rattle.columns.specs.Lists.{each}
 use Rattle.columns.specs.Places.{zeroFloat}
 use Rattle.random.specs.declared.DeterministicRng.{DeterministicRng}

@@ -3,7 +3,7 @@ use Prim.Native.Nat.{ℕ, _*_}
 use mathlib.Core.List.{List}
 use lib.Seq.{sets}
 use lib.Ieee.{Float, lt}
-use Rattle.weights.specs.Constants.{half}
+use Rattle.edge_weights.specs.Constants.{half}
 use mathlib.Core.Path.{_≡_}
 use mathlib.Core.Bool.{cond}
 use Rattle.random.specs.declared.DeterministicRng.{DeterministicRng}

@@ -17,7 +17,7 @@ use Rattle.columns.proofs.Columns.{after-accepted}
 use Rattle.columns.proofs.Counting.{each-same, length-each, getD-each}
 use Rattle.random.specs.declared.DeterministicRng.{DeterministicRng}
 use Rattle.random.specs.Random.{seedFromU64}
-use Rattle.weights.specs.Constants.{half}
+use Rattle.edge_weights.specs.Constants.{half}
 use Rattle.neighbors.specs.Lists.{chosen}
 use Rattle.syndromes.specs.declared.SyndromeAnswer.{SyndromeAnswer}
 use Rattle.syndromes.specs.Records.{CodeGraph, SyndromeColumns}

@@ -8,7 +8,7 @@ use lib.Ieee.{Float}
 use Rattle.columns.specs.Questions.{ask, all}
 use Rattle.random.specs.declared.DeterministicRng.{DeterministicRng}
 use Rattle.random.specs.Random.{seedFromU64}
-use Rattle.weights.specs.Probabilities.{isProbability, isErasureProbability}
+use Rattle.edge_weights.specs.Probabilities.{isProbability, isErasureProbability}
 use Rattle.flips.specs.Flip.{flipEach}
 use Rattle.sampled_edges.specs.Draws.{sampledErasures, sampledErrors}
 use Rattle.syndromes.specs.declared.SyndromeAnswer.{SyndromeAnswer}

@@ -12,7 +12,7 @@ use Rattle.columns.specs.Places.{zeroFloat, position}
 use Rattle.columns.proofs.Tests.{every-at}
 use Rattle.code_columns.specs.Edges.{float}
 use Rattle.planar.specs.Planar.{half, one}
-use Rattle.weights.specs.Constants as constants
+use Rattle.edge_weights.specs.Constants as constants
 use Rattle.weights.specs.Diagonal.{absolute, manhattanDistance, isDiagonal}
 
 -- -1

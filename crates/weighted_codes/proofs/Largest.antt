@@ -15,7 +15,7 @@ use Rattle.code_columns.specs.Edges.{Ends}
 use Rattle.layers.specs.Codes.{edgesOf}
 use Rattle.layers.specs.Counts.{edgeNum}
 use Rattle.layers.proofs.Accepted.{Accepted}
-use Rattle.weights.specs.Logarithm.{edgeWeight}
+use Rattle.edge_weights.specs.Logarithm.{edgeWeight}
 use Rattle.weights.specs.Diagonal.{replaced}
 use Rattle.weights.specs.Calls.{larger, largest, largestWeight, edgeWeights}
 use Rattle.weights.specs.declared.diagonal.DiagonalProbability.{DiagonalProbability}

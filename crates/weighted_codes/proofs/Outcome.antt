@@ -26,9 +26,9 @@ use Rattle.layers.proofs.Accepted.{Accepted, accepted, edges-few}
 use Rattle.layers.proofs.Counted.{edges-counted, vertices-counted}
 use Rattle.code_graphs.proofs.AllEdges.{edge-facts}
 use Rattle.code_graphs.proofs.Sound.{first-over, second-over}
-use Rattle.weights.specs.Logarithm.{edgeWeight}
-use Rattle.weights.specs.Rounding.{halfWeight}
-use Rattle.weights.specs.Probabilities.{isProbability}
+use Rattle.edge_weights.specs.Logarithm.{edgeWeight}
+use Rattle.edge_weights.specs.Rounding.{halfWeight}
+use Rattle.edge_weights.specs.Probabilities.{isProbability}
 use Rattle.weights.specs.Diagonal.{isDiagonal, replaced, newDiagonal, isDiagonalProbability}
 use Rattle.weights.specs.Calls.{largestWeight, edgeWeights, someAbove, isLargestHalfWeight, halfWeights}
 use Rattle.weights.specs.declared.diagonal.DiagonalProbability.{DiagonalProbability}

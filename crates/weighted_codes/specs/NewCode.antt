@@ -9,7 +9,7 @@ use Rattle.columns.specs.Lists.{after}
 use Rattle.columns.specs.Questions.{ask}
 use Rattle.layers.specs.Counts.{vertexNum, edgeNum}
 use Rattle.layers.specs.Accepts.{codeRefusal}
-use Rattle.weights.specs.Probabilities.{isProbability}
+use Rattle.edge_weights.specs.Probabilities.{isProbability}
 use Rattle.weights.specs.Diagonal.{isDiagonalProbability}
 use Rattle.weights.specs.Calls.{edgeWeights, someAbove, isLargestHalfWeight, halfWeights}
 use Rattle.weights.specs.declared.diagonal.DiagonalProbability.{DiagonalProbability}

@@ -15,7 +15,7 @@ ghost use mathlib.Core.Path.{_≡_};
 ghost use mathlib.Core.Bool.{_&&_};
 ghost use lib.Ieee.{lt};
 ghost use Rattle.columns.specs.Places.{zeroFloat};
-ghost use Rattle.weights.specs.Probabilities.{isProbability};
+ghost use Rattle.edge_weights.specs.Probabilities.{isProbability};
 ghost use Rattle.weights.specs.Diagonal.{isDiagonalProbability};
 ghost use Rattle.weights.specs.Calls.{isLargestHalfWeight};
 ghost use Rattle.layers.specs.Counts.{edgeNum};

@@ -20,13 +20,13 @@ use Rattle.columns.specs.declared.Done.{Done}
 use Rattle.columns.specs.declared.Done.the-variants.{Accepted}
 use Rattle.columns.proofs.Columns.{getD-any, over-in, over-past, after-accepted}
 use Rattle.columns.proofs.Tests.{and-both, both-and, at-all}
-use Rattle.weights.specs.Constants.{half}
-use Rattle.weights.specs.Probabilities.{isProbability}
-use Rattle.weights.specs.Logarithm.{halve, series, logarithm, edgeWeight}
-use Rattle.weights.specs.Rounding.{reaches, greatest, scaled, atLeastOne, halfWeight}
+use Rattle.edge_weights.specs.Constants.{half}
+use Rattle.edge_weights.specs.Probabilities.{isProbability}
+use Rattle.edge_weights.specs.Logarithm.{halve, series, logarithm, edgeWeight}
+use Rattle.edge_weights.specs.Rounding.{reaches, greatest, scaled, atLeastOne, halfWeight}
 use Rattle.weights.specs.Calls.{larger, largest, edgeWeights, largestWeight, someAbove, isLargestHalfWeight, halfWeights, computeDoor, ComputedWeights}
-use Rattle.weights.proofs.Recipe.{zero-weight}
-use Rattle.weights.proofs.Search.{is-greatest, misses, greatest-within}
+use Rattle.edge_weights.proofs.Recipe.{zero-weight}
+use Rattle.edge_weights.proofs.Search.{is-greatest, misses, greatest-within}
 use Rattle.weights.proofs.Doors.{met, goes-on}
 
 -- ---- what an accepted call knows

@@ -12,9 +12,9 @@ use Rattle.columns.specs.Questions.{ask, all}
 use Rattle.columns.specs.Places.{zeroFloat}
 use Rattle.columns.specs.Answers.{done}
 use Rattle.columns.specs.declared.Done.{Done}
-use Rattle.weights.specs.Probabilities.{isProbability}
-use Rattle.weights.specs.Logarithm.{edgeWeight}
-use Rattle.weights.specs.Rounding.{halfWeight}
+use Rattle.edge_weights.specs.Probabilities.{isProbability}
+use Rattle.edge_weights.specs.Logarithm.{edgeWeight}
+use Rattle.edge_weights.specs.Rounding.{halfWeight}
 
 -- ---- weight_of_p
 

@@ -2,8 +2,8 @@
 use mathlib.Core.Bool.{Bool, true, false, cond}
 use lib.Ieee.{Float, nan, inf, fin, binary64, add, sub, div, lt}
 use Rattle.columns.specs.declared.VisualizePosition.{VisualizePosition}
-use Rattle.weights.specs.Constants.{one, three}
-use Rattle.weights.specs.Probabilities.{isProbability}
+use Rattle.edge_weights.specs.Constants.{one, three}
+use Rattle.edge_weights.specs.Probabilities.{isProbability}
 use Rattle.weights.specs.declared.diagonal.DiagonalProbability.{DiagonalProbability}
 use Rattle.weights.specs.declared.diagonal.DiagonalProbability.the-variants.{None, Given}
 

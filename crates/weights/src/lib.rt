@@ -1,8 +1,6 @@
 // Weights: document 01's section "Weights" with questions 6 to 10.
 pub mod diagonal;
-pub mod logarithm;
 pub mod probabilities;
-pub mod rounding;
 
 use columns::Done;
 use columns::EDGE_LIMIT;
@@ -14,11 +12,11 @@ use columns::questions::at_most;
 use columns::questions::both;
 use columns::questions::lesser;
 use columns::stores::fill_f64;
-use logarithm::edge_weight;
+use edge_weights::logarithm::edge_weight;
+use edge_weights::rounding::half_weight;
 use probabilities::are_probabilities;
 use probabilities::is_erasure_probability;
 use probabilities::is_probability;
-use rounding::half_weight;
 ghost use mathlib.Core.Path.{_≡_};
 ghost use mathlib.Core.Bool.{Bool};
 ghost use mathlib.Core.List.{map};
@@ -27,9 +25,9 @@ ghost use lib.ListN.{length, take};
 ghost use lib.Ieee.{lt};
 ghost use Rattle.columns.specs.Lists.{over};
 ghost use Rattle.columns.specs.Places.{zeroFloat};
-ghost use Rattle.weights.specs.Probabilities.{isProbability, isErasureProbability};
-ghost use Rattle.weights.specs.Logarithm.{edgeWeight};
-ghost use Rattle.weights.specs.Rounding.{halfWeight};
+ghost use Rattle.edge_weights.specs.Probabilities.{isProbability, isErasureProbability};
+ghost use Rattle.edge_weights.specs.Logarithm.{edgeWeight};
+ghost use Rattle.edge_weights.specs.Rounding.{halfWeight};
 ghost use Rattle.weights.specs.Answers.{weighed};
 ghost use Rattle.weights.specs.Calls.{weightDoor, larger, largestWeight, isLargestHalfWeight, ComputedWeights, SetEach};
 

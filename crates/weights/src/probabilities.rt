@@ -5,7 +5,7 @@ ghost use lib.Dec.{T};
 ghost use lib.ListN.{take};
 ghost use lib.Ieee.{isNan};
 ghost use Rattle.columns.specs.Questions.{all};
-ghost use Rattle.weights.specs.Probabilities.{isPlusZero, isProbability, isErasureProbability};
+ghost use Rattle.edge_weights.specs.Probabilities.{isPlusZero, isProbability, isErasureProbability};
 use columns::questions::both;
 use columns::questions::lesser;
 

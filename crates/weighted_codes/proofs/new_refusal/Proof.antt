@@ -4,7 +4,7 @@ use mathlib.Core.Bool.{_&&_}
 use Prim.Native.Nat.{ℕ}
 use lib.Ieee.{lt}
 use Rattle.columns.specs.Places.{zeroFloat}
-use Rattle.weights.specs.Probabilities.{isProbability}
+use Rattle.edge_weights.specs.Probabilities.{isProbability}
 use Rattle.weights.specs.Diagonal.{isDiagonalProbability}
 use Rattle.weights.specs.Calls.{isLargestHalfWeight}
 use Rattle.code_weights.specs.Steps.{doorNumber}

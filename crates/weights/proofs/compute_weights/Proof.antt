@@ -14,8 +14,8 @@ use Rattle.columns.specs.Questions.{ask}
 use Rattle.columns.specs.Lists.{over, after}
 use Rattle.columns.proofs.Columns.{after-accepted, after-refused}
 use Rattle.columns.proofs.Tests.{and-both}
-use Rattle.weights.specs.Logarithm.{edgeWeight}
-use Rattle.weights.specs.Rounding.{halfWeight}
+use Rattle.edge_weights.specs.Logarithm.{edgeWeight}
+use Rattle.edge_weights.specs.Rounding.{halfWeight}
 use Rattle.weights.specs.Calls.{edgeWeights, largestWeight, halfWeights, computeDoor}
 use Rattle.weights.proofs.Doors.{met, asks, ands}
 use Rattle.weights.proofs.Largest.{some-above}

@@ -6,7 +6,7 @@ use lib.ListN.{length, take, getD}
 use lib.Ieee.{Float, nan}
 use borrow.Author.Needs.{needs}
 use Rattle.columns.specs.Places.{zeroFloat}
-use Rattle.weights.specs.Logarithm.{edgeWeight}
+use Rattle.edge_weights.specs.Logarithm.{edgeWeight}
 use Rattle.weights.specs.Calls.{larger, largest, edgeWeights, largestWeight}
 use Rattle.weights.proofs.Doors.{take-first, map-more}
 use Rattle.weights.proofs.Largest.{largest-more}

@@ -9,8 +9,8 @@ use lib.Seq.{sets, length-sets}
 use lib.Ieee.{Float, nan}
 use borrow.Author.Needs.{needs}
 use Rattle.columns.proofs.Columns.{sets-over}
-use Rattle.weights.specs.Logarithm.{edgeWeight}
-use Rattle.weights.specs.Rounding.{halfWeight}
+use Rattle.edge_weights.specs.Logarithm.{edgeWeight}
+use Rattle.edge_weights.specs.Rounding.{halfWeight}
 use Rattle.weights.proofs.Doors.{store-more}
 use Rattle.weights.proofs.store_half_weights.Statement.{statement}
 use Rattle.weights.proofs.store_half_weights.Tie as tie

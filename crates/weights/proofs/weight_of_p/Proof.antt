@@ -3,7 +3,7 @@ use mathlib.Core.Path.{sym, ap, _∙_}
 use mathlib.Core.Bool.{Bool}
 use borrow.Author.Needs.{needs}
 use Rattle.columns.specs.Questions.{ask}
-use Rattle.weights.specs.Logarithm.{edgeWeight}
+use Rattle.edge_weights.specs.Logarithm.{edgeWeight}
 use Rattle.weights.specs.Answers.{weighed}
 use Rattle.weights.specs.declared.WeightOfP.the-variants.{Weighs}
 use Rattle.weights.proofs.weight_of_p.Statement.{statement}

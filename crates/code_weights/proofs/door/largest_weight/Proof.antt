@@ -4,7 +4,7 @@ use mathlib.Core.Bool.{Bool, cond}
 use lib.Ieee.{Float}
 use borrow.Author.Tests.{eq-eqb, ne-eqb}
 use Rattle.columns.specs.Places.{zeroFloat}
-use Rattle.weights.specs.Logarithm.{edgeWeight}
+use Rattle.edge_weights.specs.Logarithm.{edgeWeight}
 use Rattle.weights.specs.Calls.{larger}
 use Rattle.code_weights.specs.Steps.{diagonalP, largestOf}
 use borrow.Author.Needs.{needs}

@@ -1,7 +1,7 @@
 -- `code_weights::weigh::weighed` meets its contract. Assumes nothing.
 use mathlib.Core.Path.{_≡_, refl, sym, ap, _∙_}
 use lib.Ieee.{Float}
-use Rattle.weights.specs.Rounding.{halfWeight}
+use Rattle.edge_weights.specs.Rounding.{halfWeight}
 use borrow.Author.Needs.{needs}
 use Rattle.code_weights.proofs.weigh.weighed.Statement.{statement}
 use Rattle.code_weights.proofs.weigh.weighed.Tie as tie

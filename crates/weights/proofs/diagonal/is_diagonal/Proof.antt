@@ -2,7 +2,7 @@
 use mathlib.Core.Path.{ap}
 use lib.Ieee.{Float, lt}
 use borrow.Author.Needs.{needs}
-use Rattle.weights.specs.Constants.{one}
+use Rattle.edge_weights.specs.Constants.{one}
 use Rattle.weights.proofs.diagonal.is_diagonal.Statement.{statement}
 use Rattle.weights.proofs.diagonal.is_diagonal.Tie as tie
 

@@ -8,7 +8,7 @@ use lib.Ieee.{nan}
 use borrow.Author.Needs.{needs}
 use Rattle.columns.specs.Questions.{all}
 use Rattle.columns.proofs.Tests.{all-next, all-whole}
-use Rattle.weights.specs.Probabilities.{isErasureProbability}
+use Rattle.edge_weights.specs.Probabilities.{isErasureProbability}
 use Rattle.weights.proofs.probabilities.are_erasure_probabilities.Statement.{statement}
 use Rattle.weights.proofs.probabilities.are_erasure_probabilities.Tie as tie
 

@@ -2,7 +2,7 @@
 use mathlib.Core.Path.{_≡_, ap, _∙_}
 use mathlib.Core.Bool.{Bool, _||_}
 use borrow.Author.Needs.{needs}
-use Rattle.weights.specs.Probabilities.{isPlusZero, isProbability}
+use Rattle.edge_weights.specs.Probabilities.{isPlusZero, isProbability}
 use Rattle.weights.proofs.probabilities.is_probability.Statement.{statement}
 use Rattle.weights.proofs.probabilities.is_probability.Tie as tie
 

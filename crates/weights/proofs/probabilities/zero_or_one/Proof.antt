@@ -2,7 +2,7 @@
 use mathlib.Core.Path.{_≡_, refl, sym, _∙_, subst}
 use lib.Ieee.{Float, binary64, fits}
 use lib.Dec.{T}
-use Rattle.weights.proofs.Floats.{equal-no-nan, unequal-zero, one-number, one-not-zero}
+use Rattle.edge_weights.proofs.Floats.{equal-no-nan, unequal-zero, one-number, one-not-zero}
 use Rattle.weights.proofs.probabilities.zero_or_one.Statement.{statement}
 use Rattle.weights.proofs.probabilities.zero_or_one.Tie as tie
 

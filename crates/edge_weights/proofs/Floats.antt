@@ -8,8 +8,8 @@ use lib.Ieee.Bits.{is-false, ofBits-toBits}
 use lib.Ieee.Exact.{HasValue}
 use lib.Ieee.Positive.{positive}
 use Rattle.columns.specs.Places.{zeroFloat}
-use Rattle.weights.specs.Constants.{one, two, three, thirtyFive, half, leastP}
-use Rattle.weights.specs.Probabilities.{isPlusZero, isInRange, isProbability}
+use Rattle.edge_weights.specs.Constants.{one, two, three, thirtyFive, half, leastP}
+use Rattle.edge_weights.specs.Probabilities.{isPlusZero, isInRange, isProbability}
 
 -- ---- what the constants are
 

@@ -13,9 +13,9 @@ use lib.Ieee.Bits.{is-false}
 use lib.Ieee.Back.{round-whole}
 use lib.Ieee.Order.{round-mono}
 use lib.Ieee.Positive.{num, den, den-pos, positive, above, above-of-le, positive-of-value, le→cross, le-trans-positive, between}
-use Rattle.weights.specs.Constants.{half}
-use Rattle.weights.specs.Rounding.{reaches, seek, greatest}
-use Rattle.weights.proofs.Floats.{half-pos}
+use Rattle.edge_weights.specs.Constants.{half}
+use Rattle.edge_weights.specs.Rounding.{reaches, seek, greatest}
+use Rattle.edge_weights.proofs.Floats.{half-pos}
 
 -- ---- a difference x - y grows with x
 pick : (f : Format) (a b c : ℕ) → b ≤ a → sum f false a true b c ≡ round f false (a - b) c

@@ -6,9 +6,9 @@ use native.Mathlib.Omega.{arith}
 use lib.IntN.{pos}
 use lib.Ieee.{Float, inf, binary64, add, mul, div, lt, eq, ofBits, ofInt}
 use Rattle.columns.specs.Places.{zeroFloat}
-use Rattle.weights.specs.Constants.{one, two, half, thirtyFive, ln2}
-use Rattle.weights.proofs.Floats.{zero-equal}
-use Rattle.weights.specs.Logarithm.{odds, Halved, halve, series, fraction, logarithm, edgeWeight}
+use Rattle.edge_weights.specs.Constants.{one, two, half, thirtyFive, ln2}
+use Rattle.edge_weights.proofs.Floats.{zero-equal}
+use Rattle.edge_weights.specs.Logarithm.{odds, Halved, halve, series, fraction, logarithm, edgeWeight}
 
 -- what is left to be done after k halvings
 abbrev pub from : ℕ → Float → Halved

@@ -1,4 +1,4 @@
--- `weights::logarithm::sum_series` meets its contract. Invariant: what is left of the recursion from here is the whole recursion. The measure is n. Assumes nothing.
+-- `edge_weights::logarithm::sum_series` meets its contract. Invariant: what is left of the recursion from here is the whole recursion. The measure is n. Assumes nothing.
 use mathlib.Core.Path.{_≡_, refl, sym, _∙_}
 use Prim.Native.Nat.{ℕ, zero, suc, _+_, _-_, _*_, _≤_, _<_}
 use native.Mathlib.Nat.{lt-irrefl}
@@ -6,10 +6,10 @@ use native.Mathlib.Omega.{arith}
 use borrow.Author.Needs.{needs}
 use lib.IntN.{pos}
 use lib.Ieee.{Float, binary64, add, mul, div, ofInt}
-use Rattle.weights.specs.Constants.{one}
-use Rattle.weights.specs.Logarithm.{series}
-use Rattle.weights.proofs.logarithm.sum_series.Statement.{statement}
-use Rattle.weights.proofs.logarithm.sum_series.Tie as tie
+use Rattle.edge_weights.specs.Constants.{one}
+use Rattle.edge_weights.specs.Logarithm.{series}
+use Rattle.edge_weights.proofs.logarithm.sum_series.Statement.{statement}
+use Rattle.edge_weights.proofs.logarithm.sum_series.Tie as tie
 
 step : (n : ℕ) (z h : Float) → 0 < n
     → series (n - 1) z (add binary64 (mul binary64 h z) (div binary64 one (ofInt binary64 (pos (2 * (n - 1) + 1))))) ≡ series n z h

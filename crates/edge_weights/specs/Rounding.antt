@@ -3,7 +3,7 @@ use Prim.Native.Nat.{ℕ, zero, suc}
 use mathlib.Core.Bool.{Bool, true, false}
 use lib.IntN.{pos}
 use lib.Ieee.{Float, binary64, sub, mul, div, le, ofInt}
-use Rattle.weights.specs.Constants.{half}
+use Rattle.edge_weights.specs.Constants.{half}
 
 -- v = (M·w) / (largest w)
 unfoldable pub scaled : ℕ → Float → Float → Float

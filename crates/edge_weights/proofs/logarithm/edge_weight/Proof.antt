@@ -1,14 +1,14 @@
--- `weights::logarithm::edge_weight` meets its contract. Invariant: what is left to be halved comes to what the definition makes of the odds. Assumes nothing.
+-- `edge_weights::logarithm::edge_weight` meets its contract. Invariant: what is left to be halved comes to what the definition makes of the odds. Assumes nothing.
 use mathlib.Core.Path.{_≡_, refl, sym, _∙_}
 use mathlib.Core.Logic.{⊎-elim}
 use Prim.Native.Nat.{_-_, _≤_}
 use native.Mathlib.Omega.{arith}
 use borrow.Author.Needs.{needs}
 use lib.Ieee.{lt}
-use Rattle.weights.specs.Constants.{two}
-use Rattle.weights.proofs.logarithm.edge_weight.Statement.{statement}
-use Rattle.weights.proofs.logarithm.edge_weight.Tie as tie
-use Rattle.weights.proofs.Recipe.{from, ended, spent, stops, turn, infinite, at-zero, past-zero, last-line}
+use Rattle.edge_weights.specs.Constants.{two}
+use Rattle.edge_weights.proofs.logarithm.edge_weight.Statement.{statement}
+use Rattle.edge_weights.proofs.logarithm.edge_weight.Tie as tie
+use Rattle.edge_weights.proofs.Recipe.{from, ended, spent, stops, turn, infinite, at-zero, past-zero, last-line}
 
 abbrev Inv-loop : tie.InvT-loop
 Inv-loop p q₀ k₀ q k = (k ≤ 64) × (from k q ≡ from 0 q₀)

@@ -1,7 +1,7 @@
 // The half weight of an edge.
 ghost use mathlib.Core.Path.{_≡_};
 ghost use Prim.Native.Nat.{_≤_};
-ghost use Rattle.weights.specs.Rounding.{greatest, halfWeight};
+ghost use Rattle.edge_weights.specs.Rounding.{greatest, halfWeight};
 use columns::Weight;
 
 // The greatest n of 0 to max with n = 0 or v >= n - 0.5: lo is such a number, and no number from hi on is.

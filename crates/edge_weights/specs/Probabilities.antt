@@ -3,7 +3,7 @@ use mathlib.Core.Bool.{Bool, _&&_, _||_}
 use lib.Dec.{eqb}
 use lib.Ieee.{Float, binary64, le, toBits}
 use Rattle.columns.specs.Places.{zeroFloat}
-use Rattle.weights.specs.Constants.{one, half, leastP}
+use Rattle.edge_weights.specs.Constants.{one, half, leastP}
 
 -- 0, not negative zero: the f64 whose bits are all 0
 abbrev pub isPlusZero : Float → Bool

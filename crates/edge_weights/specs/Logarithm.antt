@@ -4,7 +4,7 @@ use mathlib.Core.Bool.{Bool, true, false, cond}
 use lib.IntN.{pos}
 use lib.Ieee.{Float, inf, binary64, add, sub, mul, div, lt, eq, ofInt}
 use Rattle.columns.specs.Places.{zeroFloat}
-use Rattle.weights.specs.Constants.{one, two, half, thirtyFive, ln2}
+use Rattle.edge_weights.specs.Constants.{one, two, half, thirtyFive, ln2}
 
 -- q = (1 - p) / p
 abbrev pub odds : Float → Float

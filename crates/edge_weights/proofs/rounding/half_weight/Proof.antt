@@ -1,13 +1,13 @@
--- `weights::rounding::half_weight` meets its contract. Assumes nothing.
+-- `edge_weights::rounding::half_weight` meets its contract. Assumes nothing.
 use mathlib.Core.Path.{_≡_, refl, _∙_, ap}
 use Prim.Native.Nat.{ℕ, zero, suc, _≤_}
 use native.Mathlib.Omega.{arith}
 use lib.Ieee.{Float}
 use borrow.Author.Needs.{needs}
-use Rattle.weights.specs.Rounding.{greatest, scaled, halfWeight, atLeastOne}
-use Rattle.weights.proofs.Search.{fits-float, greatest-within}
-use Rattle.weights.proofs.rounding.half_weight.Statement.{statement}
-use Rattle.weights.proofs.rounding.half_weight.Tie as tie
+use Rattle.edge_weights.specs.Rounding.{greatest, scaled, halfWeight, atLeastOne}
+use Rattle.edge_weights.proofs.Search.{fits-float, greatest-within}
+use Rattle.edge_weights.proofs.rounding.half_weight.Statement.{statement}
+use Rattle.edge_weights.proofs.rounding.half_weight.Tie as tie
 
 one : (n : ℕ) → n ≡ 0 → 1 ≡ atLeastOne n
 one zero e = refl

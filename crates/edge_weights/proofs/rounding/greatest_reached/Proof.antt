@@ -1,13 +1,13 @@
--- `weights::rounding::greatest_reached` meets its contract. Invariant: lo is 0 or is reached, and no n from hi to max is. The measure is hi - lo. Assumes nothing.
+-- `edge_weights::rounding::greatest_reached` meets its contract. Invariant: lo is 0 or is reached, and no n from hi to max is. The measure is hi - lo. Assumes nothing.
 use mathlib.Core.Path.{_≡_, refl, sym}
 use mathlib.Core.Logic.{_⊎_, inl, inr}
 use mathlib.Core.Bool.{true, false}
 use Prim.Native.Nat.{ℕ, _+_, _-_, _/_, _≤_, _<_}
 use native.Mathlib.Omega.{arith}
-use Rattle.weights.specs.Rounding.{reaches}
-use Rattle.weights.proofs.Search.{is-greatest, misses, fits-float}
-use Rattle.weights.proofs.rounding.greatest_reached.Statement.{statement}
-use Rattle.weights.proofs.rounding.greatest_reached.Tie as tie
+use Rattle.edge_weights.specs.Rounding.{reaches}
+use Rattle.edge_weights.proofs.Search.{is-greatest, misses, fits-float}
+use Rattle.edge_weights.proofs.rounding.greatest_reached.Statement.{statement}
+use Rattle.edge_weights.proofs.rounding.greatest_reached.Tie as tie
 
 abbrev Inv-loop : tie.InvT-loop
 Inv-loop max v lo₀ hi₀ lo hi =

@@ -18,11 +18,11 @@ use lib.Ieee.Order.{round-mono}
 use lib.Ieee.Scale.{round-same}
 use lib.Ieee.Positive.{num, den, den-pos, positive, positive-of-value, le→cross, cross→le, le-trans-positive, between, mul-at, mul-mono, sub-anti}
 use Rattle.columns.specs.Places.{zeroFloat}
-use Rattle.weights.specs.Constants.{one, two, half, leastP}
-use Rattle.weights.specs.Probabilities.{isPlusZero, isInRange, isProbability}
-use Rattle.weights.specs.Logarithm.{Halved, halve, odds, logarithm, edgeWeight}
-use Rattle.weights.proofs.Floats.{half-is, half-pos, one-pos, two-pos, least-pos, plus-zero, in-range}
-use Rattle.weights.proofs.Recipe.{from, ended, past-zero, zero-weight}
+use Rattle.edge_weights.specs.Constants.{one, two, half, leastP}
+use Rattle.edge_weights.specs.Probabilities.{isPlusZero, isInRange, isProbability}
+use Rattle.edge_weights.specs.Logarithm.{Halved, halve, odds, logarithm, edgeWeight}
+use Rattle.edge_weights.proofs.Floats.{half-is, half-pos, one-pos, two-pos, least-pos, plus-zero, in-range}
+use Rattle.edge_weights.proofs.Recipe.{from, ended, past-zero, zero-weight}
 
 -- ---- 2 ^ j as a float
 abbrev pw : ℕ → Float

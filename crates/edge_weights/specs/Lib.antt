@@ -1,0 +1,6 @@
+-- Document 01's section "Weights", as definitions.
+-- Constants: the f64 numbers by their bits. Probabilities: question 9. Logarithm: the weight of an edge. Rounding: the half weight of an edge.
+pub mod Constants
+pub mod Probabilities
+pub mod Logarithm
+pub mod Rounding

@@ -15,8 +15,8 @@ pub fn wrapping_mul(a: u64, b: u64) -> u64
     std::num::wrapping_add_u64(a0 * b0, cross << 32)
 }
 
-// x * (2 ^ k + 1), wrapping: what Xoshiro256** multiplies by, as a shift and a sum.
-fn shift_add(x: u64, k: u32) -> u64
+// The low 64 bits of x * (2 ^ k + 1), from a shift: Xoshiro256** multiplies by 5 and 9.
+fn wrapping_mul_shift(x: u64, k: u32) -> u64
     requires { ⌜ k < 64 ⌝ }
     ensures { λ r. ⌜ r ≡ (x * (2 ^ k + 1)) % 2 ^ 64 ⌝ }
 {
@@ -102,7 +102,7 @@ impl DeterministicRng {
     pub fn next_u64(self) -> Next
         ensures { λ r. ⌜ (r .word ≡ wordOf self) × (r .rng ≡ nextOf self) ⌝ }
     {
-        let word = shift_add(rotate_left(shift_add(self.s1, 2), 7), 3);
+        let word = wrapping_mul_shift(rotate_left(wrapping_mul_shift(self.s1, 2), 7), 3);
         let t = self.s1 << 17;
         let s2 = self.s2 ^ self.s0;
         let s3 = self.s3 ^ self.s1;

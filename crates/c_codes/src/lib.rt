@@ -1,4 +1,4 @@
-// For C, Rust and Python: slices as pointer and length, answers as structs of numbers.
+// For C and Rust: slices as pointer and length, answers as structs of numbers.
 mod access;
 mod codes;
 mod counts;

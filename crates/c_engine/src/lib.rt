@@ -1,3 +1,3 @@
-// For C, Rust and Python: slices as pointer and length, answers as structs of numbers.
+// For C and Rust: slices as pointer and length, answers as structs of numbers.
 mod engine;
 mod queries;

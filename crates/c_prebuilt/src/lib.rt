@@ -1,4 +1,4 @@
-// The prebuilt complete graph for C, Rust and Python: slices as pointer and length, answers as numbers or a struct of numbers.
+// The prebuilt complete graph for C and Rust: slices as pointer and length, answers as numbers or a struct of numbers.
 pub mod reports;
 
 use c_reports::done_number;

@@ -1,4 +1,4 @@
-// Paths and crossings for C, Rust and Python: slices as pointer and length, answers as structs of numbers.
+// Paths and crossings for C and Rust: slices as pointer and length, answers as structs of numbers.
 pub mod reports;
 
 use c_reports::OneCount;

@@ -1,4 +1,4 @@
-// `new` and `new_diagonal` for C, Rust and Python: slices as pointer and length, answers as structs of numbers.
+// `new` and `new_diagonal` for C and Rust: slices as pointer and length, answers as structs of numbers.
 use c_codes::reports::created_report;
 use c_reports::TwoCounts;
 use columns::Weight;

@@ -72,7 +72,7 @@ pub fn decimal_sound(text: &[u8], at: usize, n: usize, stop: u8) -> bool
     both(few, both(plain, ended))
 }
 
-// Whether the 16 bytes from a place on are hexadecimal digits, as far as there are any.
+// Whether the 16 bytes from a place on are hexadecimal digits.
 fn are_hex(text: &[u8], at: usize) -> bool
     requires { ⌜ at + 16 ≤ length (now text) ⌝ }
     ensures { λ r. ⌜ r ≡ all isHexDigit (take 16 (drop at (now (text .entry)))) ⌝ }

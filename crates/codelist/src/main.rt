@@ -1,7 +1,8 @@
 // The program `codelist`: reads one line, writes the listing or the refusal.
 // Every byte that it writes goes through `print`, whose caller has to show that it lends the whole text for the input and nothing else. No contract can say
-// what a call of C reads or writes, so it is left to the reader that `main` makes its one call, and that `io::read_full` and `io::write_all` read and
-// write what they are lent. Of an input longer than the buffer a part is read, which is refused as the whole would be (`code_line::long_inputs_alike`).
+// what a call of C reads or writes, so this is left to the reader: that `main` makes its one call, that `read_and_answer` hands on exactly the bytes
+// read, that `print` writes, and that `io::read_full` and `io::write_all` read and write what they are lent. Of an input longer than the buffer a part
+// is read, which is refused as the whole would be (`code_line::long_inputs_alike`).
 use code_text::Listed;
 use code_text::codelist;
 use libc::STDIN_FILENO;

@@ -1,4 +1,4 @@
--- How one number stands for a weight or for none: what private functions promise one another.
+-- How one number stands for a weight or for none, among the functions below the crossing query.
 use Prim.Native.Nat.{ℕ, _<_}
 use mathlib.Core.Path.{_≡_}
 use mathlib.Core.List.{List}

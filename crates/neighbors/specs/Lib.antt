@@ -1,4 +1,4 @@
--- Lists: neighbour lists. Sound: question 7. Steps: what the contracts of functions that no caller of the library sees cite besides.
+-- Lists: neighbour lists. Sound: question 7. Steps: what contracts cite besides.
 pub mod Lists
 pub mod Sound
 pub mod Steps

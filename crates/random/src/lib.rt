@@ -4,7 +4,7 @@ ghost use Prim.Native.Nat.{ℕ, _+_, _*_, _%_, _^_, _<_};
 ghost use Rattle.random.specs.Random.{rotateLeft, shiftXor, splitMixNext, splitMixWord, seedFromU64, wordOf, nextOf, drawOf};
 
 // The low 64 bits of the product, from halves of 32 bits.
-pub fn wrapping_mul(a: u64, b: u64) -> u64
+fn mul_halves(a: u64, b: u64) -> u64
     ensures { λ r. ⌜ r ≡ (a * b) % 2 ^ 64 ⌝ }
 {
     let a0 = a % 0x1_0000_0000;
@@ -15,12 +15,25 @@ pub fn wrapping_mul(a: u64, b: u64) -> u64
     std::num::wrapping_add_u64(a0 * b0, cross << 32)
 }
 
-// The low 64 bits of x * (2 ^ k + 1), from a shift: Xoshiro256** multiplies by 5 and 9.
-fn wrapping_mul_shift(x: u64, k: u32) -> u64
+// The low 64 bits of x * (2 ^ k + 1), from a shift.
+fn mul_shifted(x: u64, k: u32) -> u64
     requires { ⌜ k < 64 ⌝ }
     ensures { λ r. ⌜ r ≡ (x * (2 ^ k + 1)) % 2 ^ 64 ⌝ }
 {
     std::num::wrapping_add_u64(x, x << k)
+}
+
+// The low 64 bits of the product. The factors of Xoshiro256**, 5 and 9, need no halves.
+pub fn wrapping_mul(a: u64, b: u64) -> u64
+    ensures { λ r. ⌜ r ≡ (a * b) % 2 ^ 64 ⌝ }
+{
+    if b == 5 {
+        return mul_shifted(a, 2);
+    }
+    if b == 9 {
+        return mul_shifted(a, 3);
+    }
+    mul_halves(a, b)
 }
 
 // The word turned left by k bits.
@@ -102,7 +115,7 @@ impl DeterministicRng {
     pub fn next_u64(self) -> Next
         ensures { λ r. ⌜ (r .word ≡ wordOf self) × (r .rng ≡ nextOf self) ⌝ }
     {
-        let word = wrapping_mul_shift(rotate_left(wrapping_mul_shift(self.s1, 2), 7), 3);
+        let word = wrapping_mul(rotate_left(wrapping_mul(self.s1, 5), 7), 9);
         let t = self.s1 << 17;
         let s2 = self.s2 ^ self.s0;
         let s3 = self.s3 ^ self.s1;

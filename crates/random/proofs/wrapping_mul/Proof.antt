@@ -1,37 +1,35 @@
+-- `random::wrapping_mul` meets its contract. Assumes nothing.
+use mathlib.Core.Path.{sym, ap, _∙_}
+use Prim.Native.Nat.{ℕ, _*_, _%_, _^_}
 use borrow.Author.Needs.{needs}
-use Prim.Native.Nat.{_*_, _^_, _<_}
-use mathlib.Core.Path.{_∙_}
-use mir.Syntax.{w64}
-use mir.Val.{Fits}
-use Rattle.random.proofs.Words.{low-product, half-fits}
 use Rattle.random.proofs.wrapping_mul.Statement.{statement}
 use Rattle.random.proofs.wrapping_mul.Tie as tie
 
-mul-cross : tie.Need-mul-cross
-mul-cross c = half-fits (search needs) (search needs)
-
-mul-cross-2 : tie.Need-mul-cross-2
-mul-cross-2 c = half-fits (search needs) (search needs)
-
-add-cross : tie.Need-add-cross
-add-cross c = search needs
-
-mul-wrapping-add-u64 : tie.Need-mul-wrapping-add-u64
-mul-wrapping-add-u64 c = half-fits (search needs) (search needs)
-
-wrapping-add-u64-requires : tie.Need-wrapping-add-u64-requires
-wrapping-add-u64-requires c κs = search needs
+mul-shifted-requires : tie.Need-mul-shifted-requires
+mul-shifted-requires c κs = search needs
 
 returns : tie.Need-returns
-returns c = c .wrapping-add-u64 .ensures ∙ low-product 4294967296 (c .before .args .a) (c .before .args .b)
+returns c = c .mul-shifted .ensures ∙ ap (λ (k : ℕ). (c .before .before .args .a * k) % 2 ^ 64) (sym (c .before .if1 .taken))
+
+mul-shifted-requires-2 : tie.Need-mul-shifted-requires-2
+mul-shifted-requires-2 c κs = search needs
+
+returns-2 : tie.Need-returns-2
+returns-2 c = c .mul-shifted2 .ensures ∙ ap (λ (k : ℕ). (c .before .before .before .args .a * k) % 2 ^ 64) (sym (c .before .if2 .taken))
+
+mul-halves-requires : tie.Need-mul-halves-requires
+mul-halves-requires c κs = search needs
+
+returns-3 : tie.Need-returns-3
+returns-3 c = search needs
 
 pub wrapping-mul-spec : {M : Type 1} → statement M
 wrapping-mul-spec =
     tie.close
     (tie.spec
-    mul-cross
-    mul-cross-2
-    add-cross
-    mul-wrapping-add-u64
-    wrapping-add-u64-requires
-    returns)
+    mul-shifted-requires
+    returns
+    mul-shifted-requires-2
+    returns-2
+    mul-halves-requires
+    returns-3)

@@ -119,6 +119,7 @@ fn main() {
     let mut recipe_code = recipe.clone();
 
     // ---- weights
+    let columns_p = columns.p[..e].to_vec();
     for m in [M, 250_000] {
         let (ours, rust) = two(
             times(200),
@@ -139,6 +140,21 @@ fn main() {
             },
         );
         row(&format!("`compute_weights`, M {m}, Rust with the recipe"), ours, rust, "", true);
+    }
+    {
+        let mut plain_half = vec![0u32; e];
+        let (ours, other) = two(
+            times(200),
+            || {
+                black_box(ours::compute_weights(columns.e, &columns.p, &mut columns.half_weight, 250_000));
+            },
+            || {
+                plain::half_weights(&columns_p, 250_000, &mut plain_half);
+                black_box(&plain_half);
+            },
+        );
+        assert!((0..e).all(|k| columns.half_weight[k] == plain_half[k]));
+        row("`compute_weights`, M 250000, the recipe with interval halving in unchecked Rust", ours, other, "at most 1.2", ours <= 1.2 * other);
     }
     code.compute_weights(M as Weight);
     ours::compute_weights(columns.e, &columns.p, &mut columns.half_weight, M);

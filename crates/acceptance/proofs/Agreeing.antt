@@ -23,8 +23,8 @@ use Rattle.walks.specs.Graph.{Graph, edges, InRange}
 use Rattle.walks.specs.Answers.{crossing, leastFromLeft, weightIn}
 use Rattle.crossing_answers.specs.declared.CrossingReply.{CrossingReply}
 use Rattle.crossing_answers.specs.declared.CrossingReply.the-variants.{Crossed, Refused}
-use Rattle.searches.specs.Queries as Q
-use Rattle.searches.specs.Queries.{scratchLong}
+use Rattle.query_questions.specs.Queries as Q
+use Rattle.query_questions.specs.Queries.{scratchLong}
 use Rattle.crossing_answers.specs.Crossing as C
 use Rattle.crossing_answers.specs.Crossing.{isJoined, replyOf, replyNumber, replyWeight, CrossingStep}
 use Rattle.crossings.proofs.Crossings.{left-length}

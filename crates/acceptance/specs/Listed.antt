@@ -9,7 +9,7 @@ use Rattle.engine_columns.specs.declared.EngineCounts.{EngineCounts}
 use Rattle.tally.specs.Tally.{Lengths, Tally, Fed, tallyLong, tallyDoor, tallyStep, tallyAfter}
 use Rattle.walks.specs.Graph.{Graph}
 use Rattle.walks.specs.Answers.{crossing}
-use Rattle.searches.specs.Queries.{scratchLong}
+use Rattle.query_questions.specs.Queries.{scratchLong}
 use Rattle.crossing_answers.specs.Crossing.{isJoined}
 
 -- the lengths of the columns that only a crossing is lent: the weight column and scratch

@@ -1,8 +1,8 @@
 ghost use Rattle.c_reports.specs.Reports.{Reported, ReportsDone};
 ghost use Rattle.c_answers.specs.Engine.{endOf, noEnd};
-ghost use Rattle.searches.specs.Queries.{scratchLong};
+ghost use Rattle.query_questions.specs.Queries.{scratchLong};
 ghost use Rattle.complete_graph.specs.Steps.{TableStep};
-ghost use Rattle.searches.specs.Scratch.{ScratchKept, scratchOf};
+ghost use Rattle.query_questions.specs.Scratch.{ScratchKept, scratchOf};
 ghost use Rattle.engine_columns.specs.Records.{engine, counts};
 ghost use lib.ListN.{length};
 use c_answers::engine::end_of;

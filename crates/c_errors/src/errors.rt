@@ -1,6 +1,7 @@
 ghost use Rattle.c_reports.specs.Reports.{Reported, ReportsDone};
 ghost use Rattle.c_answers.specs.Errors.{ReportsFound, ReportsSyndrome};
-ghost use Rattle.syndromes.specs.Errors.{GeneratedErrors, ClearedErrors};
+ghost use Rattle.syndromes.specs.Errors.{GeneratedErrors};
+ghost use Rattle.cleared_errors.specs.Clear.{ClearedErrors};
 ghost use Rattle.syndromes.specs.Records.{codeGraph, syndromeColumns};
 ghost use Rattle.syndromes.specs.Sampling.{GeneratedRandomErrors};
 ghost use Rattle.syndromes.specs.Syndrome.{FoundSyndrome};

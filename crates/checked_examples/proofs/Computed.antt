@@ -14,7 +14,7 @@ use Rattle.columns.specs.Lists.{each, joined, layered}
 use Rattle.columns.specs.Places.{zeroFloat}
 use Rattle.columns.specs.Questions.{ask, all, every}
 use Rattle.columns.proofs.Tests.{and-both, both-and}
-use Rattle.code_columns.specs.Edges.{straightEdges, straightRows}
+use Rattle.code_columns.specs.Edges.{straightEdges, straightRows, firsts, seconds, boundaries}
 use Rattle.planar.specs.Planar.{rowEdges, planarRow, planarLayer, planarGap, planarBoundary, flatVertex}
 use Rattle.circuit.specs.Circuit.{circuitCell, circuitRow, circuitGap}
 use Rattle.rotated.specs.Rotated.{rotatedPlace, rotatedEdge, rotatedRow, rotatedLayer, rotatedGap, rotatedBoundary, rotatedVertex}
@@ -28,19 +28,19 @@ use Rattle.code_questions.specs.declared.Count.the-variants.{Counted, Refused}
 use Rattle.code_questions.specs.Answers.{vertexNumAnswer}
 use Rattle.edge_weights.specs.Rounding.{halfWeight}
 use Rattle.weights.proofs.Theorems.{zero-among}
-use Rattle.neighbors.specs.Sound.{endsDiffer, pairsApart, endsInRange, graphSound, logSound}
+use Rattle.edge_pairs.specs.Pairs.{endsDiffer, pairsApart}
+use Rattle.neighbors.specs.Sound.{endsInRange, graphSound, logSound}
 use Rattle.engine_columns.specs.Door.{columnsLong, longEnough, columnsSound, sound}
 use Rattle.walks.specs.Settling as S
 use Rattle.walks.specs.Settling.{firstLeast, start, changes, byStatus, offer, relaxEdge, relax, stopped, next, settle}
 use Rattle.walks.specs.Answers.{readBack, stepInto, pathIn, path, fromLeft, nearestRight, crossing}
 use Rattle.walks.specs.Graph.{Graph}
-use Rattle.code_columns.specs.Edges.{firsts, seconds, boundaries}
 use Rattle.edge_weights.specs.Logarithm.{edgeWeight}
 use Rattle.engine_columns.specs.Records.{Engine, engine, counts}
 use Rattle.engine_columns.specs.Step.{Call, loadErasures, loadWeights, reset}
 use Rattle.engine_columns.specs.Open.{GraphColumns, graphColumns}
 use Rattle.tally.specs.Tally.{Tally, Fed, tallyOf, tallyAfter}
-use Rattle.searches.specs.Queries as Q
+use Rattle.query_questions.specs.Queries as Q
 use Rattle.paths.specs.GetPath.{numberOf, pathDoor, pathReply}
 use Rattle.acceptance.specs.Listed.{graphIn, weightsIn}
 use Rattle.checked_examples.specs.Starred.{StarredExamples, listing, fed, crossingAfter, listingEngine}

@@ -19,7 +19,7 @@ use Rattle.engine_columns.specs.Step.{Call, loadErasures, loadWeights, reset}
 use Rattle.engine_columns.specs.Open.{GraphColumns, graphColumns}
 use Rattle.tally.specs.Tally.{Lengths, Tally, Fed, tallyOf, tallyAfter}
 use Rattle.walks.specs.Answers.{path, crossing}
-use Rattle.searches.specs.Queries as Q
+use Rattle.query_questions.specs.Queries as Q
 use Rattle.paths.specs.GetPath.{numberOf, pathDoor, pathReply}
 use Rattle.acceptance.specs.Listed.{graphIn, weightsIn}
 

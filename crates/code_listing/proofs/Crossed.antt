@@ -28,7 +28,7 @@ use Rattle.code_graphs.specs.Graphs.{codeGraph}
 use Rattle.code_graphs.proofs.Sound.{built}
 use Rattle.crossing_answers.specs.declared.CrossingReply.{CrossingReply}
 use Rattle.crossing_answers.specs.declared.CrossingReply.the-variants.{Crossed, Refused}
-use Rattle.searches.specs.Queries.{graphIn, weightsIn, scratchLong}
+use Rattle.query_questions.specs.Queries.{graphIn, weightsIn, scratchLong}
 use Rattle.crossing_answers.specs.Crossing.{isJoined, replyOf, crossingDoor, crossingNumber, CrossingStep}
 use Rattle.code_listing.specs.Listing.{weightsOf, crossingOf}
 use Rattle.code_listing.specs.Steps.{HoldsWeights, ScratchRoom}

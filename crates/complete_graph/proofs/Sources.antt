@@ -18,8 +18,7 @@ use Rattle.walks.proofs.Turns.{source-stops-nothing}
 use Rattle.relaxing.specs.Ready.{endOf}
 use Rattle.complete_graph.specs.declared.End.{End}
 use Rattle.complete_graph.specs.declared.End.the-variants.{None, At}
-use Rattle.complete_graph.specs.Ends.{endIn, endInRange}
-use Rattle.complete_graph.specs.Ends.{stopOf}
+use Rattle.complete_graph.specs.Ends.{endIn, endInRange, stopOf}
 
 -- an end that is the source stops nothing
 source-end : (g : Graph) (w : ℕ → ℕ) (a k : ℕ) → settle g w (only a) none k ≡ settle g w (only a) (some a) k

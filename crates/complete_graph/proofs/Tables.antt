@@ -7,7 +7,7 @@ use borrow.Author.Tests.{leb-true, ltb-true}
 use Rattle.columns.proofs.Tests.{and-both}
 use Rattle.engine_columns.specs.Records.{Engine}
 use Rattle.engine_columns.proofs.Doors.{Long, Sound}
-use Rattle.searches.specs.Queries.{queryDoor}
+use Rattle.query_questions.specs.Queries.{queryDoor}
 use Rattle.searches.proofs.Asked.{query-of}
 use Rattle.complete_graph.specs.declared.End.{End}
 use Rattle.complete_graph.specs.Ends.{endInRange}

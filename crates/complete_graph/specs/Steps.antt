@@ -12,7 +12,7 @@ use Rattle.columns.specs.declared.Done.{Done}
 use Rattle.engine_columns.specs.Records.{Engine}
 use Rattle.walks.specs.Answers.{table}
 use Rattle.complete_graph.specs.declared.End.{End}
-use Rattle.searches.specs.Queries.{graphIn, weightsIn, queryDoor}
+use Rattle.query_questions.specs.Queries.{graphIn, weightsIn, queryDoor}
 use Rattle.complete_graph.specs.Ends.{endIn, endInRange}
 
 -- the number of the first question of a table query that is not met, or 0; `scratch` says whether scratch is long enough

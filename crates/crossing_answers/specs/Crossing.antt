@@ -14,8 +14,8 @@ use Rattle.engine_columns.specs.Door.{longEnough, sound}
 use Rattle.walks.specs.Answers.{crossing, leastFromLeft}
 use Rattle.crossing_answers.specs.declared.CrossingReply.{CrossingReply}
 use Rattle.crossing_answers.specs.declared.CrossingReply.the-variants.{Crossed, Refused}
-use Rattle.searches.specs.Queries.{graphIn, weightsIn}
-use Rattle.searches.specs.Scratch.{ScratchColumns}
+use Rattle.query_questions.specs.Queries.{graphIn, weightsIn}
+use Rattle.query_questions.specs.Scratch.{ScratchColumns}
 
 -- document 01's number for each case: 0 where the call was accepted
 abbrev pub replyNumber : CrossingReply → ℕ

@@ -28,9 +28,8 @@ use Rattle.crossing_answers.specs.declared.CrossingReply.{CrossingReply}
 use Rattle.crossing_answers.specs.declared.CrossingReply.the-variants.{Crossed, Refused}
 use Rattle.searches.specs.Search.{Waiting}
 use Rattle.crossing_answers.specs.Crossing.{isJoined, replyOf, crossingDoor, CrossingScratch}
-use Rattle.crossing_answers.specs.Codes.{Coded, wherever}
-use Rattle.crossing_answers.specs.Codes.{codeOf}
-use Rattle.searches.specs.Scratch.{ScratchColumns}
+use Rattle.crossing_answers.specs.Codes.{Coded, wherever, codeOf}
+use Rattle.query_questions.specs.Scratch.{ScratchColumns}
 
 -- ---- what stands for a weight
 

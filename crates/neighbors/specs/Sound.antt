@@ -1,23 +1,11 @@
 -- Question 7 of document 01: columns sound.
 use Prim.Native.Nat.{ℕ}
-use mathlib.Core.Bool.{Bool, not, _&&_, _||_}
+use mathlib.Core.Bool.{Bool, _&&_}
 use mathlib.Core.List.{List}
-use lib.ListN.{getD, take, length}
-use lib.Dec.{eqb, leb}
-use Rattle.columns.specs.Questions.{every, allBelow, weightsSound, vertexCountSound, edgeCountSound}
-
--- edges j and k join one pair, in either order of their ends
-abbrev pub samePair : (a b : List ℕ) (j k : ℕ) → Bool
-samePair a b j k =
-    (eqb (getD a j 0) (getD a k 0) && eqb (getD b j 0) (getD b k 0)) || (eqb (getD a j 0) (getD b k 0) && eqb (getD b j 0) (getD a k 0))
-
--- the ends of each of the first e edges differ
-unfoldable pub endsDiffer : (a b : List ℕ) (e : ℕ) → Bool
-endsDiffer a b e = every e (λ k. not (eqb (getD a k 0) (getD b k 0)))
-
--- no two of the first e edges join one pair
-unfoldable pub pairsApart : (a b : List ℕ) (e : ℕ) → Bool
-pairsApart a b e = every e (λ k. every k (λ j. not (samePair a b j k)))
+use lib.ListN.{take, length}
+use lib.Dec.{leb}
+use Rattle.columns.specs.Questions.{allBelow, weightsSound, vertexCountSound, edgeCountSound}
+use Rattle.edge_pairs.specs.Pairs.{endsDiffer, pairsApart}
 
 -- the columns hold e edges whose ends are below v
 unfoldable pub endsInRange : (v e : ℕ) (a b : List ℕ) → Bool

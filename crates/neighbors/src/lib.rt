@@ -1,4 +1,3 @@
 // Neighbour lists and question 7 of document 01.
 pub mod lists;
-mod pairs;
 pub mod sound;

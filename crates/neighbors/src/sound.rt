@@ -3,9 +3,6 @@ ghost use mathlib.Core.Path.{_≡_};
 ghost use mathlib.Core.Bool.{true};
 ghost use Rattle.columns.specs.Questions.{vertexCountSound, edgeCountSound};
 ghost use Rattle.neighbors.specs.Sound.{endsInRange, graphSound, logSound};
-use super::pairs::ascending;
-use super::pairs::ends_differ;
-use super::pairs::pairs_apart;
 use columns::Weight;
 use columns::questions::all_below;
 use columns::questions::at_most;
@@ -13,6 +10,9 @@ use columns::questions::both;
 use columns::questions::edge_count_sound;
 use columns::questions::vertex_count_sound;
 use columns::questions::weights_sound;
+use edge_pairs::ascending;
+use edge_pairs::ends_differ;
+use edge_pairs::pairs_apart;
 
 // Whether the columns hold the edges, with ends in range.
 fn ends_in_range(vertex_num: u32, edge_num: u32, a: &[u32], b: &[u32]) -> bool

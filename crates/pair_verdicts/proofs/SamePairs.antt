@@ -12,9 +12,8 @@ use lib.Dec.{eqb}
 use lib.ListN.{getD}
 use Rattle.columns.specs.Questions.{every}
 use Rattle.columns.proofs.Tests.{every-at, every-more}
-use Rattle.neighbors.specs.Sound.{samePair}
-use Rattle.neighbors.specs.Steps.{lowAt, highAt, Last}
-use Rattle.neighbors.proofs.Chains.{fresh-not, fresh-all, le-or-lt}
+use Rattle.edge_pairs.specs.Pairs.{samePair, lowAt, highAt, Last}
+use Rattle.edge_pairs.proofs.Chains.{fresh-not, fresh-all, le-or-lt}
 use Rattle.verdicts.specs.declared.Verdict.{Verdict}
 use Rattle.verdicts.specs.declared.Verdict.the-variants.{Sound}
 use Rattle.verdicts.specs.Sanity.{verdictOf, firstOf, foundIf, duplicate}

@@ -2,7 +2,7 @@
 use Prim.Native.Nat.{ℕ, _<_, _≤_}
 use mathlib.Core.Path.{_≡_}
 use mathlib.Core.List.{List}
-use Rattle.neighbors.specs.Steps.{lowAt, highAt}
+use Rattle.edge_pairs.specs.Pairs.{lowAt, highAt}
 
 -- r is the first edge that joins the pair of edge i, or i where no earlier edge does
 pub record FirstSame (a b : List ℕ) (i r : ℕ) : Type 0 where

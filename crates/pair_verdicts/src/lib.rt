@@ -3,7 +3,7 @@ ghost use mathlib.Core.Path.{_≡_};
 ghost use mathlib.Core.Bool.{cond};
 ghost use Prim.Native.Nat.{ℕ, _<_, _≤_, min, max};
 ghost use lib.ListN.{length, getD};
-ghost use Rattle.neighbors.specs.Steps.{lowAt, highAt, Last};
+ghost use Rattle.edge_pairs.specs.Pairs.{lowAt, highAt, Last};
 ghost use Rattle.verdicts.specs.Sanity.{firstOf, duplicate};
 ghost use Rattle.pair_verdicts.specs.Steps.{FirstSame};
 use columns::EDGE_LIMIT;

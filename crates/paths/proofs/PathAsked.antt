@@ -12,11 +12,11 @@ use Rattle.columns.proofs.Tests.{and-both}
 use Rattle.engine_columns.specs.Records.{Engine}
 use Rattle.engine_columns.specs.Door.{longEnough, sound}
 use Rattle.engine_columns.proofs.Doors.{Long, Sound, met-of}
-use Rattle.searches.specs.Queries.{queryDoor}
+use Rattle.query_questions.specs.Queries.{queryDoor}
 use Rattle.walks.specs.Answers.{FoundPath}
 use Rattle.paths.specs.declared.PathAnswer.{PathAnswer}
 use Rattle.paths.specs.declared.PathAnswer.the-variants.{Found, Refused}
-use Rattle.searches.specs.Scratch.{ScratchColumns}
+use Rattle.query_questions.specs.Scratch.{ScratchColumns}
 use Rattle.paths.specs.GetPath.{pathDoor, found, pathReply, PathScratchKept}
 use Rattle.searches.proofs.Asked.{query-of}
 

@@ -21,7 +21,7 @@ use Rattle.walks.specs.Answers.{FoundPath, path}
 use Rattle.walks.specs.Claims.{Route, arrived, onto, IsPath, PathAnswer}
 use Rattle.walks.proofs.TableAndPath.{path-is-least}
 use Rattle.paths.specs.declared.PathAnswer.{PathAnswer as Reply}
-use Rattle.searches.specs.Queries.{graphIn, weightsIn}
+use Rattle.query_questions.specs.Queries.{graphIn, weightsIn}
 use Rattle.paths.specs.GetPath.{numberOf, lengthOf, totalOf, pathDoor, found, pathReply, verticesAfter, stepsAfter, PathStep, PathSays, GetPathIsLeast}
 use Rattle.searches.proofs.Ranges.{in-range}
 use Rattle.paths.proofs.PathAsked.{path-asked, before-17}

@@ -15,8 +15,8 @@ use Rattle.walks.specs.Answers.{FoundPath, path}
 use Rattle.walks.specs.Claims.{IsPath}
 use Rattle.paths.specs.declared.PathAnswer.{PathAnswer}
 use Rattle.paths.specs.declared.PathAnswer.the-variants.{Found, Refused}
-use Rattle.searches.specs.Queries.{graphIn, weightsIn, queryDoor}
-use Rattle.searches.specs.Scratch.{ScratchColumns}
+use Rattle.query_questions.specs.Queries.{graphIn, weightsIn, queryDoor}
+use Rattle.query_questions.specs.Scratch.{ScratchColumns}
 
 -- document 01's number for each case of an answer, 0 where there is a path, and its values: length and total, both 0 at a refusal
 abbrev pub numberOf : PathAnswer → ℕ

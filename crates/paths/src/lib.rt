@@ -6,8 +6,8 @@ ghost use lib.ListN.{length};
 ghost use Rattle.engine_columns.specs.Records.{engine};
 ghost use Rattle.walks.specs.Answers.{path};
 ghost use Rattle.relaxing.specs.Ready.{stateOf, graphOf, weighs};
-ghost use Rattle.searches.specs.Queries.{scratchLong};
-ghost use Rattle.searches.specs.Scratch.{scratchOf};
+ghost use Rattle.query_questions.specs.Queries.{scratchLong};
+ghost use Rattle.query_questions.specs.Scratch.{scratchOf};
 ghost use Rattle.paths.specs.GetPath.{found, verticesAfter, stepsAfter, PathStep, PathScratchKept, GetPathIsLeast};
 ghost use Rattle.searches.specs.Search.{Searchable};
 ghost use Rattle.read_back.specs.Path.{pathOf};
@@ -17,12 +17,12 @@ use columns::questions::asked;
 use columns::questions::at_most;
 use columns::questions::both;
 use engine_columns::EngineCounts;
+use query_questions::query_door;
+use query_questions::scratch_long;
 use read_back::is_taken;
 use read_back::load;
 use read_back::path_length;
 use read_back::write_path;
-use searches::query_door;
-use searches::scratch_long;
 use searches::search;
 
 // The path's length and total, or the number of the question that is not met.

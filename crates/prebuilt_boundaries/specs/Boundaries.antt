@@ -14,7 +14,7 @@ use Rattle.columns.specs.declared.Done.the-variants.{Accepted, Refused}
 use Rattle.engine_columns.specs.Records.{Engine}
 use Rattle.walks.specs.Graph.{Graph}
 use Rattle.walks.specs.Answers.{table}
-use Rattle.searches.specs.Queries.{graphIn, weightsIn, queryDoor}
+use Rattle.query_questions.specs.Queries.{graphIn, weightsIn, queryDoor}
 use Rattle.prebuilt_entries.specs.Nearest.{boundaryIn, weightTo, vertexTo}
 
 -- the weights from v with no end, and in them the nearest virtual vertex of v, as `get_boundary_weight` reports it

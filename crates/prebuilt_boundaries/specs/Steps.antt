@@ -7,7 +7,7 @@ use lib.ListN.{length}
 use lib.IntN.{ℤ}
 use Rattle.engine_columns.specs.Records.{Engine}
 use Rattle.engine_columns.specs.Door.{longEnough, sound}
-use Rattle.searches.specs.Queries.{scratchLong}
+use Rattle.query_questions.specs.Queries.{scratchLong}
 
 -- an engine graph that 6 and 7 accept, with room in every column lent
 pub record Fillable (e : Engine) (weights vertices least before numbers ends status weight previous node leaf : ℕ) : Type 0 where

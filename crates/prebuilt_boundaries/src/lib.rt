@@ -5,8 +5,8 @@ ghost use lib.ListN.{length, set};
 ghost use lib.Seq.{sets};
 ghost use Rattle.columns.specs.Lists.{each};
 ghost use Rattle.engine_columns.specs.Records.{engine};
-ghost use Rattle.searches.specs.Queries.{scratchLong, graphIn, weightsIn};
-ghost use Rattle.searches.specs.Scratch.{ScratchKept, scratchOf};
+ghost use Rattle.query_questions.specs.Queries.{scratchLong, graphIn, weightsIn};
+ghost use Rattle.query_questions.specs.Scratch.{ScratchKept, scratchOf};
 ghost use Rattle.prebuilt_boundaries.specs.Boundaries.{boundaryWeight, boundaryVertex, BoundariesStep, FirstKept};
 ghost use Rattle.prebuilt_boundaries.specs.Steps.{Fillable};
 use columns::Done;
@@ -17,8 +17,8 @@ use columns::questions::both;
 use complete_graph::all_edges;
 use engine_columns::EngineCounts;
 use prebuilt_entries::boundaries::store_boundary;
-use searches::query_door;
-use searches::scratch_long;
+use query_questions::query_door;
+use query_questions::scratch_long;
 
 // The weight and the number of the nearest virtual vertex of v, by a search from v. The columns from `least` on are scratch.
 fn fill_one(

@@ -19,7 +19,7 @@ use Rattle.walks.specs.Graph.{Graph, LeastWeight}
 use Rattle.walks.specs.Answers.{weightIn, table}
 use Rattle.walks.specs.Claims.{Row}
 use Rattle.walks.proofs.TableAndPath.{table-is-least}
-use Rattle.searches.specs.Queries.{graphIn, weightsIn}
+use Rattle.query_questions.specs.Queries.{graphIn, weightsIn}
 use Rattle.searches.proofs.Ranges.{in-range}
 use Rattle.prebuilt_entries.specs.Entries.{inTheMiddle, rowEntry, entryBy}
 use Rattle.prebuilt_complete_graph.specs.Rows.{RowStep, row, rowDoor}

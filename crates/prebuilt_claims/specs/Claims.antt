@@ -7,7 +7,7 @@ use lib.IntN.{ℤ, pos}
 use Rattle.engine_columns.specs.Records.{Engine}
 use Rattle.walks.specs.Graph.{LeastWeight}
 use Rattle.walks.specs.Answers.{weightIn}
-use Rattle.searches.specs.Queries.{graphIn, weightsIn}
+use Rattle.query_questions.specs.Queries.{graphIn, weightsIn}
 use Rattle.prebuilt_claims.specs.Prebuilt.{boundaryWeight, edgeWeight, edgeEntry, weightEntry, vertexEntry}
 use Rattle.prebuilt_claims.specs.Called.{BoundariesFilled, RowFilled}
 

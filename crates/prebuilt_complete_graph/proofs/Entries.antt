@@ -18,7 +18,7 @@ use Rattle.walks.specs.Answers.{weightIn}
 use Rattle.engine_columns.specs.Records.{Engine}
 use Rattle.engine_columns.proofs.Doors.{Long, long-from, Sound, sound-from}
 use Rattle.complete_graph.specs.declared.End.the-variants.{None}
-use Rattle.searches.specs.Queries.{queryDoor}
+use Rattle.query_questions.specs.Queries.{queryDoor}
 use Rattle.complete_graph.specs.Steps.{tableDoor}
 use Rattle.searches.proofs.Asked.{query-of}
 use Rattle.prebuilt_entries.specs.Entries.{isVirtual, entryBy, rowEntry}

@@ -10,7 +10,7 @@ use Rattle.columns.specs.Answers.{done, numberOf}
 use Rattle.columns.specs.declared.Done.{Done}
 use Rattle.columns.specs.declared.Done.the-variants.{Accepted, Refused}
 use Rattle.walks.specs.Graph.{Graph}
-use Rattle.searches.specs.Scratch.{ScratchColumns, ScratchKept}
+use Rattle.query_questions.specs.Scratch.{ScratchColumns, ScratchKept}
 use Rattle.prebuilt_complete_graph.specs.Nearest.{boundaryFound, boundaryReply, BoundaryKept}
 use Rattle.prebuilt_complete_graph.specs.declared.nearest.BoundaryAnswer.{BoundaryAnswer}
 use Rattle.prebuilt_complete_graph.specs.declared.nearest.BoundaryAnswer.the-variants as Answer

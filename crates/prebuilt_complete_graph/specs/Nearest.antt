@@ -6,7 +6,7 @@ use mathlib.Core.Option.{Option, some, none}
 use lib.IntN.{ℤ}
 use Rattle.walks.specs.Graph.{Graph}
 use Rattle.walks.specs.Answers.{weightIn, table}
-use Rattle.searches.specs.Scratch.{ScratchColumns}
+use Rattle.query_questions.specs.Scratch.{ScratchColumns}
 use Rattle.prebuilt_complete_graph.specs.declared.nearest.BoundaryAnswer.{BoundaryAnswer}
 use Rattle.prebuilt_complete_graph.specs.declared.nearest.BoundaryAnswer.the-variants.{Nearest, NoBoundary, Refused}
 use Rattle.prebuilt_entries.specs.Nearest.{amount, boundaryIn}

@@ -14,7 +14,7 @@ use Rattle.columns.specs.declared.Done.the-variants.{Accepted, Refused}
 use Rattle.engine_columns.specs.Records.{Engine}
 use Rattle.walks.specs.Graph.{Graph}
 use Rattle.walks.specs.Answers.{table}
-use Rattle.searches.specs.Queries.{graphIn, weightsIn, queryDoor}
+use Rattle.query_questions.specs.Queries.{graphIn, weightsIn, queryDoor}
 use Rattle.prebuilt_entries.specs.Entries.{rowEntry}
 
 -- the row of v; `nearest` holds for each vertex the least weight to a virtual vertex, -1 for none

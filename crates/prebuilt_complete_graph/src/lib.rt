@@ -3,8 +3,8 @@ pub mod nearest;
 
 ghost use lib.ListN.{length};
 ghost use Rattle.engine_columns.specs.Records.{engine};
-ghost use Rattle.searches.specs.Queries.{scratchLong};
-ghost use Rattle.searches.specs.Scratch.{ScratchKept, scratchOf};
+ghost use Rattle.query_questions.specs.Queries.{scratchLong};
+ghost use Rattle.query_questions.specs.Scratch.{ScratchKept, scratchOf};
 ghost use Rattle.prebuilt_complete_graph.specs.Rows.{RowStep, ColumnKept};
 use columns::Done;
 use columns::VertexIndex;
@@ -14,8 +14,8 @@ use columns::questions::both;
 use complete_graph::all_edges;
 use engine_columns::EngineCounts;
 use prebuilt_entries::rows::write_row;
-use searches::query_door;
-use searches::scratch_long;
+use query_questions::query_door;
+use query_questions::scratch_long;
 
 // The row of a vertex: for each vertex the least weight to it, -1 where there is no edge. `nearest` holds each vertex's least weight to a virtual one,
 // -1 for none. The columns from `before` on are scratch.

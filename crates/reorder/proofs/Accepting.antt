@@ -11,7 +11,7 @@ use lib.Dec.{leb, eqb}
 use borrow.Author.Tests.{leb-true, le-leb, lt-leb, eqb-true, eq-eqb, ne-eqb}
 use Rattle.columns.specs.Limits.{vertexLimit}
 use Rattle.columns.specs.Lists.{over, after}
-use Rattle.columns.specs.Questions.{ask, allBelow}
+use Rattle.columns.specs.Questions.{ask, allBelow, marksSound}
 use Rattle.columns.specs.Answers.{done}
 use Rattle.columns.specs.declared.Done.{Done}
 use Rattle.columns.specs.declared.Done.the-variants as done-is
@@ -22,7 +22,6 @@ use Rattle.reorder.specs.declared.TranslatedAnswer.{TranslatedAnswer}
 use Rattle.reorder.specs.declared.TranslatedAnswer.the-variants.{Count, Refused}
 use Rattle.orders.specs.Order.{noneTwice, oldToNew, renamed, moved}
 use Rattle.reorder.specs.Numbers.{buildDoor, BuiltOldToNew, count, translateDoor, TranslatedDefects}
-use Rattle.columns.specs.Questions.{marksSound}
 use Rattle.neighbors.specs.Steps.{sumTo}
 use Rattle.syndromes.specs.Records.{codeGraph, codeSound}
 use Rattle.syndromes.proofs.Accepting.{CodeSound, code-sound-of}

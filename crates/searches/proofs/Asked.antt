@@ -19,7 +19,7 @@ use Rattle.neighbors.proofs.Ends.{GraphSound, graph-says}
 use Rattle.engine_columns.specs.Records.{Engine}
 use Rattle.engine_columns.specs.Door.{longEnough, sound}
 use Rattle.engine_columns.proofs.Doors.{Long, long-of, Sound, sound-of, met-of, next-of}
-use Rattle.searches.specs.Queries.{scratchLong, queryDoor}
+use Rattle.query_questions.specs.Queries.{scratchLong, queryDoor}
 use Rattle.searches.specs.Search.{Searchable}
 
 pub record ScratchLong (v e numbers ends status weight previous node leaf : ℕ) : Type 0 where

@@ -10,7 +10,7 @@ use Rattle.neighbors.proofs.Ends.{GraphSound, graph-says}
 use Rattle.engine_columns.specs.Records.{Engine}
 use Rattle.engine_columns.proofs.Doors.{Long, Sound}
 use Rattle.walks.specs.Graph.{InRange}
-use Rattle.searches.specs.Queries.{graphIn}
+use Rattle.query_questions.specs.Queries.{graphIn}
 
 pub in-range : (e : Engine) → Long 0 e → Sound e → InRange (graphIn e)
 in-range e long ok =

@@ -29,7 +29,7 @@ use Rattle.syndromes.specs.Records.{CodeGraph, graphLong, codeSound, Syn
 use Rattle.marked_lists.specs.Marked.{marked}
 use Rattle.flips.specs.Flip.{flipEach}
 use Rattle.syndromes.specs.Answers.{counts, count}
-use Rattle.syndromes.specs.Errors.{SyndromeLeft, errorsDoor, clearDoor, ClearedErrors}
+use Rattle.syndromes.specs.Errors.{SyndromeLeft, errorsDoor}
 use Rattle.syndromes.specs.Syndrome.{endsIn, isDefectOf, syndromeOf, syndromeDoor, FoundSyndrome}
 use Rattle.flips.specs.Steps.{Fits}
 use Rattle.flips.proofs.Flipping.{length-flipEach, flipEach-front, flipEach-virtual}
@@ -171,31 +171,6 @@ module _ (number v e : ℕ) (defects erasures : List ℕ) (before : SyndromeColu
         erasure-is = ps ∙ sym (after-accepted number erasures (before .erasure) z);
         defects-listed = xd ∙ ap (λ (l : List ℕ). over l (before .defectList)) md ∙ sym (after-accepted number (marked v defects) (before .defectList) z);
         erasures-listed = xs ∙ ap (λ (l : List ℕ). over l (before .erasureList)) ms ∙ sym (after-accepted number (marked e erasures) (before .erasureList) z);
-      }
-
--- ---- clear_errors
-
-module _ (v e : ℕ) (defect erasure : List ℕ) where
-  pub clear-refused : {r : Done} {n : ℕ} → n ≡ clearDoor v e defect erasure → (n ≡ 0 → ⊥) → r ≡ done n → ClearedErrors v e defect erasure r defect erasure
-  clear-refused {r} {n} q f h =
-      let g : clearDoor v e defect erasure ≡ 0 → ⊥ = λ z. f (q ∙ z) in
-      record {
-        answers = h ∙ ap done q;
-        defect-is = sym (after-refused (clearDoor v e defect erasure) (replicate v 0) defect g);
-        erasure-is = sym (after-refused (clearDoor v e defect erasure) (replicate e 1) erasure g);
-      }
-
-  pub clear-accepted : {d s : List ℕ} → clearDoor v e defect erasure ≡ 0 → d ≡ sets defect 0 (replicate v 0) → s ≡ sets erasure 0 (replicate e 1)
-      → ClearedErrors v e defect erasure Accepted d s
-  clear-accepted {d} {s} z p q =
-      let six = leb v (length defect) && leb e (length erasure) in
-      let (x, y) = and-both (leb v (length defect)) _ (met six 5 (ask (vertexCountSound v && edgeCountSound e) 7 0) z) in
-      let lv : v ≤ length defect = leb-true _ _ x in
-      let le : e ≤ length erasure = leb-true _ _ y in
-      record {
-        answers = ap done (sym z);
-        defect-is = p ∙ sets-over defect (replicate v 0) (omega (arith, length-replicate {A = ℕ} v 0)) ∙ sym (after-accepted _ (replicate v 0) defect z);
-        erasure-is = q ∙ sets-over erasure (replicate e 1) (omega (arith, length-replicate {A = ℕ} e 1)) ∙ sym (after-accepted _ (replicate e 1) erasure z);
       }
 
 -- ---- syndrome_of

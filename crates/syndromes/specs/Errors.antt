@@ -1,14 +1,11 @@
--- `generate_errors` and `clear_errors`.
+-- `generate_errors`.
 use Prim.Native.Nat.{ℕ}
 use mathlib.Core.Path.{_≡_}
 use mathlib.Core.Bool.{Bool, _&&_}
 use mathlib.Core.List.{List}
-use lib.ListN.{length, take, replicate}
-use lib.Dec.{leb}
+use lib.ListN.{length, take}
 use Rattle.columns.specs.Lists.{after}
-use Rattle.columns.specs.Questions.{ask, allBelow, marksSound, vertexCountSound, edgeCountSound}
-use Rattle.columns.specs.Answers.{done}
-use Rattle.columns.specs.declared.Done.{Done}
+use Rattle.columns.specs.Questions.{ask, allBelow, marksSound}
 use Rattle.syndromes.specs.declared.SyndromeAnswer.{SyndromeAnswer}
 use Rattle.syndromes.specs.Records.{CodeGraph, graphLong, codeSound, SyndromeColumns, syndromeLong}
 use Rattle.marked_lists.specs.Marked.{marked}
@@ -39,16 +36,3 @@ GeneratedErrors g list before answer last =
     SyndromeLeft (errorsDoor g list before) (g .vertices) (g .edges)
     (flipEach (g .endsA) (g .endsB) (g .boundary) list (take (g .vertices) (before .defect))) (take (g .edges) (before .erasure))
     before answer last
-
--- ---- clear_errors
-
--- questions 6 and 7
-abbrev pub clearDoor : (v e : ℕ) (defect erasure : List ℕ) → ℕ
-clearDoor v e defect erasure =
-    ask (leb v (length defect) && leb e (length erasure)) 6 (ask (vertexCountSound v && edgeCountSound e) 7 0)
-
--- every defect byte 0, every erasure byte 1
-pub record ClearedErrors (v e : ℕ) (defect₀ erasure₀ : List ℕ) (answer : Done) (defect erasure : List ℕ) : Type 0 where
-  pub answers : answer ≡ done (clearDoor v e defect₀ erasure₀)
-  pub defect-is : defect ≡ after (clearDoor v e defect₀ erasure₀) (replicate v 0) defect₀
-  pub erasure-is : erasure ≡ after (clearDoor v e defect₀ erasure₀) (replicate e 1) erasure₀

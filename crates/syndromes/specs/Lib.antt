@@ -1,6 +1,7 @@
 -- Records: the columns that the calls are lent, and question 6 and 7 of them. Answers: what the calls answer.
--- Errors: `generate_errors` and `clear_errors`. Sampling: `generate_random_errors`. Syndrome: `syndrome_of`.
--- The defect flip stands in the crate flips, the draws of an edge in sampled_edges, the list of marked numbers in marked_lists.
+-- Errors: `generate_errors`. Sampling: `generate_random_errors`. Syndrome: `syndrome_of`.
+-- The defect flip stands in the crate flips, the draws of an edge in sampled_edges, the list of marked numbers in marked_lists,
+-- `clear_errors` in cleared_errors.
 pub mod Records
 pub mod Answers
 pub mod Errors

@@ -1,7 +1,7 @@
 // Questions 6 and 7 of the columns that the calls are lent, and the doors.
 ghost use mathlib.Core.Path.{_≡_};
 ghost use Rattle.syndromes.specs.Records.{codeGraph, graphLong, codeSound, syndromeColumns, syndromeLong};
-ghost use Rattle.syndromes.specs.Errors.{errorsDoor, clearDoor};
+ghost use Rattle.syndromes.specs.Errors.{errorsDoor};
 ghost use Rattle.syndromes.specs.Sampling.{probabilitiesSound, samplingDoor};
 ghost use Rattle.syndromes.specs.Syndrome.{syndromeDoor};
 use columns::questions::asked;
@@ -9,9 +9,7 @@ use columns::questions::at_most;
 use columns::questions::both;
 use columns::questions::boundaries_sound;
 use columns::questions::each_below;
-use columns::questions::edge_count_sound;
 use columns::questions::marks_sound;
-use columns::questions::vertex_count_sound;
 use neighbors::sound::graph_sound;
 use weights::probabilities::are_erasure_probabilities;
 use weights::probabilities::are_probabilities;
@@ -149,17 +147,6 @@ pub fn sampling_door(
         6,
         asked(sound, 7, asked(probable, 9, 0)),
     )
-}
-
-// The first question of clear_errors that is not met, or 0.
-pub fn clear_door(vertex_num: u32, edge_num: u32, defect: &[u8], erasure: &[u8]) -> u32
-    ensures { λ r. ⌜ r ≡ clearDoor «vertex_num» «edge_num» (now (defect .entry)) (now (erasure .entry)) ⌝ }
-{
-    let d = at_most(vertex_num as usize, defect.len());
-    let s = at_most(edge_num as usize, erasure.len());
-    let v = vertex_count_sound(vertex_num);
-    let e = edge_count_sound(edge_num);
-    asked(both(d, s), 6, asked(both(v, e), 7, 0))
 }
 
 // The first question of syndrome_of that is not met, or 0.

@@ -6,14 +6,12 @@ ghost use Rattle.syndromes.specs.Records.{codeGraph, syndromeColumns};
 ghost use Prim.Native.Nat.{ℕ, _<_, _≤_};
 ghost use lib.ListN.{length, getD};
 ghost use Rattle.columns.specs.Lists.{over};
-ghost use Rattle.syndromes.specs.Errors.{GeneratedErrors, ClearedErrors};
+ghost use Rattle.syndromes.specs.Errors.{GeneratedErrors};
 ghost use Rattle.syndromes.specs.Sampling.{GeneratedRandomErrors};
 ghost use Rattle.syndromes.specs.Syndrome.{syndromeOf, FoundSyndrome};
 ghost use Rattle.flips.specs.Steps.{Fits};
-use columns::Done;
-use columns::done_of;
+pub use cleared_errors::clear_errors;
 use columns::stores::fill_u8;
-use doors::clear_door;
 use doors::errors_door;
 use doors::sampling_door;
 use doors::syndrome_door;
@@ -126,19 +124,6 @@ pub fn generate_errors(
         return SyndromeAnswer::Counts { defects, erasures };
     }
     SyndromeAnswer::Refused(number)
-}
-
-// Clears every defect, and sets every erasure byte to 1.
-pub fn clear_errors(vertex_num: u32, edge_num: u32, defect: &mut [u8], erasure: &mut [u8]) -> Done
-    ensures { λ r. ⌜ ClearedErrors «vertex_num» «edge_num» (now (defect .entry)) (now (erasure .entry)) r (now (defect .exit)) (now (erasure .exit)) ⌝ }
-{
-    let number = clear_door(vertex_num, edge_num, defect, erasure);
-    if number != 0 {
-        return done_of(number);
-    }
-    fill_u8(defect, vertex_num as usize, 0);
-    fill_u8(erasure, edge_num as usize, 1);
-    Done::Accepted
 }
 
 // The defects of errors on the listed edges; bytes holds 0 alone.

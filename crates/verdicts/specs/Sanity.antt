@@ -8,7 +8,7 @@ use lib.ListN.{length, getD, take, drop}
 use Rattle.columns.specs.Questions.{ask}
 use Rattle.columns.specs.declared.EdgeIndex.{EdgeIndex}
 use Rattle.columns.specs.declared.VertexIndex.{VertexIndex}
-use Rattle.neighbors.specs.Sound.{samePair}
+use Rattle.edge_pairs.specs.Pairs.{samePair}
 use Rattle.verdicts.specs.declared.Verdict.{Verdict}
 use Rattle.verdicts.specs.declared.Verdict.the-variants.{Sound, Empty, DuplicateEdge, NoEdges, EdgeTwice, Refused}
 

@@ -7,7 +7,7 @@ use lib.Dec.{eqb, leb}
 use lib.ListN.{length, getD, take}
 use borrow.Author.Tests.{eq-eqb, ne-eqb, leb-true, le-leb}
 use Rattle.columns.proofs.Tests.{and-both, both-and}
-use Rattle.neighbors.specs.Sound.{samePair}
+use Rattle.edge_pairs.specs.Pairs.{samePair}
 use Rattle.verdicts.specs.declared.Verdict.{Verdict}
 use Rattle.verdicts.specs.declared.Verdict.the-variants.{Sound, Empty, DuplicateEdge, NoEdges, EdgeTwice, Refused}
 use Rattle.verdicts.specs.Sanity.{verdictOf, verdictNumber, refusalNumber, firstValue, secondValue, orElse, firstOf, foundIf, duplicate, twice, atVertex, listAt, total, verdict, sanityLong, sanityAnswer, SanityChecked}

@@ -19,8 +19,7 @@ use Rattle.columns.proofs.Counting.{length-each, getD-each}
 use Rattle.walks.proofs.Sums.{sum-map}
 use Rattle.walks.proofs.LeastWeights.{least, all-taken}
 use Rattle.walks.proofs.Turns.{Sources, test-sources, Valid, not-absent-in, Resting, settle-valid, settled-rests, end-taken}
-use Rattle.walks.proofs.Tree.{FromPrevious, WayBack, at-source, by-previous, Tree, tree-settle, Rooted, at-start, later, rooted-settle}
-use Rattle.walks.proofs.Tree.{read-back, read-total, read-once}
+use Rattle.walks.proofs.Tree.{FromPrevious, WayBack, at-source, by-previous, Tree, tree-settle, Rooted, at-start, later, rooted-settle, read-back, read-total, read-once}
 
 -- ---- settling
 

@@ -11,8 +11,7 @@ use lib.Seq.{set-getD}
 use lib.Dec.{ltb}
 use borrow.Author.Tests.{eq-eqb, ne-eqb, lt-ltb, le-ltb}
 use Rattle.walks.specs.Graph.{Graph, endA, endB}
-use Rattle.walks.specs.Settling.{State, statusAt, weightAt, previousAt, toTake, apart, changes, waits, byStatus, offer, relaxEdge, relax}
-use Rattle.walks.specs.Settling.{take, takeChosen, stopped, next, settle, settled}
+use Rattle.walks.specs.Settling.{State, statusAt, weightAt, previousAt, toTake, apart, changes, waits, byStatus, offer, relaxEdge, relax, take, takeChosen, stopped, next, settle, settled}
 
 -- ---- the tie rule
 

@@ -14,8 +14,7 @@ use lib.IntN.{pos, negsuc}
 use borrow.Author.Tests.{eqb-true, eqb-false, eq-eqb, ne-eqb, lt-ltb, le-ltb}
 use Rattle.walks.specs.Lists.{bit}
 use Rattle.walks.specs.Graph.{Graph, edges, endA, endB, InRange, Joins, stay}
-use Rattle.walks.specs.Settling.{State, statusAt, weightAt, previousAt, toTake, start, changes, waits, byStatus, offer}
-use Rattle.walks.specs.Settling.{relaxEdge, relax, mark, take, takeChosen, stopped, next, settle, settled}
+use Rattle.walks.specs.Settling.{State, statusAt, weightAt, previousAt, toTake, start, changes, waits, byStatus, offer, relaxEdge, relax, mark, take, takeChosen, stopped, next, settle, settled}
 use Rattle.walks.specs.Answers.{tableWeight, tablePrevious}
 use Rattle.walks.specs.Claims.{IsSource, EndTaken}
 use Rattle.columns.proofs.Counting.{length-each, getD-each}

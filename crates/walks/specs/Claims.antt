@@ -8,8 +8,7 @@ use Prim.Native.Nat.{ℕ, suc, _+_, _-_, _*_, _^_, _≤_, _<_, min}
 use lib.ListN.{getD, length}
 use lib.IntN.{ℤ, pos, negsuc}
 use Rattle.walks.specs.Lists.{sum, Distinct}
-use Rattle.walks.specs.Graph.{Graph, edges, endA, endB, boundaryAt, InRange, Left, Right, Joins, Walk, Joined}
-use Rattle.walks.specs.Graph.{CrossingSet, LeastWeight, CrossingWeight}
+use Rattle.walks.specs.Graph.{Graph, edges, endA, endB, boundaryAt, InRange, Left, Right, Joins, Walk, Joined, CrossingSet, LeastWeight, CrossingWeight}
 use Rattle.walks.specs.Settling.{State, statusAt, weightAt, settle, settled}
 use Rattle.walks.specs.Answers.{weightIn, TableColumns, table, FoundPath, path, leastFromLeft, crossing}
 

@@ -1,6 +1,5 @@
 // Walks, edge sets and settling: what is claimed of their definitions. Each claim is the contract of a function with nothing to do.
-ghost use Rattle.walks.specs.Claims.{SettlingIsLeast, TableIsLeast, PathIsLeast, SumsFit};
-ghost use Rattle.walks.specs.Claims.{CrossingIsLeast, CrossingIsBounded, CertificateDecides, WeightsCompare};
+ghost use Rattle.walks.specs.Claims.{SettlingIsLeast, TableIsLeast, PathIsLeast, SumsFit, CrossingIsLeast, CrossingIsBounded, CertificateDecides, WeightsCompare};
 
 // A taken vertex has the least weight of a walk from a source, also after an early stop; where nothing waits, all that is joined was taken.
 pub fn settling_is_least()

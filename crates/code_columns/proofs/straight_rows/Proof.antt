@@ -1,12 +1,11 @@
 -- `code_columns::straight_rows` meets its contract. Assumes nothing.
-use Rattle.code_columns.proofs.Wrote.{row-room}
+use Rattle.code_columns.proofs.Wrote.{row-room, wrote-none, wrote-a, wrote-b, joined-fits, joined-turn, joined-end}
 use borrow.Author.Needs.{needs}
 use Prim.Native.Nat.{_+_, _-_, _*_, _≤_}
 use native.Mathlib.Omega.{arith}
 use Rattle.columns.specs.Lists.{joined}
 use Rattle.code_columns.specs.Edges.{straightEdges, straightRows}
 use Rattle.code_columns.specs.Steps.{Wrote}
-use Rattle.code_columns.proofs.Wrote.{wrote-none, wrote-a, wrote-b, joined-fits, joined-turn, joined-end}
 use Rattle.code_columns.proofs.straight_rows.Statement.{statement}
 use Rattle.code_columns.proofs.straight_rows.Tie as tie
 

@@ -11,10 +11,9 @@ use Rattle.columns.proofs.Columns.{sets-over, after-accepted, after-refused}
 use Rattle.engine_columns.specs.Records.{Engine, engine}
 use Rattle.walks.specs.Answers.{table}
 use Rattle.relaxing.specs.Ready.{endOf, graphOf, weighs}
-use Rattle.searches.specs.Queries.{graphIn, weightsIn, scratchLong}
-use Rattle.complete_graph.specs.Ends.{endIn}
+use Rattle.query_questions.specs.Queries.{graphIn, weightsIn, scratchLong}
+use Rattle.complete_graph.specs.Ends.{endIn, stopOf}
 use Rattle.complete_graph.specs.Steps.{tableDoor}
-use Rattle.complete_graph.specs.Ends.{stopOf}
 use Rattle.complete_graph.proofs.Tables.{TableAsked, table-of, table-number}
 use Rattle.searches.proofs.Asked.{ScratchLong, scratch-of, searchable, cut-length, done-zero, done-no}
 use Rattle.complete_graph.proofs.Sources.{table-same, stop-other, table-weights-length, table-previous-length}

@@ -11,11 +11,9 @@ use lib.IntN.{ℤ, pos, negsuc}
 use borrow.Author.Tests.{eq-eqb, ne-eqb, lt-ltb}
 use Rattle.columns.specs.Lists.{each}
 use Rattle.columns.proofs.Counting.{store-each, length-each}
-use Rattle.walks.specs.Answers.{tableWeight, tablePrevious}
-use Rattle.relaxing.specs.Ready.{stateOf, Ready, sumLimit}
+use Rattle.walks.specs.Answers.{tableWeight, tablePrevious, only, table}
+use Rattle.relaxing.specs.Ready.{stateOf, Ready, sumLimit, graphOf, weighs, sources, endOf}
 use Rattle.walks.specs.Settling.{settled}
-use Rattle.walks.specs.Answers.{only, table}
-use Rattle.relaxing.specs.Ready.{graphOf, weighs, sources, endOf}
 use Rattle.relaxing.proofs.Keys.{ready-as}
 use Rattle.searches.specs.Search.{Waiting}
 use Rattle.searches.proofs.Listing.{searchable-as, waiting-as}

@@ -12,8 +12,8 @@ use Rattle.columns.proofs.Columns.{after-refused}
 use Rattle.engine_columns.specs.Records.{Engine, engine}
 use Rattle.walks.specs.Answers.{crossing, leastFromLeft}
 use Rattle.relaxing.specs.Ready.{graphOf}
-use Rattle.searches.specs.Queries.{graphIn, weightsIn, scratchLong}
-use Rattle.searches.specs.Scratch.{scratchOf}
+use Rattle.query_questions.specs.Queries.{graphIn, weightsIn, scratchLong}
+use Rattle.query_questions.specs.Scratch.{scratchOf}
 use Rattle.crossing_answers.specs.Crossing.{isJoined, replyOf, crossingDoor}
 use Rattle.crossing_answers.specs.Codes.{Coded, wherever}
 use Rattle.searches.proofs.Asked.{ScratchLong, scratch-of, searchable}

@@ -1,7 +1,7 @@
 -- `pair_verdicts::duplicates_by_chains` meets its contract. Assumes nothing.
 use Prim.Native.Nat.{ℕ}
 use lib.ListN.{length-replicate}
-use Rattle.neighbors.proofs.Chains.{zeros-at, zeros-room}
+use Rattle.edge_pairs.proofs.Chains.{zeros-at, zeros-room}
 use borrow.Author.Needs.{needs}
 use Rattle.pair_verdicts.proofs.duplicates_by_chains.Statement.{statement}
 use Rattle.pair_verdicts.proofs.duplicates_by_chains.Tie as tie

@@ -3,8 +3,8 @@ use mathlib.Core.Path.{_≡_, refl, sym, ap, _∙_}
 use Prim.Native.Nat.{ℕ, _+_, _-_, _≤_, _<_}
 use native.Mathlib.Omega.{arith}
 use lib.ListN.{length, getD, set, length-set}
-use Rattle.neighbors.specs.Steps.{lowAt, highAt, Last}
-use Rattle.neighbors.proofs.Chains.{last-head, last-next}
+use Rattle.edge_pairs.specs.Pairs.{lowAt, highAt, Last}
+use Rattle.edge_pairs.proofs.Chains.{last-head, last-next}
 use Rattle.verdicts.specs.declared.Verdict.the-variants.{Sound}
 use Rattle.verdicts.specs.Sanity.{firstOf, duplicate}
 use Rattle.verdicts.proofs.Scans.{first-none}

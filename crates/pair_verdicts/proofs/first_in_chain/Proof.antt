@@ -5,7 +5,7 @@ use Prim.Native.Nat.{ℕ, _-_, _≤_, _<_}
 use native.Mathlib.Omega.{arith}
 use lib.Dec.{eqb}
 use lib.ListN.{getD}
-use Rattle.neighbors.specs.Steps.{highAt}
+use Rattle.edge_pairs.specs.Pairs.{highAt}
 use Rattle.pair_verdicts.proofs.SamePairs.{Walk, walk-start, walk-next, walk-end}
 use borrow.Author.Needs.{needs}
 use Rattle.pair_verdicts.proofs.first_in_chain.Statement.{statement}

@@ -2,7 +2,7 @@
 use mathlib.Core.Path.{_≡_, refl, sym, ap, _∙_}
 use Prim.Native.Nat.{ℕ, _+_, _-_, _≤_, _<_}
 use native.Mathlib.Omega.{arith}
-use Rattle.neighbors.specs.Steps.{lowAt, highAt}
+use Rattle.edge_pairs.specs.Pairs.{lowAt, highAt}
 use Rattle.pair_verdicts.proofs.SamePairs.{same-both, not-both}
 use Rattle.verdicts.proofs.Scans.{below-next}
 use borrow.Author.Needs.{needs}

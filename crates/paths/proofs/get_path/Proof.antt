@@ -12,7 +12,7 @@ use borrow.Author.Tests.{ne-eqb}
 use Rattle.engine_columns.specs.Records.{Engine, engine}
 use Rattle.walks.specs.Answers.{path}
 use Rattle.relaxing.specs.Ready.{graphOf}
-use Rattle.searches.specs.Queries.{graphIn, weightsIn, scratchLong}
+use Rattle.query_questions.specs.Queries.{graphIn, weightsIn, scratchLong}
 use Rattle.paths.specs.GetPath.{pathDoor, found, pathReply, verticesAfter, stepsAfter}
 use Rattle.searches.proofs.Asked.{ScratchLong, scratch-of, searchable}
 use Rattle.paths.proofs.PathAsked.{PathAsked, path-asked, path-number, reply-no, scratch-free}

@@ -8,7 +8,7 @@ use lib.Seq.{sets}
 use Rattle.columns.specs.Lists.{each}
 use Rattle.columns.proofs.Counting.{store-each}
 use Rattle.engine_columns.specs.Records.{engine}
-use Rattle.searches.specs.Queries.{graphIn, weightsIn}
+use Rattle.query_questions.specs.Queries.{graphIn, weightsIn}
 use Rattle.prebuilt_boundaries.specs.Boundaries.{boundaryWeight, boundaryVertex}
 use Rattle.prebuilt_boundaries.proofs.Asked.{same-room}
 use borrow.Author.Needs.{needs}

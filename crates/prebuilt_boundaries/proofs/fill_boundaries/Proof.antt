@@ -9,7 +9,7 @@ use Rattle.columns.specs.Lists.{each}
 use Rattle.columns.proofs.Counting.{length-each}
 use Rattle.columns.proofs.Columns.{sets-over, after-accepted, after-refused}
 use Rattle.engine_columns.specs.Records.{Engine, engine}
-use Rattle.searches.specs.Queries.{graphIn, weightsIn, scratchLong, queryDoor}
+use Rattle.query_questions.specs.Queries.{graphIn, weightsIn, scratchLong, queryDoor}
 use Rattle.searches.proofs.Asked.{done-zero, done-no}
 use Rattle.prebuilt_boundaries.specs.Boundaries.{boundaryWeight, boundaryVertex, boundariesDoor}
 use Rattle.prebuilt_boundaries.specs.Steps.{Fillable}

@@ -23,11 +23,6 @@ use mathlib.Core.Option.{Option, some, none}
 use lib.ListN.{length, getD, List·getD-eq-default}
 use lib.Dec.{eqb}
 use borrow.Author.Tests.{eq-eqb, ne-eqb}
-use Rattle.walks.specs.Answers.{entry, readBack}
-use Rattle.relaxing.specs.Ready.{stateOf}
-use Rattle.read_back.specs.Path.{entryOf, stepBack}
-use Rattle.read_back.specs.declared.TableEntry.the-variants.{Previous, None}
-use Rattle.read_back.proofs.Back.{entry-none, entry-some, count-none, count-more, count-end}
 use borrow.Author.Needs.{needs}
 use Rattle.read_back.proofs.path_length.Statement.{statement}
 use Rattle.read_back.proofs.path_length.Tie as tie

@@ -8,14 +8,12 @@ use mathlib.Core.Option.{Option, some, none}
 use lib.ListN.{length, getD, List·getD-eq-default}
 use lib.Dec.{eqb}
 use borrow.Author.Tests.{eq-eqb, ne-eqb}
-use Rattle.walks.specs.Answers.{entry, readBack}
+use Rattle.walks.specs.Answers.{entry, readBack, stepInto}
 use Rattle.relaxing.specs.Ready.{stateOf}
-use Rattle.read_back.specs.Path.{entryOf, stepBack}
+use Rattle.read_back.specs.Path.{entryOf, stepBack, Written}
 use lib.Seq.{sets, length-sets}
 use lib.ListN.{set, length-set}
 use mathlib.Core.List.{map}
-use Rattle.walks.specs.Answers.{stepInto}
-use Rattle.read_back.specs.Path.{Written}
 use borrow.Author.Needs.{needs}
 use Rattle.read_back.proofs.step_into.Statement.{statement}
 use Rattle.read_back.proofs.step_into.Tie as tie

@@ -15,7 +15,7 @@ use Rattle.neighbors.proofs.Ends.{GraphSound, graph-says}
 use Rattle.engine_columns.specs.Records.{Engine, engine}
 use Rattle.walks.specs.Answers.{table}
 use Rattle.complete_graph.specs.declared.End.the-variants.{None}
-use Rattle.searches.specs.Queries.{graphIn, weightsIn, scratchLong}
+use Rattle.query_questions.specs.Queries.{graphIn, weightsIn, scratchLong}
 use Rattle.complete_graph.specs.Steps.{tableDoor}
 use Rattle.complete_graph.proofs.Tables.{TableAsked, table-of}
 use Rattle.complete_graph.proofs.Sources.{table-weights-length}

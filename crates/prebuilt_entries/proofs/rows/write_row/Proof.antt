@@ -9,12 +9,11 @@ use lib.Seq.{sets}
 use lib.IntN.{ℤ, pos, negsuc}
 use Rattle.columns.specs.Lists.{each}
 use Rattle.columns.proofs.Counting.{store-each, length-each}
-use Rattle.prebuilt_entries.specs.Entries.{rowEntry}
+use Rattle.prebuilt_entries.specs.Entries.{rowEntry, isVirtual, entryBy}
 use Rattle.prebuilt_entries.proofs.Stored.{not-yet}
 use mir.Syntax.{w32}
 use mir.Val.{SFits, toZ, ofZ}
 use mir.ValLaws.{toZ-ofZ}
-use Rattle.prebuilt_entries.specs.Entries.{isVirtual, entryBy}
 use lib.Dec.{eqb}
 use lib.Signed.{mag}
 use Rattle.walks.specs.Answers.{weightIn}

@@ -1,0 +1,52 @@
+-- `cleared_errors::clear_door` meets its contract. Assumes nothing.
+use borrow.Author.Needs.{needs}
+use Rattle.cleared_errors.proofs.clear_door.Statement.{statement}
+use Rattle.cleared_errors.proofs.clear_door.Tie as tie
+use Rattle.cleared_errors.proofs.clear_door.Reads as reads
+use Rattle.cleared_errors.proofs.clear_door.Lts as lts
+use Rattle.columns.proofs.questions.asked.Reads as asked-reads
+use Rattle.columns.proofs.questions.at_most.Reads as at-most-reads
+use Rattle.columns.proofs.questions.both.Reads as both-reads
+use Rattle.columns.proofs.questions.edge_count_sound.Reads as edge-count-sound-reads
+use Rattle.columns.proofs.questions.vertex_count_sound.Reads as vertex-count-sound-reads
+
+at-most-requires : tie.Need-at-most-requires
+at-most-requires c κs = search needs
+
+at-most-requires-2 : tie.Need-at-most-requires-2
+at-most-requires-2 c κs = search needs
+
+vertex-count-sound-requires : tie.Need-vertex-count-sound-requires
+vertex-count-sound-requires c κs = search needs
+
+edge-count-sound-requires : tie.Need-edge-count-sound-requires
+edge-count-sound-requires c κs = search needs
+
+both-requires : tie.Need-both-requires
+both-requires c κs = search needs
+
+both-requires-2 : tie.Need-both-requires-2
+both-requires-2 c κs = search needs
+
+asked-requires : tie.Need-asked-requires
+asked-requires c κs = search needs
+
+asked-requires-2 : tie.Need-asked-requires-2
+asked-requires-2 c κs = search needs
+
+returns : tie.Need-returns
+returns c = cc
+
+pub clear-door-spec : {M : Type 1} → statement M
+clear-door-spec =
+    tie.close
+    (tie.spec
+    at-most-requires
+    at-most-requires-2
+    vertex-count-sound-requires
+    edge-count-sound-requires
+    both-requires
+    both-requires-2
+    asked-requires
+    asked-requires-2
+    returns)

@@ -1,0 +1,2 @@
+-- Chains: laws of the tests of pairs.
+pub mod Chains

@@ -1,0 +1,85 @@
+-- `query_questions::scratch_long` meets its contract. Assumes nothing.
+use mathlib.Core.Path.{_≡_, refl, sym, ap, ap₂, _∙_, subst}
+use Prim.Native.Nat.{ℕ, zero, suc, _+_, _*_, _-_, _<_, _≤_}
+use native.Mathlib.Omega.{arith}
+use mathlib.Core.Bool.{true, false, cond, _&&_}
+use mathlib.Core.List.{List, []}
+use lib.ListN.{length, getD, set, take, length-set}
+use lib.Seq.{sets}
+use lib.Dec.{eqb, ltb}
+use lib.IntN.{ℤ, pos, negsuc}
+use borrow.Author.Tests.{eq-eqb, ne-eqb, lt-ltb}
+use Rattle.columns.specs.Lists.{each}
+use Rattle.columns.proofs.Counting.{store-each, length-each}
+use Rattle.walks.specs.Answers.{tableWeight, tablePrevious}
+use Rattle.relaxing.specs.Ready.{stateOf, Ready, sumLimit}
+use Rattle.query_questions.specs.Queries.{scratchLong}
+use borrow.Author.Needs.{needs}
+use Rattle.query_questions.proofs.scratch_long.Statement.{statement}
+use Rattle.query_questions.proofs.scratch_long.Tie as tie
+
+mul-at-most : tie.Need-mul-at-most
+mul-at-most c = search needs
+
+at-most-requires : tie.Need-at-most-requires
+at-most-requires c κs = search needs
+
+at-most-requires-2 : tie.Need-at-most-requires-2
+at-most-requires-2 c κs = search needs
+
+at-most-requires-3 : tie.Need-at-most-requires-3
+at-most-requires-3 c κs = search needs
+
+at-most-requires-4 : tie.Need-at-most-requires-4
+at-most-requires-4 c κs = search needs
+
+at-most-requires-5 : tie.Need-at-most-requires-5
+at-most-requires-5 c κs = search needs
+
+at-most-requires-6 : tie.Need-at-most-requires-6
+at-most-requires-6 c κs = search needs
+
+at-most-requires-7 : tie.Need-at-most-requires-7
+at-most-requires-7 c κs = search needs
+
+both-requires : tie.Need-both-requires
+both-requires c κs = search needs
+
+both-requires-2 : tie.Need-both-requires-2
+both-requires-2 c κs = search needs
+
+both-requires-3 : tie.Need-both-requires-3
+both-requires-3 c κs = search needs
+
+both-requires-4 : tie.Need-both-requires-4
+both-requires-4 c κs = search needs
+
+both-requires-5 : tie.Need-both-requires-5
+both-requires-5 c κs = search needs
+
+both-requires-6 : tie.Need-both-requires-6
+both-requires-6 c κs = search needs
+
+returns : tie.Need-returns
+unfolding scratchLong
+returns c = cc
+
+pub scratch-long-spec : {M : Type 1} → statement M
+scratch-long-spec =
+    tie.close
+    (tie.spec
+    mul-at-most
+    at-most-requires
+    at-most-requires-2
+    at-most-requires-3
+    at-most-requires-4
+    at-most-requires-5
+    at-most-requires-6
+    at-most-requires-7
+    both-requires
+    both-requires-2
+    both-requires-3
+    both-requires-4
+    both-requires-5
+    both-requires-6
+    returns)

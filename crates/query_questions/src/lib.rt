@@ -1,0 +1,91 @@
+// Questions 6, 7 and 13 of the queries, and the number after which a search stops.
+ghost use mathlib.Core.Path.{_≡_};
+ghost use mathlib.Core.Bool.{cond};
+ghost use lib.Dec.{eqb};
+ghost use Rattle.engine_columns.specs.Records.{engine};
+ghost use Rattle.query_questions.specs.Queries.{scratchLong, queryDoor};
+use columns::VertexIndex;
+use columns::Weight;
+use columns::questions::asked;
+use columns::questions::at_most;
+use columns::questions::both;
+use engine_columns::EngineCounts;
+use engine_columns::engine_sound;
+use engine_columns::long_enough;
+
+// Question 6, of scratch.
+pub fn scratch_long(
+    vertices: u32,
+    edges: u32,
+    numbers: usize,
+    ends: usize,
+    status: usize,
+    weight: usize,
+    previous: usize,
+    node: usize,
+    leaf: usize,
+) -> bool
+    ensures { λ r. ⌜ r ≡ scratchLong vertices edges numbers ends status weight previous node leaf ⌝ }
+{
+    let v = vertices as usize;
+    let twice = at_most(2 * (edges as usize), numbers);
+    both(
+        twice,
+        both(
+            at_most(v, ends),
+            both(
+                at_most(v, status),
+                both(
+                    at_most(v, weight),
+                    both(
+                        at_most(v, previous),
+                        both(at_most(v, node), at_most(v, leaf)),
+                    ),
+                ),
+            ),
+        ),
+    )
+}
+
+// Questions 6, 7 and 13 of a query, then `next`, the number of its later questions.
+pub fn query_door(
+    c: EngineCounts,
+    ends_a: &[u32],
+    ends_b: &[u32],
+    weights: &[Weight],
+    boundary: &[u8],
+    log_edges: &[u32],
+    log_weights: &[Weight],
+    fits: bool,
+    in_range: bool,
+    next: u32,
+) -> u32
+    ensures { λ r. ⌜ r ≡ queryDoor (engine c (now («ends_a» .entry)) (now («ends_b» .entry)) (now (weights .entry)) (now (boundary .entry)) (now («log_edges» .entry)) (now («log_weights» .entry))) fits «in_range» next ⌝ }
+{
+    let long = long_enough(
+        c,
+        ends_a,
+        ends_b,
+        weights,
+        boundary,
+        log_edges,
+        log_weights,
+        0,
+    );
+    let sound = engine_sound(c, ends_a, ends_b, weights, boundary, log_edges, log_weights);
+    asked(
+        both(long, fits),
+        6,
+        asked(sound, 7, asked(in_range, 13, next)),
+    )
+}
+
+// The number after which a search from the source stops, where an end is named.
+pub fn named_stop(b: VertexIndex, source: u32, vertices: u32) -> u32
+    ensures { λ r. ⌜ r ≡ cond (eqb (b .0) source) vertices (b .0) ⌝ }
+{
+    if b.0 == source {
+        return vertices;
+    }
+    b.0
+}

@@ -8,7 +8,7 @@ use columns::questions::at_most;
 use columns::questions::both;
 use columns::questions::edge_count_sound;
 use columns::questions::vertex_count_sound;
-use columns::stores::fill_u8;
+use stores::fill_u8;
 
 // The first question of clear_errors that is not met, or 0.
 fn clear_door(vertex_num: u32, edge_num: u32, defect: &[u8], erasure: &[u8]) -> u32

@@ -5,7 +5,7 @@ use columns::done_of;
 use columns::questions::asked;
 use columns::questions::both;
 use columns::questions::vertex_count_sound;
-use columns::stores::copy_f64;
+use stores::copy_f64;
 ghost use mathlib.Core.Path.{_≡_};
 ghost use Rattle.code_positions.specs.Positions.{positions, positionsDoor, GotPositions};
 

@@ -1,9 +1,7 @@
-// Loads and stores that take any place, and runs of stores from a column's start.
+// Loads and stores that take any place.
 ghost use mathlib.Core.Path.{_≡_};
-ghost use lib.ListN.{set, getD, take, replicate};
-ghost use lib.Seq.{sets};
+ghost use lib.ListN.{set, getD};
 ghost use Rattle.columns.specs.Places.{zeroFloat};
-use super::questions::lesser;
 
 // What stands at a place, 0 past the end.
 pub fn load_f64(column: &[f64], at: usize) -> f64
@@ -18,73 +16,5 @@ pub fn store_f64(column: &mut [f64], at: usize, value: f64)
 {
     if at < column.len() {
         column[at] = value;
-    }
-}
-
-// Stores the value at the first n places, or at all where there are fewer.
-pub fn fill_f64(column: &mut [f64], n: usize, value: f64)
-    ensures { λ _. ⌜ now (column .exit) ≡ sets (now (column .entry)) 0 (replicate n value) ⌝ }
-{
-    let m = lesser(n, column.len());
-    let mut i: usize = 0;
-    while i < m {
-        column[i] = value;
-        i += 1;
-    }
-}
-
-pub fn fill_u32(column: &mut [u32], n: usize, value: u32)
-    ensures { λ _. ⌜ now (column .exit) ≡ sets (now (column .entry)) 0 (replicate n value) ⌝ }
-{
-    let m = lesser(n, column.len());
-    let mut i: usize = 0;
-    while i < m {
-        column[i] = value;
-        i += 1;
-    }
-}
-
-pub fn fill_u8(column: &mut [u8], n: usize, value: u8)
-    ensures { λ _. ⌜ now (column .exit) ≡ sets (now (column .entry)) 0 (replicate n value) ⌝ }
-{
-    let m = lesser(n, column.len());
-    let mut i: usize = 0;
-    while i < m {
-        column[i] = value;
-        i += 1;
-    }
-}
-
-// Copies the first n elements, or all where either column has fewer.
-pub fn copy_f64(to: &mut [f64], from: &[f64], n: usize)
-    ensures { λ _. ⌜ now (to .exit) ≡ sets (now (to .entry)) 0 (take n (now (from .entry))) ⌝ }
-{
-    let m = lesser(lesser(n, from.len()), to.len());
-    let mut i: usize = 0;
-    while i < m {
-        to[i] = from[i];
-        i += 1;
-    }
-}
-
-pub fn copy_u32(to: &mut [u32], from: &[u32], n: usize)
-    ensures { λ _. ⌜ now (to .exit) ≡ sets (now (to .entry)) 0 (take n (now (from .entry))) ⌝ }
-{
-    let m = lesser(lesser(n, from.len()), to.len());
-    let mut i: usize = 0;
-    while i < m {
-        to[i] = from[i];
-        i += 1;
-    }
-}
-
-pub fn copy_u8(to: &mut [u8], from: &[u8], n: usize)
-    ensures { λ _. ⌜ now (to .exit) ≡ sets (now (to .entry)) 0 (take n (now (from .entry))) ⌝ }
-{
-    let m = lesser(lesser(n, from.len()), to.len());
-    let mut i: usize = 0;
-    while i < m {
-        to[i] = from[i];
-        i += 1;
     }
 }

@@ -4,17 +4,17 @@ ghost use Rattle.engine_columns.specs.Records.{engine, kept, counts};
 ghost use Rattle.engine_columns.specs.Step.{Step, loadErasures, loadWeights, reset};
 ghost use Rattle.engine_columns.specs.Open.{OpenStep, graphColumns};
 use columns::Weight;
-use columns::stores::copy_u8;
-use columns::stores::copy_u32;
 use edge_log::erase_all;
 use edge_log::undo_all;
 use edge_log::weigh_all;
 use engine_columns::EngineAnswer;
 use engine_columns::EngineCounts;
-use engine_columns::erasures_door;
-use engine_columns::open_door;
-use engine_columns::reset_door;
-use engine_columns::weights_door;
+use engine_doors::erasures_door;
+use engine_doors::open_door;
+use engine_doors::reset_door;
+use engine_doors::weights_door;
+use stores::copy_u8;
+use stores::copy_u32;
 
 // Sets each named edge to weight 0, in list order. It needs an empty log, and keeps the earlier weights there.
 pub fn load_erasures(

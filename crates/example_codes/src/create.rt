@@ -14,9 +14,9 @@ use code_questions::rounds_within;
 use code_room::long_enough;
 use columns::questions::asked;
 use columns::questions::lesser;
-use columns::stores::fill_f64;
-use columns::stores::fill_u8;
-use columns::stores::fill_u32;
+use stores::fill_f64;
+use stores::fill_u8;
+use stores::fill_u32;
 
 // The least of six lengths.
 pub fn shortest_of(a: usize, b: usize, c: usize, d: usize, e: usize, f: usize) -> usize

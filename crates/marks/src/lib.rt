@@ -6,7 +6,7 @@ ghost use lib.ListN.{length, getD, set};
 ghost use lib.Seq.{sets};
 ghost use Rattle.columns.specs.Lists.{when, over};
 ghost use Rattle.marks.specs.Marks.{isSet, listed, marks};
-use columns::stores::fill_u8;
+use stores::fill_u8;
 
 // Whether a byte is set.
 pub fn is_set(byte: u8) -> bool

@@ -7,11 +7,11 @@ ghost use Rattle.columns.specs.Places.{zeroFloat};
 ghost use Rattle.orders.specs.Order.{moved};
 ghost use Rattle.orders.specs.Steps.{IsOrder};
 use columns::VisualizePosition;
-use columns::stores::copy_f64;
-use columns::stores::copy_u8;
-use columns::stores::copy_u32;
 use orders::gather_u32;
 use orders::wide;
+use stores::copy_f64;
+use stores::copy_u8;
+use stores::copy_u32;
 
 // Stores the byte that stands at each listed place.
 fn gather_u8(list: &[u32], from: &[u8], to: &mut [u8])

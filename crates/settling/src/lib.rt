@@ -187,7 +187,7 @@ pub fn begin_at(status: &mut [u8], a: u32)
     ensures { λ _. ⌜ now (status .exit) ≡ set (replicate (length (now (status .entry))) 0) a 1 ⌝ }
 {
     let n = status.len();
-    columns::stores::fill_u8(status, n, 0);
+    stores::fill_u8(status, n, 0);
     let at = a as usize;
     if at < n {
         status[at] = 1;
@@ -266,7 +266,7 @@ pub fn begin(
     ensures { λ _. ⌜ now (previous .exit) ≡ each (length (now (status .entry))) (λ v. v) ⌝ }
 {
     let n = status.len();
-    columns::stores::fill_u32(weight, n, 0);
+    stores::fill_u32(weight, n, 0);
     own_previous(previous);
     put_sources(status, node, leaf);
 }

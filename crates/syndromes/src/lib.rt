@@ -11,7 +11,6 @@ ghost use Rattle.syndromes.specs.Sampling.{GeneratedRandomErrors};
 ghost use Rattle.syndromes.specs.Syndrome.{syndromeOf, FoundSyndrome};
 ghost use Rattle.flips.specs.Steps.{Fits};
 pub use cleared_errors::clear_errors;
-use columns::stores::fill_u8;
 use doors::errors_door;
 use doors::sampling_door;
 use doors::syndrome_door;
@@ -19,6 +18,7 @@ use flips::flip_all;
 use marked_lists::list_marked;
 use random::DeterministicRng;
 use sampled_edges::sample_edges;
+use stores::fill_u8;
 
 // How many defects and erasures are listed, or the number of the question that was not met.
 pub enum SyndromeAnswer {

@@ -12,10 +12,10 @@ use columns::done_of;
 use columns::questions::asked;
 use columns::questions::at_most;
 use columns::questions::both;
-use columns::stores::fill_f64;
-use columns::stores::fill_u8;
 use neighbors::lists::fill_lists;
 use neighbors::sound::graph_sound;
+use stores::fill_f64;
+use stores::fill_u8;
 
 // Question 6 of the vertex columns.
 fn vertex_columns_long(

@@ -8,7 +8,7 @@ use Rattle.cleared_errors.proofs.clear_errors.Tie as tie
 use Rattle.cleared_errors.proofs.clear_errors.Reads as reads
 use Rattle.cleared_errors.proofs.clear_errors.Lts as lts
 use Rattle.columns.proofs.done_of.Reads as done-of-reads
-use Rattle.columns.proofs.stores.fill_u8.Reads as fill-u8-reads
+use Rattle.stores.proofs.fill_u8.Reads as fill-u8-reads
 use Rattle.cleared_errors.proofs.clear_door.Reads as clear-door-reads
 
 clear-door-requires : tie.Need-clear-door-requires

@@ -10,7 +10,7 @@ use Rattle.moved_columns.proofs.move_positions_in.Statement.{statement}
 use Rattle.moved_columns.proofs.move_positions_in.Tie as tie
 use Rattle.moved_columns.proofs.move_positions_in.Reads as reads
 use Rattle.moved_columns.proofs.move_positions_in.Lts as lts
-use Rattle.columns.proofs.stores.copy_f64.Reads as copy-f64-reads
+use Rattle.stores.proofs.copy_f64.Reads as copy-f64-reads
 use Rattle.moved_columns.proofs.gather_positions.Reads as gather-positions-reads
 
 copy-f64-requires : tie.Need-copy-f64-requires

@@ -12,7 +12,7 @@ use Rattle.moved_columns.proofs.move_u32_in.Statement.{statement}
 use Rattle.moved_columns.proofs.move_u32_in.Tie as tie
 use Rattle.moved_columns.proofs.move_u32_in.Reads as reads
 use Rattle.moved_columns.proofs.move_u32_in.Lts as lts
-use Rattle.columns.proofs.stores.copy_u32.Reads as copy-u32-reads
+use Rattle.stores.proofs.copy_u32.Reads as copy-u32-reads
 use Rattle.orders.proofs.gather_u32.Reads as gather-u32-reads
 
 copy-u32-requires : tie.Need-copy-u32-requires

@@ -12,7 +12,7 @@ use Rattle.moved_columns.proofs.move_u8_in.Statement.{statement}
 use Rattle.moved_columns.proofs.move_u8_in.Tie as tie
 use Rattle.moved_columns.proofs.move_u8_in.Reads as reads
 use Rattle.moved_columns.proofs.move_u8_in.Lts as lts
-use Rattle.columns.proofs.stores.copy_u8.Reads as copy-u8-reads
+use Rattle.stores.proofs.copy_u8.Reads as copy-u8-reads
 use Rattle.moved_columns.proofs.gather_u8.Reads as gather-u8-reads
 
 copy-u8-requires : tie.Need-copy-u8-requires

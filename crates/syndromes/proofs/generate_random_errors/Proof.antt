@@ -17,7 +17,7 @@ use Rattle.syndromes.proofs.generate_random_errors.Statement.{statement
 use Rattle.syndromes.proofs.generate_random_errors.Tie as tie
 use Rattle.syndromes.proofs.generate_random_errors.Reads as reads
 use Rattle.syndromes.proofs.generate_random_errors.Lts as lts
-use Rattle.columns.proofs.stores.fill_u8.Reads as fill-u8-reads
+use Rattle.stores.proofs.fill_u8.Reads as fill-u8-reads
 use Rattle.random.proofs.DeterministicRng.seed_from_u64.Reads as seed-from-u64-reads
 use Rattle.syndromes.proofs.doors.sampling_door.Reads as sampling-door-reads
 use Rattle.marked_lists.proofs.list_marked.Reads as list-marked-reads

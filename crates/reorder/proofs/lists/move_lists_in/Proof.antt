@@ -14,7 +14,7 @@ use Rattle.reorder.proofs.lists.move_lists_in.Statement.{statement}
 use Rattle.reorder.proofs.lists.move_lists_in.Tie as tie
 use Rattle.reorder.proofs.lists.move_lists_in.Reads as reads
 use Rattle.reorder.proofs.lists.move_lists_in.Lts as lts
-use Rattle.columns.proofs.stores.copy_u32.Reads as copy-u32-reads
+use Rattle.stores.proofs.copy_u32.Reads as copy-u32-reads
 use Rattle.reorder.proofs.lists.gather_lists.Reads as gather-lists-reads
 use Rattle.reorder.proofs.lists.list_starts.Reads as list-starts-reads
 

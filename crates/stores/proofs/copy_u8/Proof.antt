@@ -1,13 +1,13 @@
--- `columns::stores::copy_u32` meets its contract. Invariant: i elements are copied, of the least of n and the two lengths. Assumes nothing.
+-- `stores::copy_u8` meets its contract. Invariant: i elements are copied, of the least of n and the two lengths. Assumes nothing.
 use mathlib.Core.Path.{_≡_, refl, sym, ap, _∙_}
 use Prim.Native.Nat.{_+_, _-_, _≤_, _<_, min}
 use native.Mathlib.Omega.{arith}
 use lib.ListN.{length, set, getD, take}
 use lib.Seq.{sets, length-sets}
 use borrow.Author.Needs.{needs}
-use Rattle.columns.proofs.stores.copy_u32.Statement.{statement}
-use Rattle.columns.proofs.stores.copy_u32.Tie as tie
+use Rattle.stores.proofs.copy_u8.Statement.{statement}
+use Rattle.stores.proofs.copy_u8.Tie as tie
 use Rattle.columns.proofs.Columns.{copy-more, copy-end}
 
 abbrev Inv-loop : tie.InvT-loop
 Inv-loop to₀ from n m i₀ to i = (i ≤ m) × (m ≡ min (min n (length from)) (length to₀)) × (length to ≡ length to₀) × (to ≡ sets to₀ 0 (take i from))
@@ -24,14 +24,8 @@ lesser-requires-2 c κs = search needs
 loop-holds : tie.Need-loop-holds Inv-loop μ-loop
 loop-holds c = (search needs, c .lesser2 .ensures ∙ ap (λ k. min k (length (c .before .before .before .before .args .to .now))) (c .before .lesser .ensures), refl, refl)
 
-mul-to : tie.Need-mul-to Inv-loop μ-loop
-mul-to c = search needs
-
 shared-slice-read-to : tie.Need-shared-slice-read-to Inv-loop μ-loop
 shared-slice-read-to c = let at = c .before .before .loop in omega (arith, at .inv .1)
-
-mul-to-2 : tie.Need-mul-to-2 Inv-loop μ-loop
-mul-to-2 c = search needs
 
 slice-write-to : tie.Need-slice-write-to Inv-loop μ-loop
 slice-write-to c = let at = c .before .before .loop in omega (arith, at .inv .1, at .inv .2)
@@ -58,8 +52,8 @@ returns c =
     let s = c .before .before .before .before .before .before .args in
     at .inv .3 ∙ copy-end (s .to .now) (s .from .now) (s .n) (at .i) (omega (arith, at .inv .1)) (omega (arith, at .inv .1))
 
-pub copy-u32-spec : {M : Type 1} → statement M
-copy-u32-spec =
+pub copy-u8-spec : {M : Type 1} → statement M
+copy-u8-spec =
     tie.close
     (tie.spec
     Inv-loop
@@ -67,9 +61,7 @@ copy-u32-spec =
     lesser-requires
     lesser-requires-2
     loop-holds
-    mul-to
     shared-slice-read-to
-    mul-to-2
     slice-write-to
     add-i
     loop-less

@@ -1,13 +1,13 @@
--- `columns::stores::fill_u32` meets its contract. Invariant: i stores are made, of the lesser of n and the length. Assumes nothing.
+-- `stores::fill_u32` meets its contract. Invariant: i stores are made, of the lesser of n and the length. Assumes nothing.
 use mathlib.Core.Path.{_≡_, refl, sym, ap, _∙_}
 use Prim.Native.Nat.{_+_, _-_, _≤_, _<_, min}
 use native.Mathlib.Omega.{arith}
 use lib.ListN.{length, set, replicate}
 use lib.Seq.{sets, length-sets}
 use borrow.Author.Needs.{needs}
-use Rattle.columns.proofs.stores.fill_u32.Statement.{statement}
-use Rattle.columns.proofs.stores.fill_u32.Tie as tie
+use Rattle.stores.proofs.fill_u32.Statement.{statement}
+use Rattle.stores.proofs.fill_u32.Tie as tie
 use Rattle.columns.proofs.Columns.{fill-more, fill-end}
 
 abbrev Inv-loop : tie.InvT-loop
 Inv-loop column₀ n value m i₀ column i = (i ≤ m) × (m ≡ min n (length column₀)) × (length column ≡ length column₀) × (column ≡ sets column₀ 0 (replicate i value))

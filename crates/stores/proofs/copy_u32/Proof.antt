@@ -1,14 +1,13 @@
--- `columns::stores::copy_f64` meets its contract. Invariant: i elements are copied, of the least of n and the two lengths. Assumes nothing.
+-- `stores::copy_u32` meets its contract. Invariant: i elements are copied, of the least of n and the two lengths. Assumes nothing.
 use mathlib.Core.Path.{_≡_, refl, sym, ap, _∙_}
 use Prim.Native.Nat.{_+_, _-_, _≤_, _<_, min}
 use native.Mathlib.Omega.{arith}
 use lib.ListN.{length, set, getD, take}
 use lib.Seq.{sets, length-sets}
-use lib.Ieee.{nan}
 use borrow.Author.Needs.{needs}
-use Rattle.columns.proofs.stores.copy_f64.Statement.{statement}
-use Rattle.columns.proofs.stores.copy_f64.Tie as tie
+use Rattle.stores.proofs.copy_u32.Statement.{statement}
+use Rattle.stores.proofs.copy_u32.Tie as tie
 use Rattle.columns.proofs.Columns.{copy-more, copy-end}
 
 abbrev Inv-loop : tie.InvT-loop
 Inv-loop to₀ from n m i₀ to i = (i ≤ m) × (m ≡ min (min n (length from)) (length to₀)) × (length to ≡ length to₀) × (to ≡ sets to₀ 0 (take i from))
@@ -47,7 +46,7 @@ loop-again : tie.Need-loop-again Inv-loop μ-loop
 loop-again c =
     let at = c .before .before .loop in
     let s = c .before .before .before .before .before .before .before .args in
-    let next = ap (λ l. set l (at .i) (getD (s .from .now) (at .i) nan)) (at .inv .3) ∙ copy-more (s .to .now) (s .from .now) (at .i) nan (omega (arith, at .inv .1)) in
+    let next = ap (λ l. set l (at .i) (getD (s .from .now) (at .i) 0)) (at .inv .3) ∙ copy-more (s .to .now) (s .from .now) (at .i) 0 (omega (arith, at .inv .1)) in
     (search needs, at .inv .1, ap length next ∙ length-sets (s .to .now) 0 (take (at .i + 1) (s .from .now)), next)
 
 same-length : tie.Need-same-length Inv-loop μ-loop
@@ -59,8 +58,8 @@ returns c =
     let s = c .before .before .before .before .before .before .args in
     at .inv .3 ∙ copy-end (s .to .now) (s .from .now) (s .n) (at .i) (omega (arith, at .inv .1)) (omega (arith, at .inv .1))
 
-pub copy-f64-spec : {M : Type 1} → statement M
-copy-f64-spec =
+pub copy-u32-spec : {M : Type 1} → statement M
+copy-u32-spec =
     tie.close
     (tie.spec
     Inv-loop

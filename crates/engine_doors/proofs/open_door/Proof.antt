@@ -1,7 +1,7 @@
--- `engine_columns::open_door` meets its contract. Assumes nothing.
+-- `engine_doors::open_door` meets its contract. Assumes nothing.
 use borrow.Author.Needs.{needs}
-use Rattle.engine_columns.proofs.open_door.Statement.{statement}
-use Rattle.engine_columns.proofs.open_door.Tie as tie
+use Rattle.engine_doors.proofs.open_door.Statement.{statement}
+use Rattle.engine_doors.proofs.open_door.Tie as tie
 
 columns-long-requires : tie.Need-columns-long-requires
 columns-long-requires c κs = search needs

@@ -1,7 +1,7 @@
--- `engine_columns::reset_door` meets its contract. Assumes nothing.
+-- `engine_doors::reset_door` meets its contract. Assumes nothing.
 use borrow.Author.Needs.{needs}
-use Rattle.engine_columns.proofs.reset_door.Statement.{statement}
-use Rattle.engine_columns.proofs.reset_door.Tie as tie
+use Rattle.engine_doors.proofs.reset_door.Statement.{statement}
+use Rattle.engine_doors.proofs.reset_door.Tie as tie
 
 long-enough-requires : tie.Need-long-enough-requires
 long-enough-requires c κs = search needs

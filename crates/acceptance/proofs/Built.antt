@@ -24,7 +24,7 @@ use Rattle.example_codes.specs.declared.Created.{Created}
 use Rattle.example_codes.specs.declared.Created.the-variants.{Code, Refused}
 use Rattle.example_codes.specs.Columns.{CodeColumns}
 use Rattle.example_codes.specs.CreateCode.{numberOf, verticesIn, edgesIn, created, refusal, refusalIn, newColumns, CreateCode}
-use Rattle.weights.specs.declared.diagonal.DiagonalProbability.{DiagonalProbability}
+use Rattle.diagonals.specs.declared.DiagonalProbability.{DiagonalProbability}
 use Rattle.weighted_codes.specs.NewCode.{newRefusal, newRefusalIn, WeightedCode}
 use Rattle.acceptance.specs.Listed.{graphIn}
 use Rattle.acceptance.specs.Called as Called

@@ -1,7 +1,8 @@
 ghost use Rattle.c_reports.specs.Reports.{Reported, ReportsDone};
 ghost use Rattle.c_codes.specs.Reports.{ReportsWeighed};
 ghost use Rattle.weights.specs.Answers.{weighed};
-ghost use Rattle.weights.specs.Calls.{weightDoor, ComputedWeights, SetEach};
+ghost use Rattle.set_probabilities.specs.Calls.{SetEach};
+ghost use Rattle.weights.specs.Calls.{weightDoor, ComputedWeights};
 ghost use Rattle.edge_weights.specs.Logarithm.{edgeWeight};
 ghost use Rattle.edge_weights.specs.Probabilities.{isProbability, isErasureProbability};
 ghost use mathlib.Core.Path.{_≡_};

@@ -2,8 +2,8 @@
 use Prim.Native.Nat.{ℕ, zero, suc}
 use mathlib.Core.Path.{_≡_, refl, subst}
 use lib.Ieee.{Float}
-use Rattle.weights.specs.declared.diagonal.DiagonalProbability.{DiagonalProbability}
-use Rattle.weights.specs.declared.diagonal.DiagonalProbability.the-variants.{Given}
+use Rattle.diagonals.specs.declared.DiagonalProbability.{DiagonalProbability}
+use Rattle.diagonals.specs.declared.DiagonalProbability.the-variants.{Given}
 use Rattle.example_codes.specs.declared.Created.{Created}
 use Rattle.example_codes.specs.Columns.{CodeColumns}
 use Rattle.weighted_codes.specs.NewCode.{WeightedCode}

@@ -2,7 +2,7 @@
 use c_codes::reports::created_report;
 use c_reports::TwoCounts;
 use columns::Weight;
-use weights::diagonal::DiagonalProbability;
+use diagonals::DiagonalProbability;
 ghost use mathlib.Core.Path.{_≡_};
 ghost use Rattle.weighted_codes.specs.NewCode.{NewCode, NewDiagonal};
 ghost use Rattle.c_reports.specs.Reports.{Reported};

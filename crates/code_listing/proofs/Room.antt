@@ -14,9 +14,9 @@ use Rattle.layers.specs.Counts.{layerVertexNum, vertexNum, layerEdgeNum, gapEdg
 use Rattle.layers.specs.Accepts.{codeRefusal}
 use Rattle.layers.proofs.ByKind.{few}
 use Rattle.code_questions.proofs.Clamped.{next-same}
-use Rattle.weights.specs.declared.diagonal.DiagonalProbability.{DiagonalProbability}
+use Rattle.diagonals.specs.declared.DiagonalProbability.{DiagonalProbability}
 use Rattle.edge_weights.specs.Probabilities.{isProbability}
-use Rattle.weights.specs.Diagonal.{isDiagonalProbability}
+use Rattle.diagonals.specs.Diagonal.{isDiagonalProbability}
 use Rattle.weights.specs.Calls.{edgeWeights, someAbove, isLargestHalfWeight}
 use Rattle.example_codes.specs.Columns.{longEnough}
 use Rattle.weighted_codes.specs.Probabilities.{probabilities, diagonalOf}

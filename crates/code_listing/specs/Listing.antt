@@ -15,7 +15,7 @@ use Rattle.layers.specs.Accepts.{codeRefusal}
 use Rattle.code_graphs.specs.Graphs.{codeGraph}
 use Rattle.walks.specs.Answers.{crossing}
 use Rattle.edge_weights.specs.Probabilities.{isProbability}
-use Rattle.weights.specs.Diagonal.{isDiagonalProbability}
+use Rattle.diagonals.specs.Diagonal.{isDiagonalProbability}
 use Rattle.weights.specs.Calls.{edgeWeights, someAbove, isLargestHalfWeight, halfWeights}
 use Rattle.weighted_codes.specs.Probabilities.{probabilities, diagonalOf}
 use Rattle.listing.specs.Text.{refusalLine, listing}

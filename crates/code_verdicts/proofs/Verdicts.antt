@@ -23,7 +23,7 @@ use Rattle.code_graphs.proofs.Lists.{Touches, vertex-touched}
 use Rattle.verdicts.specs.declared.Verdict.{Verdict}
 use Rattle.verdicts.specs.Sanity.{verdictOf, sanityAnswer, SanityChecked}
 use Rattle.vertices.proofs.Theorems.{EndsEdge, sound-verdict}
-use Rattle.weights.specs.declared.diagonal.DiagonalProbability.{DiagonalProbability}
+use Rattle.diagonals.specs.declared.DiagonalProbability.{DiagonalProbability}
 use Rattle.example_codes.specs.declared.Created.{Created}
 use Rattle.example_codes.specs.declared.Created.the-variants.{Code, Refused}
 use Rattle.example_codes.specs.Columns.{CodeColumns}

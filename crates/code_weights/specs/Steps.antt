@@ -12,9 +12,9 @@ use Rattle.columns.specs.Places.{zeroFloat, positionAt}
 use Rattle.columns.specs.Questions.{ask}
 use Rattle.edge_weights.specs.Logarithm.{edgeWeight}
 use Rattle.edge_weights.specs.Rounding.{halfWeight}
-use Rattle.weights.specs.Diagonal.{isDiagonal, replaced}
+use Rattle.diagonals.specs.Diagonal.{isDiagonal, replaced}
 use Rattle.weights.specs.Calls.{larger}
-use Rattle.weights.specs.declared.diagonal.DiagonalProbability.{DiagonalProbability}
+use Rattle.diagonals.specs.declared.DiagonalProbability.{DiagonalProbability}
 use Rattle.code_weights.specs.declared.Weighed.{Weighed}
 
 -- the p of a diagonal edge

@@ -4,20 +4,20 @@ ghost use mathlib.Core.Bool.{_&&_};
 ghost use lib.Ieee.{lt};
 ghost use Rattle.columns.specs.Places.{zeroFloat};
 ghost use Rattle.edge_weights.specs.Probabilities.{isProbability};
-ghost use Rattle.weights.specs.Diagonal.{isDiagonalProbability};
+ghost use Rattle.diagonals.specs.Diagonal.{isDiagonalProbability};
 ghost use Rattle.weights.specs.Calls.{isLargestHalfWeight};
 ghost use Rattle.code_weights.specs.Steps.{largestOf, doorNumber};
 use super::weigh::diagonal_p;
 use columns::Weight;
 use columns::questions::asked;
 use columns::questions::both;
+use diagonals::DiagonalProbability;
+use diagonals::is_diagonal_probability;
 use edge_weights::logarithm::edge_weight;
-use weights::diagonal::DiagonalProbability;
-use weights::diagonal::is_diagonal_probability;
+use probabilities::is_probability;
 use weights::is_above_zero;
 use weights::is_largest_half_weight;
 use weights::larger_weight;
-use weights::probabilities::is_probability;
 
 // The largest weight of a code's edges. Some edge is not diagonal; from one round on some edge of kind 4 is.
 pub fn largest_weight(rounds: u32, p: f64, diagonal: DiagonalProbability) -> f64

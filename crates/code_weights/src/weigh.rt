@@ -7,10 +7,10 @@ ghost use Rattle.code_weights.specs.Steps.{diagonalP, weighedOf, diagona
 use super::Weighed;
 use columns::VisualizePosition;
 use columns::Weight;
+use diagonals::DiagonalProbability;
+use diagonals::is_diagonal;
 use edge_weights::logarithm::edge_weight;
 use edge_weights::rounding::half_weight;
-use weights::diagonal::DiagonalProbability;
-use weights::diagonal::is_diagonal;
 
 // The p of a diagonal edge.
 pub fn diagonal_p(p: f64, diagonal: DiagonalProbability) -> f64

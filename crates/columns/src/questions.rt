@@ -18,7 +18,7 @@ use super::Weight;
 pub fn both(a: bool, b: bool) -> bool
     ensures { λ r. ⌜ r ≡ (a && b) ⌝ }
 {
-    if a { b } else { false }
+    a & b
 }
 
 // A question: yes goes on to the next, no yields its number.

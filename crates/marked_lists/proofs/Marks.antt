@@ -1,18 +1,20 @@
 -- Laws of the list of the numbers that pass a test, and of storing it. Assumes nothing.
-use mathlib.Core.Path.{_≡_, refl, sym, ap, _∙_, subst}
-use mathlib.Core.Bool.{Bool, true, false, cond}
-use mathlib.Core.List.{List, [], _∷_, _++_}
+use mathlib.Core.Path.{_≡_, refl, sym, ap, _∙_}
+use mathlib.Core.Bool.{Bool, true, false}
+use mathlib.Core.List.{List, [], _++_, append-nil}
 use Prim.Native.Nat.{ℕ, zero, suc, _+_, _≤_, _<_}
 use native.Mathlib.Nat.{zero-add, le-refl}
 use native.Mathlib.Decide.{decLe}
-use native.Mathlib.Numerals.{add-one}
 use native.Mathlib.Omega.{arith}
 use lib.ListN.{length, getD, length-append, List·getD-append}
 use lib.Seq.{sets, getD-append-add}
-use Rattle.columns.specs.Lists.{joined, when, over}
-use Rattle.columns.proofs.Columns.{sets-append, sets-over}
+use lib.Dec.{eqb}
+use borrow.Author.Tests.{eqb-true, ne-eqb}
+use Rattle.columns.specs.Lists.{joined, when}
+use Rattle.columns.proofs.Columns.{sets-append}
 use Rattle.columns.proofs.Counting.{joined-more, joined-same}
 use Rattle.neighbors.specs.Lists.{chosen}
+use Rattle.marked_lists.specs.Marked.{marked}
 
 pub length-when : (b : Bool) (x : ℕ) → length (when b x) ≤ 1
 length-when true x = omega arith
@@ -69,3 +71,31 @@ module _ (test : ℕ → Bool) where
 pub chosen-same : (n : ℕ) (f g : ℕ → Bool) → ((k : ℕ) → k < n → f k ≡ g k) → chosen n f ≡ chosen n g
 unfolding chosen
 chosen-same n f g h = joined-same n (λ k. when (f k) k) (λ k. when (g k) k) (λ k l. ap (λ (b : Bool). when b k) (h k l))
+
+-- the numbers whose byte is 1
+module _ (bytes : List ℕ) where
+  pub marked-none : marked 0 bytes ≡ []
+  unfolding marked
+  marked-none = chosen-none (λ k. eqb (getD bytes k 0) 1)
+
+  pub length-marked : (n : ℕ) → length (marked n bytes) ≤ n
+  unfolding marked
+  length-marked n = length-chosen (λ k. eqb (getD bytes k 0) 1) n
+
+  pub store-marked : (n at : ℕ) (l₀ : List ℕ) {l l′ : List ℕ} → l ≡ sets l₀ 0 (marked n bytes) → at ≡ length (marked n bytes)
+      → l′ ≡ sets l at (when (eqb (getD bytes n 0) 1) n) → l′ ≡ sets l₀ 0 (marked (n + 1) bytes)
+  unfolding marked
+  store-marked n at l₀ e f h = store-chosen (λ k. eqb (getD bytes k 0) 1) n at l₀ e f refl h
+
+  pub count-marked : (n at : ℕ) {r : ℕ} → at ≡ length (marked n bytes) → r ≡ at + length (when (eqb (getD bytes n 0) 1) n) → r ≡ length (marked (n + 1) bytes)
+  unfolding marked
+  count-marked n at f h = count-chosen (λ k. eqb (getD bytes k 0) 1) n at f refl h
+
+  -- a byte of 0 adds no number
+  pub marked-zero : (n : ℕ) → eqb (getD bytes n 0) 0 ≡ true → marked (n + 1) bytes ≡ marked n bytes
+  unfolding marked
+  marked-zero n z =
+      let e = eqb-true (getD bytes n 0) 0 z in
+      chosen-more (λ k. eqb (getD bytes k 0) 1) n
+      ∙ ap (λ (b : Bool). chosen n (λ k. eqb (getD bytes k 0) 1) ++ when b n) (ne-eqb (getD bytes n 0) 1 (λ f. absurd (omega arith)))
+      ∙ append-nil (chosen n (λ k. eqb (getD bytes k 0) 1))

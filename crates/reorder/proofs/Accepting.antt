@@ -17,7 +17,7 @@ use Rattle.columns.specs.declared.Done.{Done}
 use Rattle.columns.specs.declared.Done.the-variants as done-is
 use Rattle.columns.proofs.Columns.{after-accepted, after-refused}
 use Rattle.columns.proofs.Tests.{and-both, below-at}
-use Rattle.weights.proofs.Doors.{met, goes-on, asks}
+use Rattle.columns.proofs.Doors.{met, goes-on, asks}
 use Rattle.reorder.specs.declared.TranslatedAnswer.{TranslatedAnswer}
 use Rattle.reorder.specs.declared.TranslatedAnswer.the-variants.{Count, Refused}
 use Rattle.orders.specs.Order.{noneTwice, oldToNew, renamed, moved}

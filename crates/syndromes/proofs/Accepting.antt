@@ -20,7 +20,7 @@ use Rattle.columns.proofs.Tests.{and-both, below-at, within-at}
 use Rattle.neighbors.specs.Sound.{graphSound}
 use Rattle.neighbors.specs.Steps.{InRange}
 use Rattle.neighbors.proofs.Ends.{GraphSound, graph-says}
-use Rattle.weights.proofs.Doors.{met, goes-on}
+use Rattle.columns.proofs.Doors.{met, goes-on}
 use Rattle.syndromes.specs.declared.SyndromeAnswer.{SyndromeAnswer}
 use Rattle.syndromes.specs.declared.SyndromeAnswer.the-variants as syndrome
 use Rattle.syndromes.specs.declared.ListAnswer.{ListAnswer}

@@ -13,7 +13,7 @@ use Rattle.columns.specs.Lists.{each, over}
 use Rattle.columns.specs.Questions.{ask}
 use Rattle.columns.proofs.Columns.{sets-over}
 use Rattle.columns.proofs.Tests.{and-both}
-use Rattle.weights.proofs.Doors.{met, goes-on}
+use Rattle.columns.proofs.Doors.{met, goes-on}
 use Rattle.columns.proofs.Counting.{length-each}
 use Rattle.random.specs.declared.DeterministicRng.{DeterministicRng}
 use Rattle.syndromes.specs.Records.{CodeGraph, graphLong, codeSound, SyndromeColumns, syndromeLong}

@@ -11,8 +11,8 @@ use columns::questions::boundaries_sound;
 use columns::questions::each_below;
 use columns::questions::marks_sound;
 use neighbors::sound::graph_sound;
-use weights::probabilities::are_erasure_probabilities;
-use weights::probabilities::are_probabilities;
+use probabilities::are_erasure_probabilities;
+use probabilities::are_probabilities;
 
 // Question 6, of ends and boundary bytes.
 pub fn graph_long(

@@ -26,7 +26,7 @@ use Rattle.code_graphs.proofs.AllEdges.{vertices-are}
 use Rattle.code_graphs.proofs.Straight.{row-first, turned-first, along-row}
 use Rattle.rotated.specs.Rotated.{rotatedWidth, rotatedEdge, rotatedRow}
 use Rattle.layers.proofs.Counted.{row-count}
-use Rattle.weights.specs.Diagonal.{isDiagonal}
+use Rattle.diagonals.specs.Diagonal.{isDiagonal}
 use Rattle.weighted_codes.specs.Probabilities.{positionOf}
 use Rattle.weighted_codes.proofs.Distances.{along, to-left, to-next-row, to-next-layer}
 use Rattle.weighted_codes.proofs.Positions.{position-at}

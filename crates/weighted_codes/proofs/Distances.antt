@@ -13,7 +13,7 @@ use Rattle.columns.proofs.Tests.{every-at}
 use Rattle.code_columns.specs.Edges.{float}
 use Rattle.planar.specs.Planar.{half, one}
 use Rattle.edge_weights.specs.Constants as constants
-use Rattle.weights.specs.Diagonal.{absolute, manhattanDistance, isDiagonal}
+use Rattle.diagonals.specs.Diagonal.{absolute, manhattanDistance, isDiagonal}
 
 -- -1
 abbrev minusOne : Float

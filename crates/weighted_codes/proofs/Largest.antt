@@ -16,10 +16,10 @@ use Rattle.layers.specs.Codes.{edgesOf}
 use Rattle.layers.specs.Counts.{edgeNum}
 use Rattle.layers.proofs.Accepted.{Accepted}
 use Rattle.edge_weights.specs.Logarithm.{edgeWeight}
-use Rattle.weights.specs.Diagonal.{replaced}
+use Rattle.diagonals.specs.Diagonal.{replaced}
 use Rattle.weights.specs.Calls.{larger, largest, largestWeight, edgeWeights}
-use Rattle.weights.specs.declared.diagonal.DiagonalProbability.{DiagonalProbability}
-use Rattle.weights.specs.declared.diagonal.DiagonalProbability.the-variants.{None, Given}
+use Rattle.diagonals.specs.declared.DiagonalProbability.{DiagonalProbability}
+use Rattle.diagonals.specs.declared.DiagonalProbability.the-variants.{None, Given}
 use Rattle.weighted_codes.specs.Probabilities.{probabilities}
 use Rattle.code_weights.specs.Steps.{diagonalP, largestOf}
 use Rattle.weighted_codes.specs.Steps.{DiagonalKind}

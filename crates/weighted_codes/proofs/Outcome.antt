@@ -29,10 +29,10 @@ use Rattle.code_graphs.proofs.Sound.{first-over, second-over}
 use Rattle.edge_weights.specs.Logarithm.{edgeWeight}
 use Rattle.edge_weights.specs.Rounding.{halfWeight}
 use Rattle.edge_weights.specs.Probabilities.{isProbability}
-use Rattle.weights.specs.Diagonal.{isDiagonal, replaced, newDiagonal, isDiagonalProbability}
+use Rattle.diagonals.specs.Diagonal.{isDiagonal, replaced, newDiagonal, isDiagonalProbability}
 use Rattle.weights.specs.Calls.{largestWeight, edgeWeights, someAbove, isLargestHalfWeight, halfWeights}
-use Rattle.weights.specs.declared.diagonal.DiagonalProbability.{DiagonalProbability}
-use Rattle.weights.specs.declared.diagonal.DiagonalProbability.the-variants.{None, Given}
+use Rattle.diagonals.specs.declared.DiagonalProbability.{DiagonalProbability}
+use Rattle.diagonals.specs.declared.DiagonalProbability.the-variants.{None, Given}
 use Rattle.weights.proofs.Largest.{some-above}
 use Rattle.example_codes.specs.declared.Created.{Created}
 use Rattle.example_codes.specs.declared.Created.the-variants.{Code, Refused}

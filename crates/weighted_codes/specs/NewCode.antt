@@ -10,9 +10,9 @@ use Rattle.columns.specs.Questions.{ask}
 use Rattle.layers.specs.Counts.{vertexNum, edgeNum}
 use Rattle.layers.specs.Accepts.{codeRefusal}
 use Rattle.edge_weights.specs.Probabilities.{isProbability}
-use Rattle.weights.specs.Diagonal.{isDiagonalProbability}
+use Rattle.diagonals.specs.Diagonal.{isDiagonalProbability}
 use Rattle.weights.specs.Calls.{edgeWeights, someAbove, isLargestHalfWeight, halfWeights}
-use Rattle.weights.specs.declared.diagonal.DiagonalProbability.{DiagonalProbability}
+use Rattle.diagonals.specs.declared.DiagonalProbability.{DiagonalProbability}
 use Rattle.example_codes.specs.declared.Created.{Created}
 use Rattle.example_codes.specs.Columns.{CodeColumns, edgeRoom, vertexRoom, longEnough}
 use Rattle.example_codes.specs.CreateCode.{created, newColumns}

@@ -8,9 +8,9 @@ use Rattle.columns.specs.Places.{positionAt}
 use Rattle.columns.specs.declared.VisualizePosition.{VisualizePosition}
 use Rattle.code_columns.specs.Edges.{Ends, positionsI, positionsJ, positionsT}
 use Rattle.layers.specs.Codes.{edgesOf, verticesOf}
-use Rattle.weights.specs.Diagonal.{edgeProbability, newDiagonal}
-use Rattle.weights.specs.declared.diagonal.DiagonalProbability.{DiagonalProbability}
-use Rattle.weights.specs.declared.diagonal.DiagonalProbability.the-variants.{None}
+use Rattle.diagonals.specs.Diagonal.{edgeProbability, newDiagonal}
+use Rattle.diagonals.specs.declared.DiagonalProbability.{DiagonalProbability}
+use Rattle.diagonals.specs.declared.DiagonalProbability.the-variants.{None}
 
 -- where a vertex of a code is
 unfoldable pub positionOf : (kind d rounds v : ℕ) → VisualizePosition

@@ -2,8 +2,8 @@
 use Prim.Native.Nat.{ℕ}
 use mathlib.Core.Path.{_≡_}
 use mathlib.Core.Logic.{_⊎_}
-use Rattle.weights.specs.declared.diagonal.DiagonalProbability.{DiagonalProbability}
-use Rattle.weights.specs.declared.diagonal.DiagonalProbability.the-variants.{None}
+use Rattle.diagonals.specs.declared.DiagonalProbability.{DiagonalProbability}
+use Rattle.diagonals.specs.declared.DiagonalProbability.the-variants.{None}
 
 -- only kind 4 has a diagonal probability
 abbrev pub DiagonalKind : (kind : ℕ) → DiagonalProbability → Type 0

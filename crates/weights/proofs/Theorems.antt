@@ -27,7 +27,7 @@ use Rattle.edge_weights.specs.Rounding.{reaches, greatest, scaled, atLeastOne, 
 use Rattle.weights.specs.Calls.{larger, largest, edgeWeights, largestWeight, someAbove, isLargestHalfWeight, halfWeights, computeDoor, ComputedWeights}
 use Rattle.edge_weights.proofs.Recipe.{zero-weight}
 use Rattle.edge_weights.proofs.Search.{is-greatest, misses, greatest-within}
-use Rattle.weights.proofs.Doors.{met, goes-on}
+use Rattle.columns.proofs.Doors.{met, goes-on}
 
 -- ---- what an accepted call knows
 

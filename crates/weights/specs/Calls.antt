@@ -4,7 +4,7 @@ use mathlib.Core.Path.{_≡_}
 use mathlib.Core.Bool.{Bool, false, _&&_, _||_, cond}
 use mathlib.Core.List.{List, [], _∷_, map}
 use lib.Dec.{leb}
-use lib.ListN.{length, take, replicate}
+use lib.ListN.{length, take}
 use lib.Ieee.{Float, lt}
 use Rattle.columns.specs.Limits.{edgeLimit, halfWeightLimit}
 use Rattle.columns.specs.Lists.{after}
@@ -66,14 +66,3 @@ computeDoor edges p column max =
 pub record ComputedWeights (edges : ℕ) (p : List Float) (before : List ℕ) (max : ℕ) (column : List ℕ) (answer : Done) : Type 0 where
   pub answers : answer ≡ done (computeDoor edges p before max)
   pub writes : column ≡ after (computeDoor edges p before max) (halfWeights max (take edges p)) before
-
--- ---- set_probability, set_erasure_probability
-
--- questions 6, 7 and 9; `met` is question 9 of the one number
-abbrev pub setDoor : Bool → ℕ → List Float → ℕ
-setDoor met edges column = ask (leb edges (length column)) 6 (ask (leb edges edgeLimit) 7 (ask met 9 0))
-
--- the call: its answer, and what stands in the column of p or pe, `before` it and afterwards
-pub record SetEach (met : Bool) (edges : ℕ) (value : Float) (before column : List Float) (answer : Done) : Type 0 where
-  pub answers : answer ≡ done (setDoor met edges before)
-  pub writes : column ≡ after (setDoor met edges before) (replicate edges value) before

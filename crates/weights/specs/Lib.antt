@@ -1,5 +1,4 @@
 -- Document 01's questions 6 to 10 of weights, as definitions.
--- Diagonal: the diagonal probability of kind 4. Answers: what `weight_of_p` answers. Calls: each call's number, answer and columns afterwards.
-pub mod Diagonal
+-- Answers: what `weight_of_p` answers. Calls: each call's number, answer and columns afterwards.
 pub mod Answers
 pub mod Calls

@@ -1,7 +1,4 @@
 // Weights: document 01's section "Weights" with questions 6 to 10.
-pub mod diagonal;
-pub mod probabilities;
-
 use columns::Done;
 use columns::EDGE_LIMIT;
 use columns::HALF_WEIGHT_LIMIT;
@@ -14,9 +11,9 @@ use columns::questions::lesser;
 use edge_weights::logarithm::edge_weight;
 use edge_weights::rounding::half_weight;
 use probabilities::are_probabilities;
-use probabilities::is_erasure_probability;
 use probabilities::is_probability;
-use stores::fill_f64;
+pub use set_probabilities::set_erasure_probability;
+pub use set_probabilities::set_probability;
 ghost use mathlib.Core.Path.{_≡_};
 ghost use mathlib.Core.Bool.{Bool};
 ghost use mathlib.Core.List.{map};
@@ -25,11 +22,11 @@ ghost use lib.ListN.{length, take};
 ghost use lib.Ieee.{lt};
 ghost use Rattle.columns.specs.Lists.{over};
 ghost use Rattle.columns.specs.Places.{zeroFloat};
-ghost use Rattle.edge_weights.specs.Probabilities.{isProbability, isErasureProbability};
+ghost use Rattle.edge_weights.specs.Probabilities.{isProbability};
 ghost use Rattle.edge_weights.specs.Logarithm.{edgeWeight};
 ghost use Rattle.edge_weights.specs.Rounding.{halfWeight};
 ghost use Rattle.weights.specs.Answers.{weighed};
-ghost use Rattle.weights.specs.Calls.{weightDoor, larger, largestWeight, isLargestHalfWeight, ComputedWeights, SetEach};
+ghost use Rattle.weights.specs.Calls.{weightDoor, larger, largestWeight, isLargestHalfWeight, ComputedWeights};
 
 // What `weight_of_p` answers.
 pub enum WeightOfP {
@@ -125,35 +122,4 @@ pub fn compute_weights(
     }
     store_half_weights(n, p, half_weight, max_half_weight, largest);
     Done::Accepted
-}
-
-// Sets the number of each edge, where question 9 is met.
-fn set_each(met: bool, edge_num: u32, value: f64, column: &mut [f64]) -> Done
-    ensures { λ r. ⌜ SetEach met «edge_num» value (now (column .entry)) (now (column .exit)) r ⌝ }
-{
-    let n = edge_num as usize;
-    let number = asked(
-        at_most(n, column.len()),
-        6,
-        asked(at_most(n, EDGE_LIMIT as usize), 7, asked(met, 9, 0)),
-    );
-    if number != 0 {
-        return done_of(number);
-    }
-    fill_f64(column, n, value);
-    Done::Accepted
-}
-
-// Sets the probability of each edge.
-pub fn set_probability(edge_num: u32, p: f64, column: &mut [f64]) -> Done
-    ensures { λ r. ⌜ SetEach (isProbability p) «edge_num» p (now (column .entry)) (now (column .exit)) r ⌝ }
-{
-    set_each(is_probability(p), edge_num, p, column)
-}
-
-// Sets the erasure probability of each edge.
-pub fn set_erasure_probability(edge_num: u32, pe: f64, column: &mut [f64]) -> Done
-    ensures { λ r. ⌜ SetEach (isErasureProbability pe) «edge_num» pe (now (column .entry)) (now (column .exit)) r ⌝ }
-{
-    set_each(is_erasure_probability(pe), edge_num, pe, column)
 }

@@ -6,7 +6,7 @@ use lib.ListN.{length, getD}
 use Rattle.columns.proofs.Tests.{below-at}
 use Rattle.columns.specs.Questions.{ask}
 use Rattle.orders.specs.Order.{noneTwice}
-use Rattle.weights.proofs.Doors.{asks}
+use Rattle.columns.proofs.Doors.{asks}
 use Rattle.orders.proofs.Asking.{stops, passes}
 use borrow.Author.Needs.{needs}
 use Rattle.orders.proofs.order_questions.Statement.{statement}

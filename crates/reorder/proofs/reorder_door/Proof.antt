@@ -1,6 +1,6 @@
 -- `reorder::reorder_door` meets its contract. Assumes nothing.
 use mathlib.Core.Path.{_≡_, refl, sym, ap, _∙_}
-use Rattle.weights.proofs.Doors.{asks}
+use Rattle.columns.proofs.Doors.{asks}
 use Rattle.reorder.specs.Columns.{reorderDoor}
 use Rattle.reorder.proofs.Accepting.{sound-few}
 use borrow.Author.Needs.{needs}

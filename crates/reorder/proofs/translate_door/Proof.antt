@@ -4,7 +4,7 @@ use native.Mathlib.Omega.{arith}
 use Rattle.columns.specs.Questions.{allBelow}
 use Rattle.columns.proofs.Tests.{and-both}
 use lib.ListN.{length}
-use Rattle.weights.proofs.Doors.{ands}
+use Rattle.columns.proofs.Doors.{ands}
 use Rattle.reorder.proofs.Accepting.{translate-6, translate-11, translate-on}
 use borrow.Author.Needs.{needs}
 use Rattle.reorder.proofs.translate_door.Statement.{statement}

@@ -3,8 +3,8 @@ use mathlib.Core.Path.{_≡_, refl, sym, ap, _∙_}
 use mathlib.Core.Bool.{Bool, cond}
 use borrow.Author.Tests.{eq-eqb, ne-eqb}
 use borrow.Author.Needs.{needs}
-use Rattle.weights.specs.Diagonal.{newDiagonal}
-use Rattle.weights.specs.declared.diagonal.DiagonalProbability.the-variants.{None}
+use Rattle.diagonals.specs.Diagonal.{newDiagonal}
+use Rattle.diagonals.specs.declared.DiagonalProbability.the-variants.{None}
 use Rattle.weighted_codes.proofs.diagonal_of.Statement.{statement}
 use Rattle.weighted_codes.proofs.diagonal_of.Tie as tie
 

@@ -5,7 +5,7 @@ use Prim.Native.Nat.{ℕ}
 use lib.Ieee.{lt}
 use Rattle.columns.specs.Places.{zeroFloat}
 use Rattle.edge_weights.specs.Probabilities.{isProbability}
-use Rattle.weights.specs.Diagonal.{isDiagonalProbability}
+use Rattle.diagonals.specs.Diagonal.{isDiagonalProbability}
 use Rattle.weights.specs.Calls.{isLargestHalfWeight}
 use Rattle.code_weights.specs.Steps.{doorNumber}
 use borrow.Author.Needs.{needs}

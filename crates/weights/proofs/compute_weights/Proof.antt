@@ -17,7 +17,7 @@ use Rattle.columns.proofs.Tests.{and-both}
 use Rattle.edge_weights.specs.Logarithm.{edgeWeight}
 use Rattle.edge_weights.specs.Rounding.{halfWeight}
 use Rattle.weights.specs.Calls.{edgeWeights, largestWeight, halfWeights, computeDoor}
-use Rattle.weights.proofs.Doors.{met, asks, ands}
+use Rattle.columns.proofs.Doors.{met, asks, ands}
 use Rattle.weights.proofs.Largest.{some-above}
 use Rattle.weights.proofs.compute_weights.Statement.{statement}
 use Rattle.weights.proofs.compute_weights.Tie as tie

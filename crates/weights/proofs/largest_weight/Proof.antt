@@ -8,7 +8,7 @@ use borrow.Author.Needs.{needs}
 use Rattle.columns.specs.Places.{zeroFloat}
 use Rattle.edge_weights.specs.Logarithm.{edgeWeight}
 use Rattle.weights.specs.Calls.{larger, largest, edgeWeights, largestWeight}
-use Rattle.weights.proofs.Doors.{take-first, map-more}
+use Rattle.columns.proofs.Doors.{take-first, map-more}
 use Rattle.weights.proofs.Largest.{largest-more}
 use Rattle.weights.proofs.largest_weight.Statement.{statement}
 use Rattle.weights.proofs.largest_weight.Tie as tie

@@ -11,7 +11,7 @@ use borrow.Author.Needs.{needs}
 use Rattle.columns.proofs.Columns.{sets-over}
 use Rattle.edge_weights.specs.Logarithm.{edgeWeight}
 use Rattle.edge_weights.specs.Rounding.{halfWeight}
-use Rattle.weights.proofs.Doors.{store-more}
+use Rattle.columns.proofs.Doors.{store-more}
 use Rattle.weights.proofs.store_half_weights.Statement.{statement}
 use Rattle.weights.proofs.store_half_weights.Tie as tie
 

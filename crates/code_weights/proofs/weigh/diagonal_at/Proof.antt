@@ -3,7 +3,7 @@ use mathlib.Core.Path.{_≡_, refl, sym, ap, _∙_}
 use Prim.Native.Nat.{ℕ}
 use Rattle.columns.specs.Places.{positionAt}
 use Rattle.columns.specs.declared.VisualizePosition.{VisualizePosition}
-use Rattle.weights.specs.Diagonal.{isDiagonal}
+use Rattle.diagonals.specs.Diagonal.{isDiagonal}
 use Rattle.code_weights.specs.Steps.{diagonalAt}
 use borrow.Author.Needs.{needs}
 use Rattle.code_weights.proofs.weigh.diagonal_at.Statement.{statement}

@@ -6,8 +6,8 @@ use Rattle.syndromes.proofs.doors.probabilities_sound.Tie as tie
 use Rattle.syndromes.proofs.doors.probabilities_sound.Reads as reads
 use Rattle.syndromes.proofs.doors.probabilities_sound.Lts as lts
 use Rattle.columns.proofs.questions.both.Reads as both-reads
-use Rattle.weights.proofs.probabilities.are_erasure_probabilities.Reads as are-erasure-probabilities-reads
-use Rattle.weights.proofs.probabilities.are_probabilities.Reads as are-probabilities-reads
+use Rattle.probabilities.proofs.are_erasure_probabilities.Reads as are-erasure-probabilities-reads
+use Rattle.probabilities.proofs.are_probabilities.Reads as are-probabilities-reads
 
 are-probabilities-requires : tie.Need-are-probabilities-requires
 are-probabilities-requires c κs = search needs

@@ -1,0 +1,2 @@
+-- Diagonal: the diagonal probability of kind 4.
+pub mod Diagonal

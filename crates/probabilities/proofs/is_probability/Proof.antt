@@ -1,0 +1,27 @@
+-- `probabilities::is_probability` meets its contract. Assumes nothing.
+use mathlib.Core.Path.{ap, _∙_}
+use mathlib.Core.Bool.{Bool, _||_}
+use borrow.Author.Needs.{needs}
+use Rattle.edge_weights.specs.Probabilities.{isPlusZero, isProbability}
+use Rattle.probabilities.proofs.is_probability.Statement.{statement}
+use Rattle.probabilities.proofs.is_probability.Tie as tie
+
+is-plus-zero-requires : tie.Need-is-plus-zero-requires
+is-plus-zero-requires c κs = search needs
+
+is-in-range-requires : tie.Need-is-in-range-requires
+is-in-range-requires c κs = search needs
+
+either-requires : tie.Need-either-requires
+either-requires c κs = search needs
+
+returns : tie.Need-returns
+unfolding isProbability
+returns c =
+    let p = c .before .before .before .args .p in
+    let range = c .before .is-in-range in
+    c .either .ensures ∙ ap (λ (z : Bool). z || range .result) (c .before .before .is-plus-zero .ensures) ∙ ap (λ (b : Bool). isPlusZero p || b) (range .ensures)
+
+pub is-probability-spec : {M : Type 1} → statement M
+is-probability-spec =
+    tie.close (tie.spec is-plus-zero-requires is-in-range-requires either-requires returns)

@@ -1,0 +1,2 @@
+-- Tested: the call by its test.
+pub mod Tested

@@ -1,0 +1,21 @@
+-- `set_probabilities::set_erasure_probability` meets its contract. Assumes nothing.
+use borrow.Author.Needs.{needs}
+use Rattle.set_probabilities.proofs.Tested.{tested}
+use Rattle.set_probabilities.proofs.set_erasure_probability.Statement.{statement}
+use Rattle.set_probabilities.proofs.set_erasure_probability.Tie as tie
+
+is-erasure-probability-requires : tie.Need-is-erasure-probability-requires
+is-erasure-probability-requires c κs = search needs
+
+set-each-requires : tie.Need-set-each-requires
+set-each-requires c κs = search needs
+
+same-length : tie.Need-same-length
+same-length c = search needs
+
+returns : tie.Need-returns
+returns c = tested (c .before .before .before .before .is-erasure-probability .ensures) (c .before .before .set-each .ensures)
+
+pub set-erasure-probability-spec : {M : Type 1} → statement M
+set-erasure-probability-spec =
+    tie.close (tie.spec is-erasure-probability-requires set-each-requires same-length returns)

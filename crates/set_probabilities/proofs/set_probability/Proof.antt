@@ -1,0 +1,21 @@
+-- `set_probabilities::set_probability` meets its contract. Assumes nothing.
+use borrow.Author.Needs.{needs}
+use Rattle.set_probabilities.proofs.Tested.{tested}
+use Rattle.set_probabilities.proofs.set_probability.Statement.{statement}
+use Rattle.set_probabilities.proofs.set_probability.Tie as tie
+
+is-probability-requires : tie.Need-is-probability-requires
+is-probability-requires c κs = search needs
+
+set-each-requires : tie.Need-set-each-requires
+set-each-requires c κs = search needs
+
+same-length : tie.Need-same-length
+same-length c = search needs
+
+returns : tie.Need-returns
+returns c = tested (c .before .before .before .before .is-probability .ensures) (c .before .before .set-each .ensures)
+
+pub set-probability-spec : {M : Type 1} → statement M
+set-probability-spec =
+    tie.close (tie.spec is-probability-requires set-each-requires same-length returns)

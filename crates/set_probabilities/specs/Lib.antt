@@ -1,0 +1,2 @@
+-- Calls: each call's number, answer and column afterwards.
+pub mod Calls

@@ -38,7 +38,7 @@ pub record BuiltCode (kind d rounds : ℕ) : Type 0 where
   pub touched : (v : ℕ) → v < vertexNum kind d rounds → 1 ≤ length (listOf kind d rounds v)
   pub ascending : (v j k : ℕ) → j < k → k < length (listOf kind d rounds v) → getD (listOf kind d rounds v) j 0 < getD (listOf kind d rounds v) k 0
 
--- document 01, "Six builders", question 7 and the verdict 0 of `sanity_check`, for every accepted code
+-- document 01, "Six builders", and question 7, for every accepted code; the verdict 0 of `sanity_check` is claimed in code_verdicts
 abbrev pub CodesAreSound : Type 0
 CodesAreSound = (kind d rounds : ℕ) → Buildable kind d rounds → BuiltCode kind d rounds
 

@@ -1,4 +1,4 @@
--- The limits of document 01's "Records", each named once.
+-- The limits of document 01's "Records".
 use Prim.Native.Nat.{ℕ}
 
 -- vertices and edges of a graph

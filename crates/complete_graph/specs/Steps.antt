@@ -1,4 +1,4 @@
--- What each query answers and leaves in the columns that it writes.
+-- What a table query answers and leaves in the columns that it writes.
 use Prim.Native.Nat.{ℕ}
 use mathlib.Core.Path.{_≡_}
 use mathlib.Core.Bool.{Bool, _&&_}

@@ -19,7 +19,7 @@ fn sum_series(z: f64) -> f64
     h
 }
 
-// The weight of an edge with probability p, for any p. Where question 9 accepts p at most 40 halvings are made.
+// The weight of an edge with probability p that question 9 accepts, by at most 40 halvings. For any other p it ends too, after at most 64.
 pub fn edge_weight(p: f64) -> f64
     ensures { λ r. ⌜ r ≡ edgeWeight p ⌝ }
 {

@@ -59,7 +59,7 @@ fn list_block(bytes: &[u8], at: u32, list: &mut [u32], listed: u32) -> u32
     list_between(bytes, at, at + 8, list, listed)
 }
 
-// Lists the first n numbers whose byte is 1; how many they are.
+// Lists the numbers below n whose byte is 1; how many they are.
 pub fn list_marked(bytes: &[u8], n: u32, list: &mut [u32]) -> u32
     requires { ⌜ (n ≤ length (now bytes)) × (n ≤ length (now list)) × (n ≤ 32768) ⌝ }
     ensures { λ r. ⌜ (r ≡ length (marked n (now (bytes .entry)))) × (now (list .exit) ≡ over (marked n (now (bytes .entry))) (now (list .entry))) ⌝ }

@@ -1,4 +1,4 @@
--- What the functions of this crate promise one another. No call of document 01 cites it.
+-- What the functions of this crate promise one another and their caller. No call of document 01 cites it.
 use Prim.Native.Nat.{ℕ, _*_}
 use mathlib.Core.List.{List}
 use lib.Seq.{sets}

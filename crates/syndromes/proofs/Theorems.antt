@@ -26,6 +26,7 @@ use Rattle.syndromes.specs.Answers.{numberOf, counts}
 use Rattle.syndromes.specs.Errors.{SyndromeLeft}
 use Rattle.sampled_edges.specs.Draws.{drawNumber, isErased, errorProbability, hasError, sampledErasures, sampledErrors}
 use Rattle.syndromes.specs.Sampling.{samplingDoor, GeneratedRandomErrors}
+use Rattle.syndromes.specs.Prefix.{SameBefore, SameMarksBefore}
 use Rattle.syndromes.specs.Syndrome.{hit, endsIn, isDefectOf, syndromeOf}
 use Rattle.flips.proofs.Flipping.{length-flipEach, flipEach-virtual}
 use Rattle.syndromes.proofs.Inner.{flipEach-inner}
@@ -44,11 +45,6 @@ pub accepted-number : {q v e : ℕ} {ds es : List ℕ} {before last : SyndromeCo
 accepted-number {q} {v} {e} {ds} {es} {before} {last} {r} s z = sym (number-is q _ _) ∙ ap numberOf (sym (s .answers)) ∙ z
 
 -- ---- two samplings with one seed
-
--- the edges before number k carry the same p and pe
-pub record SameBefore (k : ℕ) (p₁ pe₁ p₂ pe₂ : List Float) : Type 0 where
-  pub same-p : (j : ℕ) → j < k → getD p₁ j zeroFloat ≡ getD p₂ j zeroFloat
-  pub same-pe : (j : ℕ) → j < k → getD pe₁ j zeroFloat ≡ getD pe₂ j zeroFloat
 
 module _ (g : DeterministicRng) (k : ℕ) (p₁ pe₁ p₂ pe₂ : List Float) (same : SameBefore k p₁ pe₁ p₂ pe₂) where
   erased-same : (j : ℕ) → j < k → isErased g pe₁ j ≡ isErased g pe₂ j
@@ -83,9 +79,7 @@ marks-of seed k g p pe before last r s z h =
     ∙ take-each k (g .edges) (λ j. cond (isErased (seedFromU64 seed) pe j) 1 0) h
 
 -- two samplings with one seed whose edges before number k carry the same p and pe set the same erasure marks before k; the graphs may be any two
-pub same-marks-before : (seed k : ℕ) (g₁ g₂ : CodeGraph) (p₁ pe₁ p₂ pe₂ : List Float) (before₁ last₁ before₂ last₂ : SyndromeColumns) (r₁ r₂ : SyndromeAnswer)
-    → GeneratedRandomErrors seed g₁ p₁ pe₁ before₁ r₁ last₁ → GeneratedRandomErrors seed g₂ p₂ pe₂ before₂ r₂ last₂ → numberOf r₁ ≡ 0 → numberOf r₂ ≡ 0
-    → k ≤ g₁ .edges → k ≤ g₂ .edges → SameBefore k p₁ pe₁ p₂ pe₂ → take k (last₁ .erasure) ≡ take k (last₂ .erasure)
+pub same-marks-before : SameMarksBefore
 same-marks-before seed k g₁ g₂ p₁ pe₁ p₂ pe₂ before₁ last₁ before₂ last₂ r₁ r₂ s₁ s₂ z₁ z₂ h₁ h₂ same =
     marks-of seed k g₁ p₁ pe₁ before₁ last₁ r₁ s₁ z₁ h₁ ∙ marks-before (seedFromU64 seed) k p₁ pe₁ p₂ pe₂ same
     ∙ sym (marks-of seed k g₂ p₂ pe₂ before₂ last₂ r₂ s₂ z₂ h₂)

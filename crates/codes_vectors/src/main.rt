@@ -60,6 +60,40 @@ fn floats(column: &[f64], n: usize) {
     show(h);
 }
 
+// How many vertices and edges a code has, then a digest of each column.
+fn show_code(
+    answer: Created,
+    ends_a: &[u32],
+    ends_b: &[u32],
+    boundary: &[u8],
+    list_lengths: &[u32],
+    neighbor_numbers: &[u32],
+    pos_i: &[f64],
+    pos_j: &[f64],
+    pos_t: &[f64],
+) {
+    match answer {
+        Created::Code(v, e) => {
+            let vertices = v as usize;
+            let edges = e as usize;
+            show(wide(v));
+            show(wide(e));
+            numbers(ends_a, edges);
+            numbers(ends_b, edges);
+            bytes(boundary, vertices);
+            numbers(list_lengths, vertices);
+            numbers(
+                neighbor_numbers,
+                columns::questions::lesser(edges, 19685) * 2,
+            );
+            floats(pos_i, vertices);
+            floats(pos_j, vertices);
+            floats(pos_t, vertices);
+        }
+        Created::Refused(number) => show(wide(number)),
+    }
+}
+
 // A code in columns for every code that fits.
 fn code(kind: u32, d: u32, rounds: u32) {
     let mut ends_a = [0u32; 19685];
@@ -93,26 +127,17 @@ fn code(kind: u32, d: u32, rounds: u32) {
         &mut list_lengths,
         &mut neighbor_numbers,
     );
-    match answer {
-        Created::Code(v, e) => {
-            let vertices = v as usize;
-            let edges = e as usize;
-            show(wide(v));
-            show(wide(e));
-            numbers(&ends_a, edges);
-            numbers(&ends_b, edges);
-            bytes(&boundary, vertices);
-            numbers(&list_lengths, vertices);
-            numbers(
-                &neighbor_numbers,
-                columns::questions::lesser(edges, 19685) * 2,
-            );
-            floats(&pos_i, vertices);
-            floats(&pos_j, vertices);
-            floats(&pos_t, vertices);
-        }
-        Created::Refused(number) => show(wide(number)),
-    }
+    show_code(
+        answer,
+        &ends_a,
+        &ends_b,
+        &boundary,
+        &list_lengths,
+        &neighbor_numbers,
+        &pos_i,
+        &pos_j,
+        &pos_t,
+    );
 }
 
 // Columns with one place too few for the edges.

@@ -1,19 +1,18 @@
 -- `weights::probabilities::is_probability` meets its contract. Assumes nothing.
 use mathlib.Core.Path.{_≡_, ap, _∙_}
 use mathlib.Core.Bool.{Bool, _||_}
-use borrow.Author.Needs.{needs}
 use Rattle.edge_weights.specs.Probabilities.{isPlusZero, isProbability}
 use Rattle.weights.proofs.probabilities.is_probability.Statement.{statement}
 use Rattle.weights.proofs.probabilities.is_probability.Tie as tie
 
 is-plus-zero-requires : tie.Need-is-plus-zero-requires
-is-plus-zero-requires c κs = search needs
+is-plus-zero-requires c κs = tt
 
 both-requires : tie.Need-both-requires
-both-requires c κs = search needs
+both-requires c κs = tt
 
 either-requires : tie.Need-either-requires
-either-requires c κs = search needs
+either-requires c κs = tt
 
 returns : tie.Need-returns
 unfolding isProbability

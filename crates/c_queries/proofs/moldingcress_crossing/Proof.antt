@@ -1,37 +1,36 @@
 -- `c_queries::moldingcress_crossing` meets its contract: it hands on what `crossings` promises. Assumes nothing.
-use borrow.Author.Needs.{needs}
 use Rattle.c_queries.proofs.moldingcress_crossing.Statement.{statement}
 use Rattle.c_queries.proofs.moldingcress_crossing.Tie as tie
 
 crossing-requires : tie.Need-crossing-requires
-crossing-requires c κs = search needs
+crossing-requires c κs = tt
 
 crossing-report-requires : tie.Need-crossing-report-requires
-crossing-report-requires c κs = search needs
+crossing-report-requires c κs = tt
 
 same-length : tie.Need-same-length
-same-length c = search needs
+same-length c = c .before .before .before .before .before .before .before .before .before .before .before .before .before .before .before .out-weight .given
 
 same-length-2 : tie.Need-same-length-2
-same-length-2 c = search needs
+same-length-2 c = c .before .before .before .before .before .before .before .before .before .before .before .before .before .before .numbers .given
 
 same-length-3 : tie.Need-same-length-3
-same-length-3 c = search needs
+same-length-3 c = c .before .before .before .before .before .before .before .before .before .before .before .before .list-ends .given
 
 same-length-4 : tie.Need-same-length-4
-same-length-4 c = search needs
+same-length-4 c = c .before .before .before .before .before .before .before .before .before .before .status .given
 
 same-length-5 : tie.Need-same-length-5
-same-length-5 c = search needs
+same-length-5 c = c .before .before .before .before .before .before .before .before .weight .given
 
 same-length-6 : tie.Need-same-length-6
-same-length-6 c = search needs
+same-length-6 c = c .before .before .before .before .before .before .previous .given
 
 same-length-7 : tie.Need-same-length-7
-same-length-7 c = search needs
+same-length-7 c = c .before .before .before .before .node .given
 
 same-length-8 : tie.Need-same-length-8
-same-length-8 c = search needs
+same-length-8 c = c .before .before .leaf .given
 
 returns : tie.Need-returns
 returns c =

@@ -22,7 +22,7 @@ add-down : tie.Need-add-down
 add-down c = search needs
 
 both-requires : tie.Need-both-requires
-both-requires c κs = search needs
+both-requires c κs = tt
 
 add-x : tie.Need-add-x
 add-x c = search needs

@@ -1,5 +1,4 @@
 -- `cleared_errors::clear_door` meets its contract. Assumes nothing.
-use borrow.Author.Needs.{needs}
 use Rattle.cleared_errors.proofs.clear_door.Statement.{statement}
 use Rattle.cleared_errors.proofs.clear_door.Tie as tie
 use Rattle.cleared_errors.proofs.clear_door.Reads as reads
@@ -11,28 +10,28 @@ use Rattle.columns.proofs.questions.edge_count_sound.Reads as edge-count-sound-
 use Rattle.columns.proofs.questions.vertex_count_sound.Reads as vertex-count-sound-reads
 
 at-most-requires : tie.Need-at-most-requires
-at-most-requires c κs = search needs
+at-most-requires c κs = tt
 
 at-most-requires-2 : tie.Need-at-most-requires-2
-at-most-requires-2 c κs = search needs
+at-most-requires-2 c κs = tt
 
 vertex-count-sound-requires : tie.Need-vertex-count-sound-requires
-vertex-count-sound-requires c κs = search needs
+vertex-count-sound-requires c κs = tt
 
 edge-count-sound-requires : tie.Need-edge-count-sound-requires
-edge-count-sound-requires c κs = search needs
+edge-count-sound-requires c κs = tt
 
 both-requires : tie.Need-both-requires
-both-requires c κs = search needs
+both-requires c κs = tt
 
 both-requires-2 : tie.Need-both-requires-2
-both-requires-2 c κs = search needs
+both-requires-2 c κs = tt
 
 asked-requires : tie.Need-asked-requires
-asked-requires c κs = search needs
+asked-requires c κs = tt
 
 asked-requires-2 : tie.Need-asked-requires-2
-asked-requires-2 c κs = search needs
+asked-requires-2 c κs = tt
 
 returns : tie.Need-returns
 returns c = cc

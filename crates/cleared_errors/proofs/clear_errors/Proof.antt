@@ -12,10 +12,10 @@ use Rattle.stores.proofs.fill_u8.Reads as fill-u8-reads
 use Rattle.cleared_errors.proofs.clear_door.Reads as clear-door-reads
 
 clear-door-requires : tie.Need-clear-door-requires
-clear-door-requires c κs = search needs
+clear-door-requires c κs = tt
 
 done-of-requires : tie.Need-done-of-requires
-done-of-requires c κs = search needs
+done-of-requires c κs = tt
 
 same-length : tie.Need-same-length
 same-length c = search needs
@@ -29,16 +29,16 @@ returns c =
     clear-refused (a .vertex-num) (a .edge-num) (a .defect .now) (a .erasure .now) (c .before .before .clear-door .ensures) (c .before .if1 .taken) (c .done-of .ensures)
 
 fill-u8-requires : tie.Need-fill-u8-requires
-fill-u8-requires c κs = search needs
+fill-u8-requires c κs = tt
 
 fill-u8-requires-2 : tie.Need-fill-u8-requires-2
-fill-u8-requires-2 c κs = search needs
+fill-u8-requires-2 c κs = tt
 
 same-length-3 : tie.Need-same-length-3
-same-length-3 c = search needs
+same-length-3 c = c .before .before .before .before .before .defect .given
 
 same-length-4 : tie.Need-same-length-4
-same-length-4 c = search needs
+same-length-4 c = c .before .erasure .given
 
 returns-2 : tie.Need-returns-2
 returns-2 c =

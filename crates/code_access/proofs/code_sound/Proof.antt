@@ -1,23 +1,22 @@
 -- `code_access::code_sound` meets its contract. Assumes nothing.
 use Rattle.code_access.specs.Calls.{codeSound}
-use borrow.Author.Needs.{needs}
 use Rattle.code_access.proofs.code_sound.Statement.{statement}
 use Rattle.code_access.proofs.code_sound.Tie as tie
 
 graph-sound-requires : tie.Need-graph-sound-requires
-graph-sound-requires c κs = search needs
+graph-sound-requires c κs = tt
 
 half-weights-sound-requires : tie.Need-half-weights-sound-requires
-half-weights-sound-requires c κs = search needs
+half-weights-sound-requires c κs = tt
 
 boundaries-sound-requires : tie.Need-boundaries-sound-requires
-boundaries-sound-requires c κs = search needs
+boundaries-sound-requires c κs = tt
 
 both-requires : tie.Need-both-requires
-both-requires c κs = search needs
+both-requires c κs = tt
 
 both-requires-2 : tie.Need-both-requires-2
-both-requires-2 c κs = search needs
+both-requires-2 c κs = tt
 
 returns : tie.Need-returns
 unfolding codeSound

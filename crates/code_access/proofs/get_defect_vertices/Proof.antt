@@ -1,17 +1,16 @@
 -- `code_access::get_defect_vertices` meets its contract. Assumes nothing.
 use Rattle.code_access.proofs.Doors.{get-tested}
-use borrow.Author.Needs.{needs}
 use Rattle.code_access.proofs.get_defect_vertices.Statement.{statement}
 use Rattle.code_access.proofs.get_defect_vertices.Tie as tie
 
 vertex-count-sound-requires : tie.Need-vertex-count-sound-requires
-vertex-count-sound-requires c κs = search needs
+vertex-count-sound-requires c κs = tt
 
 get-named-requires : tie.Need-get-named-requires
-get-named-requires c κs = search needs
+get-named-requires c κs = tt
 
 same-length : tie.Need-same-length
-same-length c = search needs
+same-length c = c .before .list .given
 
 returns : tie.Need-returns
 returns c = get-tested (c .before .before .before .before .vertex-count-sound .ensures) (c .before .before .get-named .ensures)

@@ -13,13 +13,13 @@ use Rattle.code_access.proofs.get_initializer.Statement.{statement}
 use Rattle.code_access.proofs.get_initializer.Tie as tie
 
 initializer-door-requires : tie.Need-initializer-door-requires
-initializer-door-requires c κs = search needs
+initializer-door-requires c κs = tt
 
 copy-u32-requires : tie.Need-copy-u32-requires
-copy-u32-requires c κs = search needs
+copy-u32-requires c κs = tt
 
 copy-u32-requires-2 : tie.Need-copy-u32-requires-2
-copy-u32-requires-2 c κs = search needs
+copy-u32-requires-2 c κs = tt
 
 store-weights-requires : tie.Need-store-weights-requires
 store-weights-requires c κs =
@@ -42,16 +42,16 @@ list-set-requires c κs =
     (m .boundary, m .to-virtual)
 
 same-length : tie.Need-same-length
-same-length c = search needs
+same-length c = c .before .before .before .before .before .before .before .before .before .before .before .before .before .to-a .given
 
 same-length-2 : tie.Need-same-length-2
-same-length-2 c = search needs
+same-length-2 c = c .before .before .before .before .before .before .before .before .before .to-b .given
 
 same-length-3 : tie.Need-same-length-3
-same-length-3 c = search needs
+same-length-3 c = c .before .before .before .before .before .to-weight .given
 
 same-length-4 : tie.Need-same-length-4
-same-length-4 c = search needs
+same-length-4 c = c .before .to-virtual .given
 
 returns : tie.Need-returns
 returns c =

@@ -7,7 +7,6 @@ use Rattle.marks.specs.Marks.{listed}
 use Rattle.code_access.specs.Calls.{getDoor}
 use Rattle.code_room.proofs.Doors.{answer-zero, answer-no}
 use Rattle.code_access.proofs.Doors.{get-met}
-use borrow.Author.Needs.{needs}
 use Rattle.code_access.proofs.get_named.Statement.{statement}
 use Rattle.code_access.proofs.get_named.Tie as tie
 
@@ -16,25 +15,25 @@ number : (c : tie.After-asked2) → let s = c .before .before .before .before .b
 number c = cc
 
 at-most-requires : tie.Need-at-most-requires
-at-most-requires c κs = search needs
+at-most-requires c κs = tt
 
 at-most-requires-2 : tie.Need-at-most-requires-2
-at-most-requires-2 c κs = search needs
+at-most-requires-2 c κs = tt
 
 marks-sound-requires : tie.Need-marks-sound-requires
-marks-sound-requires c κs = search needs
+marks-sound-requires c κs = tt
 
 both-requires : tie.Need-both-requires
-both-requires c κs = search needs
+both-requires c κs = tt
 
 both-requires-2 : tie.Need-both-requires-2
-both-requires-2 c κs = search needs
+both-requires-2 c κs = tt
 
 asked-requires : tie.Need-asked-requires
-asked-requires c κs = search needs
+asked-requires c κs = tt
 
 asked-requires-2 : tie.Need-asked-requires-2
-asked-requires-2 c κs = search needs
+asked-requires-2 c κs = tt
 
 list-set-requires : tie.Need-list-set-requires
 list-set-requires c κs =
@@ -42,7 +41,7 @@ list-set-requires c κs =
     get-met (s .sound) (s .n) (s .column .now) (s .list .now) (sym (number (c .before .before)) ∙ c .before .if1 .taken)
 
 same-length : tie.Need-same-length
-same-length c = search needs
+same-length c = c .before .list .given
 
 returns : tie.Need-returns
 returns c =

@@ -12,7 +12,7 @@ use Rattle.code_access.proofs.get_syndrome.Statement.{statement}
 use Rattle.code_access.proofs.get_syndrome.Tie as tie
 
 get-syndrome-door-requires : tie.Need-get-syndrome-door-requires
-get-syndrome-door-requires c κs = search needs
+get-syndrome-door-requires c κs = tt
 
 list-set-requires : tie.Need-list-set-requires
 list-set-requires c κs =
@@ -35,10 +35,10 @@ list-set-requires-2 c κs =
     (m .0 .1, m .1 .1)
 
 same-length : tie.Need-same-length
-same-length c = search needs
+same-length c = c .before .before .before .before .before .defect-list .given
 
 same-length-2 : tie.Need-same-length-2
-same-length-2 c = search needs
+same-length-2 c = c .before .erasure-list .given
 
 returns : tie.Need-returns
 returns c =

@@ -1,29 +1,28 @@
 -- `code_access::initializer_long` meets its contract. Assumes nothing.
 use Rattle.code_access.specs.Calls.{initializerLong}
-use borrow.Author.Needs.{needs}
 use Rattle.code_access.proofs.initializer_long.Statement.{statement}
 use Rattle.code_access.proofs.initializer_long.Tie as tie
 
 three-long-requires : tie.Need-three-long-requires
-three-long-requires c κs = search needs
+three-long-requires c κs = tt
 
 three-long-requires-2 : tie.Need-three-long-requires-2
-three-long-requires-2 c κs = search needs
+three-long-requires-2 c κs = tt
 
 at-most-requires : tie.Need-at-most-requires
-at-most-requires c κs = search needs
+at-most-requires c κs = tt
 
 at-most-requires-2 : tie.Need-at-most-requires-2
-at-most-requires-2 c κs = search needs
+at-most-requires-2 c κs = tt
 
 both-requires : tie.Need-both-requires
-both-requires c κs = search needs
+both-requires c κs = tt
 
 both-requires-2 : tie.Need-both-requires-2
-both-requires-2 c κs = search needs
+both-requires-2 c κs = tt
 
 both-requires-3 : tie.Need-both-requires-3
-both-requires-3 c κs = search needs
+both-requires-3 c κs = tt
 
 returns : tie.Need-returns
 unfolding initializerLong

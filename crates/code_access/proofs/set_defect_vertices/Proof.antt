@@ -1,17 +1,16 @@
 -- `code_access::set_defect_vertices` meets its contract. Assumes nothing.
 use Rattle.code_access.proofs.Doors.{set-tested}
-use borrow.Author.Needs.{needs}
 use Rattle.code_access.proofs.set_defect_vertices.Statement.{statement}
 use Rattle.code_access.proofs.set_defect_vertices.Tie as tie
 
 vertex-count-sound-requires : tie.Need-vertex-count-sound-requires
-vertex-count-sound-requires c κs = search needs
+vertex-count-sound-requires c κs = tt
 
 set-named-requires : tie.Need-set-named-requires
-set-named-requires c κs = search needs
+set-named-requires c κs = tt
 
 same-length : tie.Need-same-length
-same-length c = search needs
+same-length c = c .before .defect .given
 
 returns : tie.Need-returns
 returns c = set-tested (c .before .before .before .before .vertex-count-sound .ensures) (c .before .before .set-named .ensures)

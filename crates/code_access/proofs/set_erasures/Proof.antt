@@ -1,17 +1,16 @@
 -- `code_access::set_erasures` meets its contract. Assumes nothing.
 use Rattle.code_access.proofs.Doors.{set-tested}
-use borrow.Author.Needs.{needs}
 use Rattle.code_access.proofs.set_erasures.Statement.{statement}
 use Rattle.code_access.proofs.set_erasures.Tie as tie
 
 edge-count-sound-requires : tie.Need-edge-count-sound-requires
-edge-count-sound-requires c κs = search needs
+edge-count-sound-requires c κs = tt
 
 set-named-requires : tie.Need-set-named-requires
-set-named-requires c κs = search needs
+set-named-requires c κs = tt
 
 same-length : tie.Need-same-length
-same-length c = search needs
+same-length c = c .before .erasure .given
 
 returns : tie.Need-returns
 returns c = set-tested (c .before .before .before .before .edge-count-sound .ensures) (c .before .before .set-named .ensures)

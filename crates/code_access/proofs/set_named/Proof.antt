@@ -5,7 +5,6 @@ use Rattle.columns.proofs.Columns.{after-accepted, after-refused}
 use Rattle.marks.specs.Marks.{marks}
 use Rattle.code_access.specs.Calls.{setDoor}
 use Rattle.code_access.proofs.Doors.{set-met}
-use borrow.Author.Needs.{needs}
 use Rattle.code_access.proofs.set_named.Statement.{statement}
 use Rattle.code_access.proofs.set_named.Tie as tie
 
@@ -14,19 +13,19 @@ number : (c : tie.After-asked3) → let s = c .before .before .before .before .b
 number c = cc
 
 at-most-requires : tie.Need-at-most-requires
-at-most-requires c κs = search needs
+at-most-requires c κs = tt
 
 each-below-requires : tie.Need-each-below-requires
-each-below-requires c κs = search needs
+each-below-requires c κs = tt
 
 asked-requires : tie.Need-asked-requires
-asked-requires c κs = search needs
+asked-requires c κs = tt
 
 asked-requires-2 : tie.Need-asked-requires-2
-asked-requires-2 c κs = search needs
+asked-requires-2 c κs = tt
 
 asked-requires-3 : tie.Need-asked-requires-3
-asked-requires-3 c κs = search needs
+asked-requires-3 c κs = tt
 
 set-marks-requires : tie.Need-set-marks-requires
 set-marks-requires c κs =
@@ -34,7 +33,7 @@ set-marks-requires c κs =
     set-met (s .sound) (s .n) (s .list .now) (s .column .now) (sym (number (c .before .before)) ∙ c .before .if1 .taken)
 
 same-length : tie.Need-same-length
-same-length c = search needs
+same-length c = c .before .column .given
 
 returns : tie.Need-returns
 returns c =
@@ -48,7 +47,7 @@ returns c =
     }
 
 done-of-requires : tie.Need-done-of-requires
-done-of-requires c κs = search needs
+done-of-requires c κs = tt
 
 returns-2 : tie.Need-returns-2
 returns-2 c =

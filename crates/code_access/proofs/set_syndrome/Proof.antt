@@ -10,7 +10,7 @@ use Rattle.code_access.proofs.set_syndrome.Statement.{statement}
 use Rattle.code_access.proofs.set_syndrome.Tie as tie
 
 set-syndrome-door-requires : tie.Need-set-syndrome-door-requires
-set-syndrome-door-requires c κs = search needs
+set-syndrome-door-requires c κs = tt
 
 set-marks-requires : tie.Need-set-marks-requires
 set-marks-requires c κs =
@@ -33,10 +33,10 @@ set-marks-requires-2 c κs =
     (m .0 .1, m .1 .1)
 
 same-length : tie.Need-same-length
-same-length c = search needs
+same-length c = c .before .before .before .before .before .defect .given
 
 same-length-2 : tie.Need-same-length-2
-same-length-2 c = search needs
+same-length-2 c = c .before .erasure .given
 
 returns : tie.Need-returns
 returns c =
@@ -54,7 +54,7 @@ returns c =
     }
 
 done-of-requires : tie.Need-done-of-requires
-done-of-requires c κs = search needs
+done-of-requires c κs = tt
 
 same-length-3 : tie.Need-same-length-3
 same-length-3 c = search needs

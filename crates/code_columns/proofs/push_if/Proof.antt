@@ -6,7 +6,6 @@ use lib.ListN.{length}
 use Rattle.columns.specs.Lists.{when}
 use Rattle.code_columns.specs.Edges.{Ends}
 use Rattle.code_columns.proofs.Wrote.{wrote-as, wrote-none}
-use borrow.Author.Needs.{needs}
 use Rattle.code_columns.proofs.push_if.Statement.{statement}
 use Rattle.code_columns.proofs.push_if.Tie as tie
 
@@ -14,10 +13,10 @@ push-requires : tie.Need-push-requires
 push-requires c κs = omega (arith, c .before .before .before .before .before .pre .room-a, c .before .before .before .before .before .pre .room-b, ap (λ (m : Bool). length (when {A = Ends} m (c .before .before .before .before .before .args .a .0, c .before .before .before .before .before .args .b .0))) (c .before .before .if1 .taken))
 
 same-length : tie.Need-same-length
-same-length c = search needs
+same-length c = c .before .before .before .ends-a .given
 
 same-length-2 : tie.Need-same-length-2
-same-length-2 c = search needs
+same-length-2 c = c .before .ends-b .given
 
 returns : tie.Need-returns
 returns c = wrote-as (ap (λ (m : Bool). when m (c .before .before .before .before .before .before .before .before .before .before .args .a .0, c .before .before .before .before .before .before .before .before .before .before .args .b .0)) (sym (c .before .before .before .before .before .before .before .if1 .taken))) (c .before .before .before .before .push .ensures)

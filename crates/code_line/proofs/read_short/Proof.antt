@@ -72,22 +72,22 @@ add-is-2 : tie.Need-add-is-2
 add-is-2 c = omega arith
 
 is-requires : tie.Need-is-requires
-is-requires c κs = search needs
+is-requires c κs = tt
 
 both-requires : tie.Need-both-requires
-both-requires c κs = search needs
+both-requires c κs = tt
 
 both-requires-2 : tie.Need-both-requires-2
-both-requires-2 c κs = search needs
+both-requires-2 c κs = tt
 
 both-requires-3 : tie.Need-both-requires-3
-both-requires-3 c κs = search needs
+both-requires-3 c κs = tt
 
 both-requires-4 : tie.Need-both-requires-4
-both-requires-4 c κs = search needs
+both-requires-4 c κs = tt
 
 both-requires-5 : tie.Need-both-requires-5
-both-requires-5 c κs = search needs
+both-requires-5 c κs = tt
 
 returns : tie.Need-returns
 returns c = not-formed (c .before .before .before .before .before .before .before .before .before .before .before .before .before .before .before .before .before .args .text .now) (sym (well-is (c .before)) ∙ not-true _ (c .if1 .taken))

@@ -11,7 +11,7 @@ enum-known-made : tie.Need-enum-known-made
 enum-known-made c = search needs
 
 write-refusal-requires : tie.Need-write-refusal-requires
-write-refusal-requires c κs = search needs
+write-refusal-requires c κs = tt
 
 enum-known-made-2 : tie.Need-enum-known-made-2
 enum-known-made-2 c = search needs
@@ -20,13 +20,13 @@ write-built-requires : tie.Need-write-built-requires
 write-built-requires c κs = holds-made (c .before .before .before .before .before .before .before .before .before .args .made) _ _ (c .before .before .before .before .before .before .before .before .before .pre) (let t = c .before .before .made2 .given in let u = c .before .known-told2 .given in cc)
 
 same-length : tie.Need-same-length
-same-length c = search needs
+same-length c = c .before .text .given
 
 returns : tie.Need-returns
 returns c = refused-made _ _ _ _ _ (c .before .before .before .before .before .before .before .before .before .before .before .before .args .made) _ (c .before .before .write-refusal .ensures) (let t = c .before .before .before .before .before .made .given in let u = c .before .before .before .before .known-told .given in cc)
 
 same-length-2 : tie.Need-same-length-2
-same-length-2 c = search needs
+same-length-2 c = c .before .text2 .given
 
 returns-2 : tie.Need-returns-2
 returns-2 c = built-made _ _ _ _ _ (c .before .before .before .before .before .before .before .before .before .before .before .before .args .made) (c .before .before .write-built .ensures) (λ n q. let t = c .before .before .before .before .before .made2 .given in let u = c .before .before .before .before .known-told2 .given in let z : _≡_ {A = ℕ} 0 1 = cc in omega arith)

@@ -10,25 +10,25 @@ use Rattle.code_positions.proofs.get_positions.Statement.{statement}
 use Rattle.code_positions.proofs.get_positions.Tie as tie
 
 positions-door-requires : tie.Need-positions-door-requires
-positions-door-requires c κs = search needs
+positions-door-requires c κs = tt
 
 copy-f64-requires : tie.Need-copy-f64-requires
-copy-f64-requires c κs = search needs
+copy-f64-requires c κs = tt
 
 copy-f64-requires-2 : tie.Need-copy-f64-requires-2
-copy-f64-requires-2 c κs = search needs
+copy-f64-requires-2 c κs = tt
 
 copy-f64-requires-3 : tie.Need-copy-f64-requires-3
-copy-f64-requires-3 c κs = search needs
+copy-f64-requires-3 c κs = tt
 
 same-length : tie.Need-same-length
-same-length c = search needs
+same-length c = c .before .before .before .before .before .before .before .before .before .to-i .given
 
 same-length-2 : tie.Need-same-length-2
-same-length-2 c = search needs
+same-length-2 c = c .before .before .before .before .before .to-j .given
 
 same-length-3 : tie.Need-same-length-3
-same-length-3 c = search needs
+same-length-3 c = c .before .to-t .given
 
 returns : tie.Need-returns
 returns c =
@@ -47,7 +47,7 @@ returns c =
     }
 
 done-of-requires : tie.Need-done-of-requires
-done-of-requires c κs = search needs
+done-of-requires c κs = tt
 
 same-length-4 : tie.Need-same-length-4
 same-length-4 c = search needs

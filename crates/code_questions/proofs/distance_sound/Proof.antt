@@ -4,15 +4,14 @@ use mathlib.Core.Bool.{Bool, _&&_}
 use Prim.Native.Nat.{_%_}
 use lib.Dec.{eqb}
 use Rattle.layers.specs.Accepts.{distanceSound}
-use borrow.Author.Needs.{needs}
 use Rattle.code_questions.proofs.distance_sound.Statement.{statement}
 use Rattle.code_questions.proofs.distance_sound.Tie as tie
 
 both-requires : tie.Need-both-requires
-both-requires c κs = search needs
+both-requires c κs = tt
 
 both-requires-2 : tie.Need-both-requires-2
-both-requires-2 c κs = search needs
+both-requires-2 c κs = tt
 
 returns : tie.Need-returns
 unfolding distanceSound

@@ -3,12 +3,11 @@ use mathlib.Core.Path.{sym, _∙_}
 use native.Mathlib.Omega.{arith}
 use Rattle.layers.proofs.Accepted.{accepted, edges-few}
 use Rattle.code_questions.proofs.Clamped.{refused-count, counted-count}
-use borrow.Author.Needs.{needs}
 use Rattle.code_questions.proofs.edge_num.Statement.{statement}
 use Rattle.code_questions.proofs.edge_num.Tie as tie
 
 code-refusal-requires : tie.Need-code-refusal-requires
-code-refusal-requires c κs = search needs
+code-refusal-requires c κs = tt
 
 returns : tie.Need-returns
 returns c = refused-count _ _ _ (c .before .code-refusal .ensures) (c .if1 .taken)

@@ -1,11 +1,10 @@
 -- `code_questions::kind_known` meets its contract. Assumes nothing.
 use Rattle.layers.specs.Accepts.{kindKnown}
-use borrow.Author.Needs.{needs}
 use Rattle.code_questions.proofs.kind_known.Statement.{statement}
 use Rattle.code_questions.proofs.kind_known.Tie as tie
 
 both-requires : tie.Need-both-requires
-both-requires c κs = search needs
+both-requires c κs = tt
 
 returns : tie.Need-returns
 unfolding kindKnown

@@ -5,7 +5,6 @@ use lib.ListN.{length}
 use Rattle.code_text.specs.Answer.{textOf}
 use Rattle.code_text.proofs.Sizes.{text-few}
 use Rattle.code_text.proofs.Texts.{too-short, long-enough}
-use borrow.Author.Needs.{needs}
 use Rattle.code_text.proofs.codelist.Statement.{statement}
 use Rattle.code_text.proofs.codelist.Tie as tie
 
@@ -13,16 +12,16 @@ returns : tie.Need-returns
 returns c = too-short (c .before .before .before .args .input .now) (c .before .before .before .args .text .now) (c .if1 .taken)
 
 read-line-requires : tie.Need-read-line-requires
-read-line-requires c κs = search needs
+read-line-requires c κs = tt
 
 write-answer-requires : tie.Need-write-answer-requires
-write-answer-requires c κs = search needs
+write-answer-requires c κs = tt
 
 cast-t8 : tie.Need-cast-t8
 cast-t8 c = omega (arith, c .before .before .write-answer .ensures .next, text-few (c .before .before .before .before .read-line .result))
 
 same-length : tie.Need-same-length
-same-length c = search needs
+same-length c = c .before .text .given
 
 returns-2 : tie.Need-returns-2
 returns-2 c = long-enough (c .before .before .before .before .before .before .before .before .args .input .now) (c .before .before .before .before .before .before .before .before .args .text .now) _ (c .before .before .before .before .read-line .result) _ (c .before .before .before .before .before .if1 .left) (c .before .before .before .before .read-line .ensures) (c .before .before .write-answer .ensures)

@@ -8,19 +8,19 @@ enum-told : tie.Need-enum-told
 enum-told c = search needs
 
 write-refusal-requires : tie.Need-write-refusal-requires
-write-refusal-requires c κs = search needs
+write-refusal-requires c κs = tt
 
 enum-known-line : tie.Need-enum-known-line
 enum-known-line c = search needs
 
 of-bits-requires : tie.Need-of-bits-requires
-of-bits-requires c κs = search needs
+of-bits-requires c κs = tt
 
 write-code-requires : tie.Need-write-code-requires
-write-code-requires c κs = search needs
+write-code-requires c κs = tt
 
 same-length : tie.Need-same-length
-same-length c = search needs
+same-length c = c .before .text .given
 
 returns : tie.Need-returns
 returns c =
@@ -28,7 +28,7 @@ returns c =
     damaged-line (s .line) (c .before .before .write-refusal .ensures) (let t = c .before .before .before .before .enum-told .given in cc)
 
 same-length-2 : tie.Need-same-length-2
-same-length-2 c = search needs
+same-length-2 c = c .before .text2 .given
 
 returns-2 : tie.Need-returns-2
 returns-2 c =

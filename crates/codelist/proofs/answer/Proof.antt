@@ -8,7 +8,7 @@ use Rattle.codelist.proofs.answer.Statement.{statement}
 use Rattle.codelist.proofs.answer.Tie as tie
 
 codelist-requires : tie.Need-codelist-requires
-codelist-requires c κs = search needs
+codelist-requires c κs = tt
 
 enum-known-listed : tie.Need-enum-known-listed
 enum-known-listed c = search needs
@@ -22,13 +22,13 @@ enum-known-listed-2 : tie.Need-enum-known-listed-2
 enum-known-listed-2 c = search needs
 
 same-length : tie.Need-same-length
-same-length c = search needs
+same-length c = c .before .before .before .before .before .before .text .given
 
 returns : tie.Need-returns
 returns c = search needs
 
 same-length-2 : tie.Need-same-length-2
-same-length-2 c = search needs
+same-length-2 c = c .before .before .before .before .text .given
 
 returns-2 : tie.Need-returns-2
 returns-2 c =

@@ -1,12 +1,11 @@
 -- `codelist::print` meets its contract. Assumes nothing.
 use mathlib.Core.Path.{ap}
 use lib.ListN.{length}
-use borrow.Author.Needs.{needs}
 use Rattle.codelist.proofs.print.Statement.{statement}
 use Rattle.codelist.proofs.print.Tie as tie
 
 write-all-requires : tie.Need-write-all-requires
-write-all-requires c κs = search needs
+write-all-requires c κs = tt
 
 returns : tie.Need-returns
 returns c = ap length (c .before .before .before .pre)

@@ -2,7 +2,6 @@
 use Prim.Native.Nat.{_-_, _≤_}
 use native.Mathlib.Omega.{arith}
 use lib.ListN.{length}
-use borrow.Author.Needs.{needs}
 use Rattle.codelist_cases.proofs.find.Statement.{statement}
 use Rattle.codelist_cases.proofs.find.Tie as tie
 

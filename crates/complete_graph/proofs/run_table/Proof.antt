@@ -18,12 +18,11 @@ use Rattle.relaxing.proofs.Keys.{ready-as}
 use Rattle.searches.specs.Search.{Waiting}
 use Rattle.searches.proofs.Listing.{searchable-as, waiting-as}
 use Rattle.searches.proofs.Sources.{sources-only, waiting-one}
-use borrow.Author.Needs.{needs}
 use Rattle.complete_graph.proofs.run_table.Statement.{statement}
 use Rattle.complete_graph.proofs.run_table.Tie as tie
 
 begin-at-requires : tie.Need-begin-at-requires
-begin-at-requires c κs = search needs
+begin-at-requires c κs = tt
 
 search-requires : tie.Need-search-requires
 search-requires c κs =
@@ -46,31 +45,31 @@ write-previous-requires c κs =
     (r .previous-fits ∙ sym (r .status-fits), omega (arith, r .status-fits, s .pre .1 .3))
 
 same-length : tie.Need-same-length
-same-length c = search needs
+same-length c = c .before .before .before .before .before .before .before .before .before .before .before .before .before .before .before .before .before .before .before .before .before .before .before .before .numbers .given
 
 same-length-2 : tie.Need-same-length-2
-same-length-2 c = search needs
+same-length-2 c = c .before .before .before .before .before .before .before .before .before .before .before .before .before .before .before .before .before .before .before .before .before .before .list-ends .given
 
 same-length-3 : tie.Need-same-length-3
 same-length-3 c = c .before .before .before .before .before .before .before .before .before .before .before .before .before .before .before .before .before .before .before .before .before .before .before .before .before .search .kept .1 .1 .1 .1 .1 .0 ∙ c .before .before .before .before .before .before .before .before .before .before .before .before .before .before .before .before .before .before .before .before .before .before .before .before .before .before .before .before .before .before .before .before .before .before .before .begin-at .kept .0
 
 same-length-4 : tie.Need-same-length-4
-same-length-4 c = search needs
+same-length-4 c = c .before .before .before .before .before .before .before .before .before .before .before .before .before .before .before .before .before .before .weight .given
 
 same-length-5 : tie.Need-same-length-5
-same-length-5 c = search needs
+same-length-5 c = c .before .before .before .before .before .before .before .before .before .before .before .before .before .before .before .before .previous .given
 
 same-length-6 : tie.Need-same-length-6
-same-length-6 c = search needs
+same-length-6 c = c .before .before .before .before .before .before .before .before .before .before .before .before .before .before .node .given
 
 same-length-7 : tie.Need-same-length-7
-same-length-7 c = search needs
+same-length-7 c = c .before .before .before .before .before .before .before .before .before .before .before .before .leaf .given
 
 same-length-8 : tie.Need-same-length-8
-same-length-8 c = search needs
+same-length-8 c = c .before .before .before .before .before .before .out-weight .given
 
 same-length-9 : tie.Need-same-length-9
-same-length-9 c = search needs
+same-length-9 c = c .before .out-previous .given
 
 returns : tie.Need-returns
 unfolding table

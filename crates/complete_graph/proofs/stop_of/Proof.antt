@@ -24,7 +24,7 @@ enum-known-end : tie.Need-enum-known-end
 enum-known-end c = search needs
 
 named-stop-requires : tie.Need-named-stop-requires
-named-stop-requires c κs = search needs
+named-stop-requires c κs = tt
 
 returns : tie.Need-returns
 returns c = search needs

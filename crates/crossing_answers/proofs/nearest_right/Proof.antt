@@ -39,7 +39,7 @@ shared-slice-read-nearer-3 : tie.Need-shared-slice-read-nearer-3 Inv-loop μ-loo
 shared-slice-read-nearer-3 c = omega (arith, c .before .before .before .before .before .before .before .before .pre .0)
 
 nearer-requires : tie.Need-nearer-requires Inv-loop μ-loop
-nearer-requires c κs = search needs
+nearer-requires c κs = tt
 
 add-v : tie.Need-add-v Inv-loop μ-loop
 add-v c = search needs

@@ -51,10 +51,10 @@ cast-e : tie.Need-cast-e
 cast-e c = search needs
 
 scratch-long-requires : tie.Need-scratch-long-requires
-scratch-long-requires c κs = search needs
+scratch-long-requires c κs = tt
 
 crossing-door-requires : tie.Need-crossing-door-requires
-crossing-door-requires c κs = search needs
+crossing-door-requires c κs = tt
 
 slice-aggregate-run-crossing : tie.Need-slice-aggregate-run-crossing
 unfolding number-at engine-of scratch-at
@@ -153,16 +153,16 @@ run-crossing-requires c κs = let t : tie.Then1 = c .before .before .before .bef
     )
 
 reply-requires : tie.Need-reply-requires
-reply-requires c κs = search needs
+reply-requires c κs = tt
 
 same-length : tie.Need-same-length
-same-length c = search needs
+same-length c = c .before .out-weight .given
 
 same-length-2 : tie.Need-same-length-2
-same-length-2 c = search needs
+same-length-2 c = c .before .before .before .before .before .before .before .before .before .before .before .before .before .before .before .numbers .given
 
 same-length-3 : tie.Need-same-length-3
-same-length-3 c = search needs
+same-length-3 c = c .before .before .before .before .before .before .before .before .before .before .before .before .before .list-ends .given
 
 same-length-4 : tie.Need-same-length-4
 same-length-4 c = search needs
@@ -174,7 +174,7 @@ same-length-6 : tie.Need-same-length-6
 same-length-6 c = search needs
 
 same-length-7 : tie.Need-same-length-7
-same-length-7 c = search needs
+same-length-7 c = c .before .before .before .before .before .node .given
 
 same-length-8 : tie.Need-same-length-8
 same-length-8 c = search needs

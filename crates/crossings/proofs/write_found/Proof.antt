@@ -19,7 +19,7 @@ write-weights-requires : tie.Need-write-weights-requires
 write-weights-requires c κs = search needs
 
 same-length : tie.Need-same-length
-same-length c = search needs
+same-length c = c .out .given
 
 returns-2 : tie.Need-returns-2
 returns-2 c = let s = c .before .before .before .before .before .before in λ p. c .before .write-weights .ensures p ∙ sym (ap (λ b. cond b (s .args .out .now) (sets (s .args .out .now) 0 (each (length (s .args .status .now)) (tableWeight (stateOf (s .args .status .now) (s .args .weight .now) p))))) (ne-eqb (s .args .found) 2147483648 (c .before .before .before .if1 .left)))

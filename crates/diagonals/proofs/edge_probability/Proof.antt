@@ -1,16 +1,15 @@
 -- `diagonals::edge_probability` meets its contract. Assumes nothing.
 use mathlib.Core.Path.{ap, _∙_}
 use mathlib.Core.Bool.{Bool}
-use borrow.Author.Needs.{needs}
 use Rattle.diagonals.specs.Diagonal.{replaced}
 use Rattle.diagonals.proofs.edge_probability.Statement.{statement}
 use Rattle.diagonals.proofs.edge_probability.Tie as tie
 
 is-diagonal-requires : tie.Need-is-diagonal-requires
-is-diagonal-requires c κs = search needs
+is-diagonal-requires c κs = tt
 
 replaced-probability-requires : tie.Need-replaced-probability-requires
-replaced-probability-requires c κs = search needs
+replaced-probability-requires c κs = tt
 
 returns : tie.Need-returns
 returns c =

@@ -1,13 +1,12 @@
 -- `diagonals::is_diagonal` meets its contract. Assumes nothing.
 use mathlib.Core.Path.{ap}
 use lib.Ieee.{Float, lt}
-use borrow.Author.Needs.{needs}
 use Rattle.edge_weights.specs.Constants.{one}
 use Rattle.diagonals.proofs.is_diagonal.Statement.{statement}
 use Rattle.diagonals.proofs.is_diagonal.Tie as tie
 
 manhattan-distance-requires : tie.Need-manhattan-distance-requires
-manhattan-distance-requires c κs = search needs
+manhattan-distance-requires c κs = tt
 
 returns : tie.Need-returns
 returns c = ap (λ (x : Float). lt one x) (c .manhattan-distance .ensures)

@@ -10,7 +10,7 @@ enum-known-d : tie.Need-enum-known-d
 enum-known-d c = search needs
 
 is-probability-requires : tie.Need-is-probability-requires
-is-probability-requires c κs = search needs
+is-probability-requires c κs = tt
 
 returns : tie.Need-returns
 returns c = search needs

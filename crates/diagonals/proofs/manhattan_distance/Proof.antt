@@ -1,17 +1,16 @@
 -- `diagonals::manhattan_distance` meets its contract. Assumes nothing.
 use Rattle.diagonals.specs.Diagonal.{manhattanDistance}
-use borrow.Author.Needs.{needs}
 use Rattle.diagonals.proofs.manhattan_distance.Statement.{statement}
 use Rattle.diagonals.proofs.manhattan_distance.Tie as tie
 
 abs-requires : tie.Need-abs-requires
-abs-requires c κs = search needs
+abs-requires c κs = tt
 
 abs-requires-2 : tie.Need-abs-requires-2
-abs-requires-2 c κs = search needs
+abs-requires-2 c κs = tt
 
 abs-requires-3 : tie.Need-abs-requires-3
-abs-requires-3 c κs = search needs
+abs-requires-3 c κs = tt
 
 returns : tie.Need-returns
 unfolding manhattanDistance

@@ -12,7 +12,7 @@ use Rattle.edge_modifier.proofs.load_dynamic_weights.Statement.{stateme
 use Rattle.edge_modifier.proofs.load_dynamic_weights.Tie as tie
 
 weights-door-requires : tie.Need-weights-door-requires
-weights-door-requires c κs = search needs
+weights-door-requires c κs = tt
 
 weigh-all-requires : tie.Need-weigh-all-requires
 weigh-all-requires c κs =
@@ -26,13 +26,13 @@ weigh-all-requires c κs =
     )
 
 same-length : tie.Need-same-length
-same-length c = search needs
+same-length c = c .before .before .before .before .before .weights .given
 
 same-length-2 : tie.Need-same-length-2
-same-length-2 c = search needs
+same-length-2 c = c .before .before .before .log-edges .given
 
 same-length-3 : tie.Need-same-length-3
-same-length-3 c = search needs
+same-length-3 c = c .before .log-weights .given
 
 returns : tie.Need-returns
 returns c =

@@ -12,7 +12,7 @@ use Rattle.edge_modifier.proofs.load_erasures.Statement.{statement}
 use Rattle.edge_modifier.proofs.load_erasures.Tie as tie
 
 erasures-door-requires : tie.Need-erasures-door-requires
-erasures-door-requires c κs = search needs
+erasures-door-requires c κs = tt
 
 erase-all-requires : tie.Need-erase-all-requires
 erase-all-requires c κs =
@@ -25,13 +25,13 @@ erase-all-requires c κs =
     )
 
 same-length : tie.Need-same-length
-same-length c = search needs
+same-length c = c .before .before .before .before .before .weights .given
 
 same-length-2 : tie.Need-same-length-2
-same-length-2 c = search needs
+same-length-2 c = c .before .before .before .log-edges .given
 
 same-length-3 : tie.Need-same-length-3
-same-length-3 c = search needs
+same-length-3 c = c .before .log-weights .given
 
 returns : tie.Need-returns
 returns c =

@@ -11,31 +11,31 @@ use Rattle.edge_modifier.proofs.open.Statement.{statement}
 use Rattle.edge_modifier.proofs.open.Tie as tie
 
 open-door-requires : tie.Need-open-door-requires
-open-door-requires c κs = search needs
+open-door-requires c κs = tt
 
 copy-u32-requires : tie.Need-copy-u32-requires
-copy-u32-requires c κs = search needs
+copy-u32-requires c κs = tt
 
 copy-u32-requires-2 : tie.Need-copy-u32-requires-2
-copy-u32-requires-2 c κs = search needs
+copy-u32-requires-2 c κs = tt
 
 copy-u32-requires-3 : tie.Need-copy-u32-requires-3
-copy-u32-requires-3 c κs = search needs
+copy-u32-requires-3 c κs = tt
 
 copy-u8-requires : tie.Need-copy-u8-requires
-copy-u8-requires c κs = search needs
+copy-u8-requires c κs = tt
 
 same-length : tie.Need-same-length
-same-length c = search needs
+same-length c = c .before .before .before .before .before .before .before .before .before .before .before .before .before .ends-a .given
 
 same-length-2 : tie.Need-same-length-2
-same-length-2 c = search needs
+same-length-2 c = c .before .before .before .before .before .before .before .before .before .ends-b .given
 
 same-length-3 : tie.Need-same-length-3
-same-length-3 c = search needs
+same-length-3 c = c .before .before .before .before .before .weights .given
 
 same-length-4 : tie.Need-same-length-4
-same-length-4 c = search needs
+same-length-4 c = c .before .boundary .given
 
 returns : tie.Need-returns
 returns c =

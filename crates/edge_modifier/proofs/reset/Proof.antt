@@ -11,7 +11,7 @@ use Rattle.edge_modifier.proofs.reset.Statement.{statement}
 use Rattle.edge_modifier.proofs.reset.Tie as tie
 
 reset-door-requires : tie.Need-reset-door-requires
-reset-door-requires c κs = search needs
+reset-door-requires c κs = tt
 
 undo-all-requires : tie.Need-undo-all-requires
 undo-all-requires c κs =
@@ -24,7 +24,7 @@ undo-all-requires c κs =
     )
 
 same-length : tie.Need-same-length
-same-length c = search needs
+same-length c = c .before .weights .given
 
 returns : tie.Need-returns
 returns c =

@@ -1,29 +1,28 @@
 -- `engine_columns::columns_long` meets its contract. Assumes nothing.
 use Rattle.engine_columns.specs.Door.{columnsLong}
-use borrow.Author.Needs.{needs}
 use Rattle.engine_columns.proofs.columns_long.Statement.{statement}
 use Rattle.engine_columns.proofs.columns_long.Tie as tie
 
 at-most-requires : tie.Need-at-most-requires
-at-most-requires c κs = search needs
+at-most-requires c κs = tt
 
 at-most-requires-2 : tie.Need-at-most-requires-2
-at-most-requires-2 c κs = search needs
+at-most-requires-2 c κs = tt
 
 at-most-requires-3 : tie.Need-at-most-requires-3
-at-most-requires-3 c κs = search needs
+at-most-requires-3 c κs = tt
 
 at-most-requires-4 : tie.Need-at-most-requires-4
-at-most-requires-4 c κs = search needs
+at-most-requires-4 c κs = tt
 
 both-requires : tie.Need-both-requires
-both-requires c κs = search needs
+both-requires c κs = tt
 
 both-requires-2 : tie.Need-both-requires-2
-both-requires-2 c κs = search needs
+both-requires-2 c κs = tt
 
 both-requires-3 : tie.Need-both-requires-3
-both-requires-3 c κs = search needs
+both-requires-3 c κs = tt
 
 returns : tie.Need-returns
 unfolding columnsLong

@@ -1,23 +1,22 @@
 -- `engine_columns::columns_sound` meets its contract. Assumes nothing.
 use Rattle.engine_columns.specs.Door.{columnsSound}
-use borrow.Author.Needs.{needs}
 use Rattle.engine_columns.proofs.columns_sound.Statement.{statement}
 use Rattle.engine_columns.proofs.columns_sound.Tie as tie
 
 graph-sound-requires : tie.Need-graph-sound-requires
-graph-sound-requires c κs = search needs
+graph-sound-requires c κs = tt
 
 weights-sound-requires : tie.Need-weights-sound-requires
-weights-sound-requires c κs = search needs
+weights-sound-requires c κs = tt
 
 boundaries-sound-requires : tie.Need-boundaries-sound-requires
-boundaries-sound-requires c κs = search needs
+boundaries-sound-requires c κs = tt
 
 both-requires : tie.Need-both-requires
-both-requires c κs = search needs
+both-requires c κs = tt
 
 both-requires-2 : tie.Need-both-requires-2
-both-requires-2 c κs = search needs
+both-requires-2 c κs = tt
 
 returns : tie.Need-returns
 unfolding columnsSound

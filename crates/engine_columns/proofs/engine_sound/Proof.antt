@@ -1,17 +1,16 @@
 -- `engine_columns::engine_sound` meets its contract. Assumes nothing.
 use Rattle.engine_columns.specs.Door.{sound}
-use borrow.Author.Needs.{needs}
 use Rattle.engine_columns.proofs.engine_sound.Statement.{statement}
 use Rattle.engine_columns.proofs.engine_sound.Tie as tie
 
 columns-sound-requires : tie.Need-columns-sound-requires
-columns-sound-requires c κs = search needs
+columns-sound-requires c κs = tt
 
 log-sound-requires : tie.Need-log-sound-requires
-log-sound-requires c κs = search needs
+log-sound-requires c κs = tt
 
 both-requires : tie.Need-both-requires
-both-requires c κs = search needs
+both-requires c κs = tt
 
 returns : tie.Need-returns
 unfolding sound

@@ -1,23 +1,22 @@
 -- `engine_columns::long_enough` meets its contract. Assumes nothing.
 use Rattle.engine_columns.specs.Door.{longEnough}
-use borrow.Author.Needs.{needs}
 use Rattle.engine_columns.proofs.long_enough.Statement.{statement}
 use Rattle.engine_columns.proofs.long_enough.Tie as tie
 
 columns-long-requires : tie.Need-columns-long-requires
-columns-long-requires c κs = search needs
+columns-long-requires c κs = tt
 
 has-room-requires : tie.Need-has-room-requires
-has-room-requires c κs = search needs
+has-room-requires c κs = tt
 
 has-room-requires-2 : tie.Need-has-room-requires-2
-has-room-requires-2 c κs = search needs
+has-room-requires-2 c κs = tt
 
 both-requires : tie.Need-both-requires
-both-requires c κs = search needs
+both-requires c κs = tt
 
 both-requires-2 : tie.Need-both-requires-2
-both-requires-2 c κs = search needs
+both-requires-2 c κs = tt
 
 returns : tie.Need-returns
 unfolding longEnough

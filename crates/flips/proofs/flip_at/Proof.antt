@@ -20,7 +20,7 @@ slice-read-flip : tie.Need-slice-read-flip
 slice-read-flip c = search needs
 
 flip-requires : tie.Need-flip-requires
-flip-requires c κs = search needs
+flip-requires c κs = tt
 
 slice-write-defect : tie.Need-slice-write-defect
 slice-write-defect c = search needs

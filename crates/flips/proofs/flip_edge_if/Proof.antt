@@ -14,7 +14,7 @@ flip-edge-requires : tie.Need-flip-edge-requires
 flip-edge-requires c κs = search needs
 
 same-length : tie.Need-same-length
-same-length c = search needs
+same-length c = c .before .defect .given
 
 returns : tie.Need-returns
 unfolding flipEach

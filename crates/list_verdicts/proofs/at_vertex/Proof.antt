@@ -14,7 +14,7 @@ twice-in-requires : tie.Need-twice-in-requires
 twice-in-requires c κs = search needs
 
 same-length : tie.Need-same-length
-same-length c = search needs
+same-length c = c .before .mark .given
 
 returns-2 : tie.Need-returns-2
 returns-2 c =

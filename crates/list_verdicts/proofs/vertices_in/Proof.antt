@@ -47,7 +47,7 @@ shared-slice-read-wide : tie.Need-shared-slice-read-wide Inv-loop μ-loop
 shared-slice-read-wide c = omega (arith, c .before .before .before .before .before .before .pre .0 .0)
 
 wide-requires : tie.Need-wide-requires Inv-loop μ-loop
-wide-requires c κs = search needs
+wide-requires c κs = tt
 
 at-vertex-requires : tie.Need-at-vertex-requires Inv-loop μ-loop
 at-vertex-requires c κs =
@@ -56,7 +56,7 @@ at-vertex-requires c κs =
     ((room (s .args .lengths .now) (s .args .numbers .now) (s .args .n) (l .v) (omega arith) (s .pre .0 .0) (s .pre .0 .1) (l .inv .2) (c .before .wide .ensures), omega arith), l .inv .1)
 
 is-sound-requires : tie.Need-is-sound-requires Inv-loop μ-loop
-is-sound-requires c κs = search needs
+is-sound-requires c κs = tt
 
 same-length : tie.Need-same-length Inv-loop μ-loop
 same-length c = c .before .before .before .before .at-vertex .ensures .1 .len ∙ sym (c .before .before .before .before .before .before .before .before .before .before .before .before .before .pre .1 .len)

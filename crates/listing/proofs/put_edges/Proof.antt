@@ -4,7 +4,6 @@ use mathlib.Core.List.{List, [], _∷_, _++_}
 use Prim.Native.Nat.{ℕ, _+_, _-_, _*_, _≤_, _<_}
 use native.Mathlib.Omega.{arith}
 use lib.ListN.{length, getD}
-use borrow.Author.Needs.{needs}
 use Rattle.columns.specs.Lists.{joined}
 use Rattle.listing.specs.Text.{decimal, ended, vertexLine, edgeLine, vertexLines, edgeLines}
 use Rattle.listing.specs.Steps.{Put}

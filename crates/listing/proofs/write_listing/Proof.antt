@@ -10,7 +10,7 @@ use Rattle.listing.proofs.write_listing.Statement.{statement}
 use Rattle.listing.proofs.write_listing.Tie as tie
 
 put-graph-requires : tie.Need-put-graph-requires
-put-graph-requires c κs = search needs
+put-graph-requires c κs = tt
 
 put-vertices-requires : tie.Need-put-vertices-requires
 put-vertices-requires c κs = (omega (arith, c .before .before .before .put-graph .ensures .next, ended-few (c .before .before .before .before .before .before .before .before .before .before .args .kind ∷ c .before .before .before .before .before .before .before .before .before .before .args .d ∷ c .before .before .before .before .before .before .before .before .before .before .args .rounds ∷ c .before .before .before .before .before .before .before .before .before .before .args .vertices ∷ c .before .before .before .before .before .before .before .before .before .before .args .edges ∷ [])), c .before .before .before .before .before .before .before .before .before .before .pre .0 .0, c .before .before .before .before .before .before .before .before .before .before .pre .0 .1)

@@ -28,7 +28,7 @@ shared-slice-read-is-set : tie.Need-shared-slice-read-is-set Inv-loop μ-loop
 shared-slice-read-is-set c = omega arith
 
 is-set-requires : tie.Need-is-set-requires Inv-loop μ-loop
-is-set-requires c κs = search needs
+is-set-requires c κs = tt
 
 push-if-requires : tie.Need-push-if-requires Inv-loop μ-loop
 push-if-requires c κs =

@@ -17,7 +17,7 @@ abbrev μ-loop : tie.MeasureT-loop
 μ-loop column₀ n list i₀ column i = length list - i
 
 fill-u8-requires : tie.Need-fill-u8-requires Inv-loop μ-loop
-fill-u8-requires c κs = search needs
+fill-u8-requires c κs = tt
 
 loop-holds : tie.Need-loop-holds Inv-loop μ-loop
 loop-holds c =

@@ -14,34 +14,34 @@ use Rattle.stores.proofs.copy_f64.Reads as copy-f64-reads
 use Rattle.moved_columns.proofs.gather_positions.Reads as gather-positions-reads
 
 copy-f64-requires : tie.Need-copy-f64-requires
-copy-f64-requires c κs = search needs
+copy-f64-requires c κs = tt
 
 copy-f64-requires-2 : tie.Need-copy-f64-requires-2
-copy-f64-requires-2 c κs = search needs
+copy-f64-requires-2 c κs = tt
 
 copy-f64-requires-3 : tie.Need-copy-f64-requires-3
-copy-f64-requires-3 c κs = search needs
+copy-f64-requires-3 c κs = tt
 
 gather-positions-requires : tie.Need-gather-positions-requires
 gather-positions-requires c κs = search needs
 
 same-length : tie.Need-same-length
-same-length c = search needs
+same-length c = c .before .before .before .before .before .is .given
 
 same-length-2 : tie.Need-same-length-2
-same-length-2 c = search needs
+same-length-2 c = c .before .before .before .js .given
 
 same-length-3 : tie.Need-same-length-3
-same-length-3 c = search needs
+same-length-3 c = c .before .ts .given
 
 same-length-4 : tie.Need-same-length-4
-same-length-4 c = search needs
+same-length-4 c = c .before .before .before .before .before .before .before .before .before .before .before .before .before .before .before .before .before .before .before .before .before .before .before .before .copy-i .given
 
 same-length-5 : tie.Need-same-length-5
-same-length-5 c = search needs
+same-length-5 c = c .before .before .before .before .before .before .before .before .before .before .before .before .before .before .before .before .before .before .before .copy-j .given
 
 same-length-6 : tie.Need-same-length-6
-same-length-6 c = search needs
+same-length-6 c = c .before .before .before .before .before .before .before .before .before .before .before .before .before .before .copy-t .given
 
 returns : tie.Need-returns
 returns c =

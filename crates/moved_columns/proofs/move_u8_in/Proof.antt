@@ -7,7 +7,6 @@ use lib.ListN.{length, getD}
 use Rattle.columns.specs.Lists.{over}
 use Rattle.orders.proofs.Permutation.{order-below}
 use Rattle.moved_columns.proofs.Copies.{length-copied, moved-copy}
-use borrow.Author.Needs.{needs}
 use Rattle.moved_columns.proofs.move_u8_in.Statement.{statement}
 use Rattle.moved_columns.proofs.move_u8_in.Tie as tie
 use Rattle.moved_columns.proofs.move_u8_in.Reads as reads
@@ -16,7 +15,7 @@ use Rattle.stores.proofs.copy_u8.Reads as copy-u8-reads
 use Rattle.moved_columns.proofs.gather_u8.Reads as gather-u8-reads
 
 copy-u8-requires : tie.Need-copy-u8-requires
-copy-u8-requires c κs = search needs
+copy-u8-requires c κs = tt
 
 gather-u8-requires : tie.Need-gather-u8-requires
 gather-u8-requires c κs =
@@ -26,10 +25,10 @@ gather-u8-requires c κs =
     ((λ i h. omega (arith, l, s .pre .2, order-below (a .order .now) (s .pre .0) i h)), s .pre .1)
 
 same-length : tie.Need-same-length
-same-length c = search needs
+same-length c = c .before .column .given
 
 same-length-2 : tie.Need-same-length-2
-same-length-2 c = search needs
+same-length-2 c = c .before .before .before .before .before .before .copy .given
 
 returns : tie.Need-returns
 returns c =

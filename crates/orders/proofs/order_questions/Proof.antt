@@ -8,7 +8,6 @@ use Rattle.columns.specs.Questions.{ask}
 use Rattle.orders.specs.Order.{noneTwice}
 use Rattle.columns.proofs.Doors.{asks}
 use Rattle.orders.proofs.Asking.{stops, passes}
-use borrow.Author.Needs.{needs}
 use Rattle.orders.proofs.order_questions.Statement.{statement}
 use Rattle.orders.proofs.order_questions.Tie as tie
 use Rattle.orders.proofs.order_questions.Reads as reads
@@ -25,7 +24,7 @@ none-twice-requires c κs =
     λ i h. omega (arith, s .pre .0, below-at (length (s .args .order .now)) (s .args .order .now) (s .pre .1 (not-false _ (c .if1 .left))) i h)
 
 asked-requires : tie.Need-asked-requires
-asked-requires c κs = search needs
+asked-requires c κs = tt
 
 returns-2 : tie.Need-returns-2
 returns-2 c =

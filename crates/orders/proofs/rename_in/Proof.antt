@@ -34,13 +34,13 @@ rename-by-requires-2 c κs =
     ((λ i h. omega (arith, l, s .pre .1 .1 i h, s .pre .0 .1)), s .pre .0 .3)
 
 same-length : tie.Need-same-length
-same-length c = search needs
+same-length c = c .before .before .before .before .before .before .ends-a .given
 
 same-length-2 : tie.Need-same-length-2
-same-length-2 c = search needs
+same-length-2 c = c .before .ends-b .given
 
 same-length-3 : tie.Need-same-length-3
-same-length-3 c = search needs
+same-length-3 c = c .before .before .before .before .before .before .before .before .before .before .before .new-numbers .given
 
 returns : tie.Need-returns
 returns c =

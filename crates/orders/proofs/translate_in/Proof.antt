@@ -27,10 +27,10 @@ gather-u32-requires c κs =
     ((λ i h. omega (arith, l, s .pre .1 i h, s .pre .0 .1)), s .pre .0 .2)
 
 same-length : tie.Need-same-length
-same-length c = search needs
+same-length c = c .before .column .given
 
 same-length-2 : tie.Need-same-length-2
-same-length-2 c = search needs
+same-length-2 c = c .before .before .before .before .before .before .new-numbers .given
 
 returns : tie.Need-returns
 returns c =

@@ -14,7 +14,7 @@ returns : tie.Need-returns
 returns c = search needs
 
 all-below-requires : tie.Need-all-below-requires
-all-below-requires c κs = search needs
+all-below-requires c κs = tt
 
 duplicates-one-by-one-requires-2 : tie.Need-duplicates-one-by-one-requires-2
 duplicates-one-by-one-requires-2 c κs = search needs

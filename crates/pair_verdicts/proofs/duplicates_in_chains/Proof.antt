@@ -47,7 +47,7 @@ low-at-requires : tie.Need-low-at-requires Inv-loop μ-loop
 low-at-requires c κs = search needs
 
 wide-requires : tie.Need-wide-requires Inv-loop μ-loop
-wide-requires c κs = search needs
+wide-requires c κs = tt
 
 mul-h : tie.Need-mul-h Inv-loop μ-loop
 mul-h c = omega (arith, v-below c)

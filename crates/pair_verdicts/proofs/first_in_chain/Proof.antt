@@ -21,7 +21,7 @@ high-at-requires : tie.Need-high-at-requires Inv-loop μ-loop
 high-at-requires c κs = search needs
 
 wide-requires : tie.Need-wide-requires Inv-loop μ-loop
-wide-requires c κs = search needs
+wide-requires c κs = tt
 
 loop-holds : tie.Need-loop-holds Inv-loop μ-loop
 loop-holds c =
@@ -35,7 +35,7 @@ high-at-requires-2 : tie.Need-high-at-requires-2 Inv-loop μ-loop
 high-at-requires-2 c κs = omega (arith, c .before .loop .inv .0 .within, c .before .before .before .before .before .before .before .pre .0)
 
 pick-requires : tie.Need-pick-requires Inv-loop μ-loop
-pick-requires c κs = search needs
+pick-requires c κs = tt
 
 mul-wide : tie.Need-mul-wide Inv-loop μ-loop
 mul-wide c = search needs
@@ -44,7 +44,7 @@ shared-slice-read-wide : tie.Need-shared-slice-read-wide Inv-loop μ-loop
 shared-slice-read-wide c = omega (arith, c .before .before .before .before .loop .inv .0 .within, c .before .before .before .before .before .before .before .before .before .before .pre .0)
 
 wide-requires-2 : tie.Need-wide-requires-2 Inv-loop μ-loop
-wide-requires-2 c κs = search needs
+wide-requires-2 c κs = tt
 
 loop-less : tie.Need-loop-less Inv-loop μ-loop
 loop-less c =

@@ -32,7 +32,7 @@ high-at-requires-2 : tie.Need-high-at-requires-2 Inv-loop μ-loop
 high-at-requires-2 c κs = search needs
 
 both-requires : tie.Need-both-requires Inv-loop μ-loop
-both-requires c κs = search needs
+both-requires c κs = tt
 
 returns : tie.Need-returns Inv-loop μ-loop
 returns c =

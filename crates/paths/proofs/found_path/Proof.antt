@@ -15,15 +15,14 @@ use Rattle.paths.specs.declared.PathAnswer.the-variants.{Found, Refused}
 use Rattle.read_back.specs.Path.{pathOf}
 use Rattle.paths.specs.GetPath.{found, verticesAfter, stepsAfter}
 use Rattle.read_back.proofs.Back.{read-short}
-use borrow.Author.Needs.{needs}
 use Rattle.paths.proofs.found_path.Statement.{statement}
 use Rattle.paths.proofs.found_path.Tie as tie
 
 is-taken-requires : tie.Need-is-taken-requires
-is-taken-requires c κs = search needs
+is-taken-requires c κs = tt
 
 path-length-requires : tie.Need-path-length-requires
-path-length-requires c κs = search needs
+path-length-requires c κs = tt
 
 write-path-requires : tie.Need-write-path-requires
 write-path-requires c κs =
@@ -40,13 +39,13 @@ cast-t15 c =
     omega (arith, e, l, s .pre .0)
 
 load-requires : tie.Need-load-requires
-load-requires c κs = search needs
+load-requires c κs = tt
 
 same-length : tie.Need-same-length
-same-length c = search needs
+same-length c = c .before .before .before .before .out-vertices .given
 
 same-length-2 : tie.Need-same-length-2
-same-length-2 c = search needs
+same-length-2 c = c .before .before .out-steps .given
 
 returns : tie.Need-returns
 returns c =

@@ -51,28 +51,28 @@ cast-e : tie.Need-cast-e
 cast-e c = search needs
 
 scratch-long-requires : tie.Need-scratch-long-requires
-scratch-long-requires c κs = search needs
+scratch-long-requires c κs = tt
 
 at-most-requires : tie.Need-at-most-requires
-at-most-requires c κs = search needs
+at-most-requires c κs = tt
 
 at-most-requires-2 : tie.Need-at-most-requires-2
-at-most-requires-2 c κs = search needs
+at-most-requires-2 c κs = tt
 
 both-requires : tie.Need-both-requires
-both-requires c κs = search needs
+both-requires c κs = tt
 
 both-requires-2 : tie.Need-both-requires-2
-both-requires-2 c κs = search needs
+both-requires-2 c κs = tt
 
 both-requires-3 : tie.Need-both-requires-3
-both-requires-3 c κs = search needs
+both-requires-3 c κs = tt
 
 asked-requires : tie.Need-asked-requires
-asked-requires c κs = search needs
+asked-requires c κs = tt
 
 query-door-requires : tie.Need-query-door-requires
-query-door-requires c κs = search needs
+query-door-requires c κs = tt
 
 slice-aggregate-run-path : tie.Need-slice-aggregate-run-path
 unfolding number-at engine-of scratch-at
@@ -176,16 +176,16 @@ run-path-requires c κs =
     )
 
 same-length : tie.Need-same-length
-same-length c = search needs
+same-length c = c .before .before .before .out-vertices .given
 
 same-length-2 : tie.Need-same-length-2
-same-length-2 c = search needs
+same-length-2 c = c .before .out-steps .given
 
 same-length-3 : tie.Need-same-length-3
-same-length-3 c = search needs
+same-length-3 c = c .before .before .before .before .before .before .before .before .before .before .before .before .before .before .before .before .before .numbers .given
 
 same-length-4 : tie.Need-same-length-4
-same-length-4 c = search needs
+same-length-4 c = c .before .before .before .before .before .before .before .before .before .before .before .before .before .before .before .list-ends .given
 
 same-length-5 : tie.Need-same-length-5
 same-length-5 c = search needs
@@ -197,7 +197,7 @@ same-length-7 : tie.Need-same-length-7
 same-length-7 c = search needs
 
 same-length-8 : tie.Need-same-length-8
-same-length-8 c = search needs
+same-length-8 c = c .before .before .before .before .before .before .before .node .given
 
 same-length-9 : tie.Need-same-length-9
 same-length-9 c = search needs

@@ -12,7 +12,7 @@ planar-boundary-requires : tie.Need-planar-boundary-requires
 planar-boundary-requires c κs = search needs
 
 planar-across-requires : tie.Need-planar-across-requires
-planar-across-requires c κs = search needs
+planar-across-requires c κs = tt
 
 int-to-float-new : tie.Need-int-to-float-new
 int-to-float-new c = search needs
@@ -21,7 +21,7 @@ int-to-float-new-2 : tie.Need-int-to-float-new-2
 int-to-float-new-2 c = search needs
 
 new-requires : tie.Need-new-requires
-new-requires c κs = search needs
+new-requires c κs = tt
 
 returns : tie.Need-returns
 unfolding deepVertex

@@ -12,13 +12,13 @@ planar-boundary-requires : tie.Need-planar-boundary-requires
 planar-boundary-requires c κs = search needs
 
 planar-across-requires : tie.Need-planar-across-requires
-planar-across-requires c κs = search needs
+planar-across-requires c κs = tt
 
 int-to-float-new : tie.Need-int-to-float-new
 int-to-float-new c = search needs
 
 new-requires : tie.Need-new-requires
-new-requires c κs = search needs
+new-requires c κs = tt
 
 returns : tie.Need-returns
 unfolding flatVertex

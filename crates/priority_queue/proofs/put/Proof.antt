@@ -20,7 +20,7 @@ raise-requires c κs =
     ((omega arith, simp length-set (omega arith)), (omega arith, (omega arith, leaf-put (s .args .node .now) (s .args .leaf .now) (s .args .n) (s .args .v) (s .args .key) (s .pre .1 .1 .1))))
 
 same-length : tie.Need-same-length
-same-length c = search needs
+same-length c = c .before .node .given
 
 same-length-2 : tie.Need-same-length-2
 same-length-2 c = search needs

@@ -19,7 +19,7 @@ abbrev μ-loop : tie.MeasureT-loop
 μ-loop pe n m i₀ pass₀ i pass = m - i
 
 lesser-requires : tie.Need-lesser-requires Inv-loop μ-loop
-lesser-requires c κs = search needs
+lesser-requires c κs = tt
 
 loop-holds : tie.Need-loop-holds Inv-loop μ-loop
 unfolding all
@@ -32,10 +32,10 @@ shared-slice-read-is-erasure-probability : tie.Need-shared-slice-read-is-erasure
 shared-slice-read-is-erasure-probability c = omega (arith, c .before .before .loop .inv .1)
 
 is-erasure-probability-requires : tie.Need-is-erasure-probability-requires Inv-loop μ-loop
-is-erasure-probability-requires c κs = search needs
+is-erasure-probability-requires c κs = tt
 
 both-requires : tie.Need-both-requires Inv-loop μ-loop
-both-requires c κs = search needs
+both-requires c κs = tt
 
 add-i : tie.Need-add-i Inv-loop μ-loop
 add-i c = omega (arith, c .before .before .before .before .loop .inv .1)

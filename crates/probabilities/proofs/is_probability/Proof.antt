@@ -1,19 +1,18 @@
 -- `probabilities::is_probability` meets its contract. Assumes nothing.
 use mathlib.Core.Path.{ap, _∙_}
 use mathlib.Core.Bool.{Bool, _||_}
-use borrow.Author.Needs.{needs}
 use Rattle.edge_weights.specs.Probabilities.{isPlusZero, isProbability}
 use Rattle.probabilities.proofs.is_probability.Statement.{statement}
 use Rattle.probabilities.proofs.is_probability.Tie as tie
 
 is-plus-zero-requires : tie.Need-is-plus-zero-requires
-is-plus-zero-requires c κs = search needs
+is-plus-zero-requires c κs = tt
 
-is-in-range-requires : tie.Need-is-in-range-requires
-is-in-range-requires c κs = search needs
+both-requires : tie.Need-both-requires
+both-requires c κs = tt
 
 either-requires : tie.Need-either-requires
-either-requires c κs = search needs
+either-requires c κs = tt
 
 returns : tie.Need-returns
 unfolding isProbability

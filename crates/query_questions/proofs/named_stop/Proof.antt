@@ -13,7 +13,6 @@ use Rattle.columns.specs.Lists.{each}
 use Rattle.columns.proofs.Counting.{store-each, length-each}
 use Rattle.walks.specs.Answers.{tableWeight, tablePrevious}
 use Rattle.relaxing.specs.Ready.{stateOf, Ready, sumLimit}
-use borrow.Author.Needs.{needs}
 use Rattle.query_questions.proofs.named_stop.Statement.{statement}
 use Rattle.query_questions.proofs.named_stop.Tie as tie
 

@@ -13,27 +13,26 @@ use Rattle.columns.specs.Lists.{each}
 use Rattle.columns.proofs.Counting.{store-each, length-each}
 use Rattle.walks.specs.Answers.{tableWeight, tablePrevious}
 use Rattle.relaxing.specs.Ready.{stateOf, Ready, sumLimit}
-use borrow.Author.Needs.{needs}
 use Rattle.query_questions.proofs.query_door.Statement.{statement}
 use Rattle.query_questions.proofs.query_door.Tie as tie
 
 long-enough-requires : tie.Need-long-enough-requires
-long-enough-requires c κs = search needs
+long-enough-requires c κs = tt
 
 engine-sound-requires : tie.Need-engine-sound-requires
-engine-sound-requires c κs = search needs
+engine-sound-requires c κs = tt
 
 both-requires : tie.Need-both-requires
-both-requires c κs = search needs
+both-requires c κs = tt
 
 asked-requires : tie.Need-asked-requires
-asked-requires c κs = search needs
+asked-requires c κs = tt
 
 asked-requires-2 : tie.Need-asked-requires-2
-asked-requires-2 c κs = search needs
+asked-requires-2 c κs = tt
 
 asked-requires-3 : tie.Need-asked-requires-3
-asked-requires-3 c κs = search needs
+asked-requires-3 c κs = tt
 
 returns : tie.Need-returns
 returns c = cc

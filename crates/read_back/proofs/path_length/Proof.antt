@@ -37,7 +37,7 @@ loop-holds : tie.Need-loop-holds Inv-loop μ-loop
 loop-holds c = let s = c .before .before in (omega arith, λ w. count-start (stateOf (s .args .status .now) w (s .args .previous .now)) (s .args .a) (length (s .args .status .now)) (s .args .b))
 
 step-back-requires : tie.Need-step-back-requires Inv-loop μ-loop
-step-back-requires c κs = search needs
+step-back-requires c κs = tt
 
 enum-known-p : tie.Need-enum-known-p Inv-loop μ-loop
 enum-known-p c = search needs

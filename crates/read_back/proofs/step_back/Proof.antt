@@ -19,7 +19,7 @@ returns : tie.Need-returns
 returns c = let s = c .before .before .before in λ w. ap (λ b. entryOf (cond b none (entry (stateOf (s .args .status .now) w (s .args .previous .now)) (s .args .v)))) (sym (eq-eqb (s .args .v) (s .args .a) (c .if1 .taken)))
 
 entry-at-requires : tie.Need-entry-at-requires
-entry-at-requires c κs = search needs
+entry-at-requires c κs = tt
 
 enum-known-p : tie.Need-enum-known-p
 enum-known-p c = search needs

@@ -14,18 +14,17 @@ use Rattle.read_back.specs.Path.{entryOf, stepBack, Written}
 use lib.Seq.{sets, length-sets}
 use lib.ListN.{set, length-set}
 use mathlib.Core.List.{map}
-use borrow.Author.Needs.{needs}
 use Rattle.read_back.proofs.step_into.Statement.{statement}
 use Rattle.read_back.proofs.step_into.Tie as tie
 
 load-requires : tie.Need-load-requires
-load-requires c κs = search needs
+load-requires c κs = tt
 
 load-requires-2 : tie.Need-load-requires-2
-load-requires-2 c κs = search needs
+load-requires-2 c κs = tt
 
 load-requires-3 : tie.Need-load-requires-3
-load-requires-3 c κs = search needs
+load-requires-3 c κs = tt
 
 returns : tie.Need-returns
 returns c = let s = c .before .before .before .before .before .before in λ t. unfold stepInto in let x = c .before .before .before .load .ensures in let y = c .before .before .load2 .ensures in let z = c .before .load3 .ensures ∙ ap (λ p. getD (s .args .weight .now) p 0) y in omega (arith, x, z, c .if1 .taken)

@@ -38,7 +38,7 @@ slice-write-out-vertices : tie.Need-slice-write-out-vertices Inv-loop μ-loop
 slice-write-out-vertices c = let s = c .before .before .before .before .before .before .before in let at = c .before .loop in omega (arith, at .inv .0, at .inv .2, s .pre .1, c .loop-test .taken)
 
 step-into-requires : tie.Need-step-into-requires Inv-loop μ-loop
-step-into-requires c κs = search needs
+step-into-requires c κs = tt
 
 mul-out-steps : tie.Need-mul-out-steps Inv-loop μ-loop
 mul-out-steps c = search needs
@@ -47,7 +47,7 @@ slice-write-out-steps : tie.Need-slice-write-out-steps Inv-loop μ-loop
 slice-write-out-steps c = let s = c .before .before .before .before .before .before .before .before in let at = c .before .before .loop in omega (arith, at .inv .1, at .inv .2, s .pre .2, c .before .loop-test .taken)
 
 load-requires : tie.Need-load-requires Inv-loop μ-loop
-load-requires c κs = search needs
+load-requires c κs = tt
 
 loop-less : tie.Need-loop-less Inv-loop μ-loop
 loop-less c = let at = c .before .before .before .loop in omega (arith, c .before .before .loop-test .taken)

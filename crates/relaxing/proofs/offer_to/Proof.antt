@@ -23,31 +23,31 @@ slice-read-tie-rule-2 : tie.Need-slice-read-tie-rule-2
 slice-read-tie-rule-2 c = omega (arith, c .before .before .before .before .before .before .before .pre .0 .previous-fits)
 
 tie-rule-requires : tie.Need-tie-rule-requires
-tie-rule-requires c κs = search needs
+tie-rule-requires c κs = tt
 
 slice-read-is-accepted : tie.Need-slice-read-is-accepted
 slice-read-is-accepted c = search needs
 
 is-accepted-requires : tie.Need-is-accepted-requires
-is-accepted-requires c κs = search needs
+is-accepted-requires c κs = tt
 
 wait-requires : tie.Need-wait-requires
 wait-requires c κs = let s = c .before .before .before .before .before .before .before .before .before .before .before .before .before .before .before .before in (s .pre .0, s .pre .1)
 
 same-length : tie.Need-same-length
-same-length c = search needs
+same-length c = c .before .before .before .before .before .before .before .before .before .status .given
 
 same-length-2 : tie.Need-same-length-2
-same-length-2 c = search needs
+same-length-2 c = c .before .before .before .before .before .before .before .weight .given
 
 same-length-3 : tie.Need-same-length-3
-same-length-3 c = search needs
+same-length-3 c = c .before .before .before .before .before .previous .given
 
 same-length-4 : tie.Need-same-length-4
-same-length-4 c = search needs
+same-length-4 c = c .before .before .before .node .given
 
 same-length-5 : tie.Need-same-length-5
-same-length-5 c = search needs
+same-length-5 c = c .before .leaf .given
 
 returns : tie.Need-returns
 returns c =

@@ -23,7 +23,7 @@ shared-slice-read-other-end-2 : tie.Need-shared-slice-read-other-end-2
 shared-slice-read-other-end-2 c = omega (arith, c .before .before .before .before .before .before .before .before .before .before .pre .1 .0)
 
 other-end-requires : tie.Need-other-end-requires
-other-end-requires c κs = search needs
+other-end-requires c κs = tt
 
 mul-offer-to : tie.Need-mul-offer-to
 mul-offer-to c = search needs
@@ -42,19 +42,19 @@ offer-to-requires c κs =
     (s .pre .0, (rw (c .before .before .before .before .before .before .other-end .ensures) (other-in x y (s .args .a) (length (s .args .status .now)) (s .pre .1 .1 .0 .0) (s .pre .1 .1 .0 .1)), s .pre .1 .0 .3))
 
 same-length : tie.Need-same-length
-same-length c = search needs
+same-length c = c .before .before .before .before .before .before .before .before .before .status .given
 
 same-length-2 : tie.Need-same-length-2
-same-length-2 c = search needs
+same-length-2 c = c .before .before .before .before .before .before .before .weight .given
 
 same-length-3 : tie.Need-same-length-3
-same-length-3 c = search needs
+same-length-3 c = c .before .before .before .before .before .previous .given
 
 same-length-4 : tie.Need-same-length-4
-same-length-4 c = search needs
+same-length-4 c = c .before .before .before .node .given
 
 same-length-5 : tie.Need-same-length-5
-same-length-5 c = search needs
+same-length-5 c = c .before .leaf .given
 
 returns : tie.Need-returns
 returns c =

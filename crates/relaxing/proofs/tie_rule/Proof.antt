@@ -3,7 +3,6 @@ use mathlib.Core.Path.{_≡_, refl, sym, ap, ap₂, _∙_}
 use Prim.Native.Nat.{ℕ, zero, suc, _+_, _*_, _<_, _≤_}
 use native.Mathlib.Omega.{arith}
 use Rattle.walks.proofs.TurnCases.{changes-lighter, changes-heavier, changes-nearer, changes-farther, changes-equally-near}
-use borrow.Author.Needs.{needs}
 use Rattle.relaxing.proofs.tie_rule.Statement.{statement}
 use Rattle.relaxing.proofs.tie_rule.Tie as tie
 
@@ -14,10 +13,10 @@ returns-2 : tie.Need-returns-2
 returns-2 c = let s = c .before .before .args in sym (changes-heavier (s .u) (s .k) (s .q) (s .w) (s .p) (c .if2 .taken))
 
 difference-requires : tie.Need-difference-requires
-difference-requires c κs = search needs
+difference-requires c κs = tt
 
 difference-requires-2 : tie.Need-difference-requires-2
-difference-requires-2 c κs = search needs
+difference-requires-2 c κs = tt
 
 returns-3 : tie.Need-returns-3
 returns-3 c =

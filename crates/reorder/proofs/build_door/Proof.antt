@@ -23,7 +23,7 @@ cast-each-below : tie.Need-cast-each-below
 cast-each-below c = search needs
 
 each-below-requires : tie.Need-each-below-requires
-each-below-requires c κs = search needs
+each-below-requires c κs = tt
 
 order-questions-requires : tie.Need-order-questions-requires
 order-questions-requires c κs = (omega arith, λ e. sym (c .each-below .ensures) ∙ e)

@@ -11,10 +11,10 @@ use Rattle.reorder.proofs.build_door.Reads as build-door-reads
 use Rattle.orders.proofs.place_numbers.Reads as place-numbers-reads
 
 build-door-requires : tie.Need-build-door-requires
-build-door-requires c κs = search needs
+build-door-requires c κs = tt
 
 done-of-requires : tie.Need-done-of-requires
-done-of-requires c κs = search needs
+done-of-requires c κs = tt
 
 same-length : tie.Need-same-length
 same-length c = search needs
@@ -26,7 +26,7 @@ place-numbers-requires : tie.Need-place-numbers-requires
 place-numbers-requires c κs = let a = c .before .before .before .before .before .before .args in build-met (a .order .now) (a .column .now) (sym (c .before .before .build-door .ensures) ∙ c .before .if1 .left)
 
 same-length-2 : tie.Need-same-length-2
-same-length-2 c = search needs
+same-length-2 c = c .before .column .given
 
 returns-2 : tie.Need-returns-2
 returns-2 c = let a = c .before .before .before .before .before .before .before .before .before .args in built-accepted (a .order .now) (a .column .now) (sym (c .before .before .before .before .before .build-door .ensures) ∙ c .before .before .before .before .if1 .left) (c .before .before .place-numbers .ensures)

@@ -1,6 +1,5 @@
 -- `reorder::columns_long` meets its contract. Assumes nothing.
 use Rattle.reorder.specs.Columns.{columnsLong}
-use borrow.Author.Needs.{needs}
 use Rattle.reorder.proofs.columns_long.Statement.{statement}
 use Rattle.reorder.proofs.columns_long.Tie as tie
 use Rattle.reorder.proofs.columns_long.Reads as reads
@@ -12,31 +11,31 @@ use Rattle.reorder.proofs.positions_long.Reads as positions-long-reads
 use Rattle.reorder.proofs.vertex_long.Reads as vertex-long-reads
 
 ends-long-requires : tie.Need-ends-long-requires
-ends-long-requires c κs = search needs
+ends-long-requires c κs = tt
 
 vertex-long-requires : tie.Need-vertex-long-requires
-vertex-long-requires c κs = search needs
+vertex-long-requires c κs = tt
 
 positions-long-requires : tie.Need-positions-long-requires
-positions-long-requires c κs = search needs
+positions-long-requires c κs = tt
 
 lists-long-requires : tie.Need-lists-long-requires
-lists-long-requires c κs = search needs
+lists-long-requires c κs = tt
 
 lists-long-requires-2 : tie.Need-lists-long-requires-2
-lists-long-requires-2 c κs = search needs
+lists-long-requires-2 c κs = tt
 
 both-requires : tie.Need-both-requires
-both-requires c κs = search needs
+both-requires c κs = tt
 
 both-requires-2 : tie.Need-both-requires-2
-both-requires-2 c κs = search needs
+both-requires-2 c κs = tt
 
 both-requires-3 : tie.Need-both-requires-3
-both-requires-3 c κs = search needs
+both-requires-3 c κs = tt
 
 both-requires-4 : tie.Need-both-requires-4
-both-requires-4 c κs = search needs
+both-requires-4 c κs = tt
 
 returns : tie.Need-returns
 unfolding columnsLong

@@ -1,6 +1,5 @@
 -- `reorder::columns_sound` meets its contract. Assumes nothing.
 use Rattle.reorder.specs.Columns.{columnsSound}
-use borrow.Author.Needs.{needs}
 use Rattle.reorder.proofs.columns_sound.Statement.{statement}
 use Rattle.reorder.proofs.columns_sound.Tie as tie
 use Rattle.reorder.proofs.columns_sound.Reads as reads
@@ -10,13 +9,13 @@ use Rattle.columns.proofs.questions.marks_sound.Reads as marks-sound-reads
 use Rattle.syndromes.proofs.doors.code_sound.Reads as code-sound-reads
 
 code-sound-requires : tie.Need-code-sound-requires
-code-sound-requires c κs = search needs
+code-sound-requires c κs = tt
 
 marks-sound-requires : tie.Need-marks-sound-requires
-marks-sound-requires c κs = search needs
+marks-sound-requires c κs = tt
 
 both-requires : tie.Need-both-requires
-both-requires c κs = search needs
+both-requires c κs = tt
 
 returns : tie.Need-returns
 unfolding columnsSound

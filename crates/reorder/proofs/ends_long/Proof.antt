@@ -1,6 +1,5 @@
 -- `reorder::ends_long` meets its contract. Assumes nothing.
 use Rattle.reorder.specs.Columns.{endsLong}
-use borrow.Author.Needs.{needs}
 use Rattle.reorder.proofs.ends_long.Statement.{statement}
 use Rattle.reorder.proofs.ends_long.Tie as tie
 use Rattle.reorder.proofs.ends_long.Reads as reads
@@ -9,13 +8,13 @@ use Rattle.columns.proofs.questions.at_most.Reads as at-most-reads
 use Rattle.columns.proofs.questions.both.Reads as both-reads
 
 at-most-requires : tie.Need-at-most-requires
-at-most-requires c κs = search needs
+at-most-requires c κs = tt
 
 at-most-requires-2 : tie.Need-at-most-requires-2
-at-most-requires-2 c κs = search needs
+at-most-requires-2 c κs = tt
 
 both-requires : tie.Need-both-requires
-both-requires c κs = search needs
+both-requires c κs = tt
 
 returns : tie.Need-returns
 unfolding endsLong

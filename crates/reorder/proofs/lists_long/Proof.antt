@@ -13,13 +13,13 @@ mul-at-most : tie.Need-mul-at-most
 mul-at-most c = search needs
 
 at-most-requires : tie.Need-at-most-requires
-at-most-requires c κs = search needs
+at-most-requires c κs = tt
 
 sum-within-requires : tie.Need-sum-within-requires
-sum-within-requires c κs = search needs
+sum-within-requires c κs = tt
 
 both-requires : tie.Need-both-requires
-both-requires c κs = search needs
+both-requires c κs = tt
 
 returns : tie.Need-returns
 unfolding listsLong

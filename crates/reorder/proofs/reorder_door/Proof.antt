@@ -3,7 +3,6 @@ use mathlib.Core.Path.{_≡_, refl, sym, ap, _∙_}
 use Rattle.columns.proofs.Doors.{asks}
 use Rattle.reorder.specs.Columns.{reorderDoor}
 use Rattle.reorder.proofs.Accepting.{sound-few}
-use borrow.Author.Needs.{needs}
 use Rattle.reorder.proofs.reorder_door.Statement.{statement}
 use Rattle.reorder.proofs.reorder_door.Tie as tie
 use Rattle.reorder.proofs.reorder_door.Reads as reads
@@ -13,10 +12,10 @@ use Rattle.reorder.proofs.columns_sound.Reads as columns-sound-reads
 use Rattle.reorder.proofs.reorder_questions.Reads as reorder-questions-reads
 
 columns-long-requires : tie.Need-columns-long-requires
-columns-long-requires c κs = search needs
+columns-long-requires c κs = tt
 
 columns-sound-requires : tie.Need-columns-sound-requires
-columns-sound-requires c κs = search needs
+columns-sound-requires c κs = tt
 
 reorder-questions-requires : tie.Need-reorder-questions-requires
 reorder-questions-requires c κs =

@@ -28,16 +28,16 @@ cast-each-below : tie.Need-cast-each-below
 cast-each-below c = search needs
 
 each-below-requires : tie.Need-each-below-requires
-each-below-requires c κs = search needs
+each-below-requires c κs = tt
 
 cast-each-below-2 : tie.Need-cast-each-below-2
 cast-each-below-2 c = search needs
 
 each-below-requires-2 : tie.Need-each-below-requires-2
-each-below-requires-2 c κs = search needs
+each-below-requires-2 c κs = tt
 
 both-requires : tie.Need-both-requires
-both-requires c κs = search needs
+both-requires c κs = tt
 
 order-questions-requires : tie.Need-order-questions-requires
 order-questions-requires c κs =

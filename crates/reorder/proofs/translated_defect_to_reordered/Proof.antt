@@ -10,7 +10,7 @@ use Rattle.orders.proofs.translate.Reads as translate-reads
 use Rattle.reorder.proofs.translate_door.Reads as translate-door-reads
 
 translate-door-requires : tie.Need-translate-door-requires
-translate-door-requires c κs = search needs
+translate-door-requires c κs = tt
 
 translate-requires : tie.Need-translate-requires
 translate-requires c κs =
@@ -19,7 +19,7 @@ translate-requires c κs =
     ((k .order-is, k .room), k .listed)
 
 same-length : tie.Need-same-length
-same-length c = search needs
+same-length c = c .before .column .given
 
 returns : tie.Need-returns
 returns c = let a = c .before .before .before .before .before .before .before .before .before .before .args in translated-accepted (a .order .now) (a .list .now) (a .column .now) (sym (c .before .before .before .before .before .translate-door .ensures) ∙ c .before .before .before .before .if1 .taken) (c .before .before .translate .ensures)

@@ -5,7 +5,6 @@ use native.Mathlib.Omega.{arith}
 use lib.ListN.{length}
 use Rattle.columns.specs.Questions.{allBelow}
 use Rattle.reorder.proofs.Accepting.{order-stops, order-on}
-use borrow.Author.Needs.{needs}
 use Rattle.reorder.proofs.vertex_order_questions.Statement.{statement}
 use Rattle.reorder.proofs.vertex_order_questions.Tie as tie
 use Rattle.reorder.proofs.vertex_order_questions.Reads as reads
@@ -17,7 +16,7 @@ returns : tie.Need-returns
 returns c = let a = c .before .before .args in order-stops (a .vertex-num) (a .order .now) (c .if1 .taken)
 
 each-below-requires : tie.Need-each-below-requires
-each-below-requires c κs = search needs
+each-below-requires c κs = tt
 
 order-questions-requires : tie.Need-order-questions-requires
 order-questions-requires c κs =

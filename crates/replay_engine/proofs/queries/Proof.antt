@@ -19,22 +19,22 @@ at-requires : tie.Need-at-requires Inv-loop μ-loop
 at-requires c κs = search needs
 
 after-requires : tie.Need-after-requires Inv-loop μ-loop
-after-requires c κs = search needs
+after-requires c κs = tt
 
 narrow-at-requires : tie.Need-narrow-at-requires Inv-loop μ-loop
-narrow-at-requires c κs = search needs
+narrow-at-requires c κs = tt
 
 after-requires-2 : tie.Need-after-requires-2 Inv-loop μ-loop
-after-requires-2 c κs = search needs
+after-requires-2 c κs = tt
 
 narrow-at-requires-2 : tie.Need-narrow-at-requires-2 Inv-loop μ-loop
-narrow-at-requires-2 c κs = search needs
+narrow-at-requires-2 c κs = tt
 
 query-requires : tie.Need-query-requires Inv-loop μ-loop
-query-requires c κs = search needs
+query-requires c κs = tt
 
 after-requires-3 : tie.Need-after-requires-3 Inv-loop μ-loop
-after-requires-3 c κs = search needs
+after-requires-3 c κs = tt
 
 sub-left : tie.Need-sub-left Inv-loop μ-loop
 sub-left c = search needs

@@ -13,7 +13,7 @@ rotated-boundary-requires : tie.Need-rotated-boundary-requires
 rotated-boundary-requires c κs = search needs
 
 rotated-shift-requires : tie.Need-rotated-shift-requires
-rotated-shift-requires c κs = search needs
+rotated-shift-requires c κs = tt
 
 int-to-float-new : tie.Need-int-to-float-new
 int-to-float-new c = search needs
@@ -28,7 +28,7 @@ int-to-float-new-2 : tie.Need-int-to-float-new-2
 int-to-float-new-2 c = search needs
 
 new-requires : tie.Need-new-requires
-new-requires c κs = search needs
+new-requires c κs = tt
 
 returns : tie.Need-returns
 unfolding rotatedVertex

@@ -4,7 +4,6 @@ use mathlib.Core.Bool.{Bool, cond}
 use lib.Ieee.{Float, lt}
 use Rattle.random.specs.declared.DeterministicRng.{DeterministicRng}
 use Rattle.random.specs.Random.{wordOf, nextOf, drawOf}
-use borrow.Author.Needs.{needs}
 use Rattle.sampled_edges.proofs.sample_edge.Statement.{statement}
 use Rattle.sampled_edges.proofs.sample_edge.Tie as tie
 use Rattle.sampled_edges.proofs.sample_edge.Reads as reads
@@ -13,13 +12,13 @@ use Rattle.random.proofs.DeterministicRng.next_f64.Reads as next-f64-reads
 use Rattle.sampled_edges.proofs.error_probability.Reads as error-probability-reads
 
 next-f64-requires : tie.Need-next-f64-requires
-next-f64-requires c κs = search needs
+next-f64-requires c κs = tt
 
 next-f64-requires-2 : tie.Need-next-f64-requires-2
-next-f64-requires-2 c κs = search needs
+next-f64-requires-2 c κs = tt
 
 error-probability-requires : tie.Need-error-probability-requires
-error-probability-requires c κs = search needs
+error-probability-requires c κs = tt
 
 returns : tie.Need-returns
 returns c =

@@ -44,10 +44,10 @@ shared-slice-read-sample-edge-2 : tie.Need-shared-slice-read-sample-edge-2 Inv-l
 shared-slice-read-sample-edge-2 c = search needs
 
 sample-edge-requires : tie.Need-sample-edge-requires Inv-loop μ-loop
-sample-edge-requires c κs = search needs
+sample-edge-requires c κs = tt
 
 erasure-byte-requires : tie.Need-erasure-byte-requires Inv-loop μ-loop
-erasure-byte-requires c κs = search needs
+erasure-byte-requires c κs = tt
 
 slice-write-erasure : tie.Need-slice-write-erasure Inv-loop μ-loop
 slice-write-erasure c = let l = c .before .before .before .before .before .loop in omega (arith, l .inv .3)

@@ -37,7 +37,7 @@ shared-slice-read-row-previous-2 : tie.Need-shared-slice-read-row-previous-2 Inv
 shared-slice-read-row-previous-2 c = omega (arith, c .before .before .before .before .before .before .before .pre .0)
 
 row-previous-requires : tie.Need-row-previous-requires Inv-loop μ-loop
-row-previous-requires c κs = search needs
+row-previous-requires c κs = tt
 
 mul-out : tie.Need-mul-out Inv-loop μ-loop
 mul-out c = search needs

@@ -1,17 +1,16 @@
 -- `set_probabilities::set_erasure_probability` meets its contract. Assumes nothing.
-use borrow.Author.Needs.{needs}
 use Rattle.set_probabilities.proofs.Tested.{tested}
 use Rattle.set_probabilities.proofs.set_erasure_probability.Statement.{statement}
 use Rattle.set_probabilities.proofs.set_erasure_probability.Tie as tie
 
 is-erasure-probability-requires : tie.Need-is-erasure-probability-requires
-is-erasure-probability-requires c κs = search needs
+is-erasure-probability-requires c κs = tt
 
 set-each-requires : tie.Need-set-each-requires
-set-each-requires c κs = search needs
+set-each-requires c κs = tt
 
 same-length : tie.Need-same-length
-same-length c = search needs
+same-length c = c .before .column .given
 
 returns : tie.Need-returns
 returns c = tested (c .before .before .before .before .is-erasure-probability .ensures) (c .before .before .set-each .ensures)

@@ -10,7 +10,7 @@ use Rattle.settling.proofs.begin.Statement.{statement}
 use Rattle.settling.proofs.begin.Tie as tie
 
 fill-u32-requires : tie.Need-fill-u32-requires
-fill-u32-requires c κs = search needs
+fill-u32-requires c κs = tt
 
 own-previous-requires : tie.Need-own-previous-requires
 own-previous-requires c κs = search needs
@@ -19,16 +19,16 @@ put-sources-requires : tie.Need-put-sources-requires
 put-sources-requires c κs = search needs
 
 same-length : tie.Need-same-length
-same-length c = search needs
+same-length c = c .before .before .before .before .before .before .before .before .before .before .before .before .weight .given
 
 same-length-2 : tie.Need-same-length-2
-same-length-2 c = search needs
+same-length-2 c = c .before .before .before .before .before .before .before .before .previous .given
 
 same-length-3 : tie.Need-same-length-3
-same-length-3 c = search needs
+same-length-3 c = c .before .before .before .node .given
 
 same-length-4 : tie.Need-same-length-4
-same-length-4 c = search needs
+same-length-4 c = c .before .leaf .given
 
 returns : tie.Need-returns
 returns c =

@@ -10,12 +10,11 @@ use lib.Dec.{eqb, ltb}
 use borrow.Author.Tests.{eq-eqb, ne-eqb}
 use Rattle.columns.specs.Lists.{each}
 use Rattle.columns.proofs.Counting.{store-each, whole, replicate-each, length-each}
-use borrow.Author.Needs.{needs}
 use Rattle.settling.proofs.begin_at.Statement.{statement}
 use Rattle.settling.proofs.begin_at.Tie as tie
 
 fill-u8-requires : tie.Need-fill-u8-requires
-fill-u8-requires c κs = search needs
+fill-u8-requires c κs = tt
 
 slice-write-status : tie.Need-slice-write-status
 slice-write-status c = let s = c .before .before .before .before .before .before in omega (arith, ap length (c .before .before .before .fill-u8 .ensures), length-sets (s .args .status .now) 0 (replicate (length (s .args .status .now)) 0))

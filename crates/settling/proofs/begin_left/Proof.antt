@@ -29,7 +29,7 @@ shared-slice-read-left-mark : tie.Need-shared-slice-read-left-mark Inv-loop μ-l
 shared-slice-read-left-mark c = omega (arith, c .before .before .before .before .before .pre, c .before .before .loop .inv .1)
 
 left-mark-requires : tie.Need-left-mark-requires Inv-loop μ-loop
-left-mark-requires c κs = search needs
+left-mark-requires c κs = tt
 
 slice-write-status : tie.Need-slice-write-status Inv-loop μ-loop
 slice-write-status c = search needs

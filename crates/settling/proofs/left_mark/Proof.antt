@@ -11,7 +11,6 @@ use borrow.Author.Tests.{eq-eqb, ne-eqb}
 use Rattle.columns.specs.Lists.{each}
 use Rattle.columns.proofs.Counting.{store-each, whole, replicate-each, length-each}
 use Rattle.walks.specs.Lists.{bit}
-use borrow.Author.Needs.{needs}
 use Rattle.settling.proofs.left_mark.Statement.{statement}
 use Rattle.settling.proofs.left_mark.Tie as tie
 

@@ -10,7 +10,6 @@ use lib.Dec.{eqb, ltb}
 use borrow.Author.Tests.{eq-eqb, ne-eqb}
 use Rattle.columns.specs.Lists.{each}
 use Rattle.columns.proofs.Counting.{store-each, whole, replicate-each, length-each}
-use borrow.Author.Needs.{needs}
 use Rattle.settling.proofs.put_source.Statement.{statement}
 use Rattle.settling.proofs.put_source.Tie as tie
 
@@ -21,10 +20,10 @@ put-requires : tie.Need-put-requires
 put-requires c κs = let p = c .before .before .before .before .before .before .before .pre in (p .2, (p .1, (p .0, p .3)))
 
 same-length : tie.Need-same-length
-same-length c = search needs
+same-length c = c .before .before .before .node .given
 
 same-length-2 : tie.Need-same-length-2
-same-length-2 c = search needs
+same-length-2 c = c .before .leaf .given
 
 returns : tie.Need-returns
 returns c =

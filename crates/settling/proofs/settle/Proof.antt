@@ -30,7 +30,7 @@ loop-holds : tie.Need-loop-holds Inv-loop μ-loop
 loop-holds c = let s = c .before .before .before .before .before .before .before .before .before .before in (omega arith, refl, s .pre .0, (λ m. begins (length (s .args .status .now)) (s .args .ends-a .now) (s .args .ends-b .now) (s .args .weights .now) (s .args .status .now) (s .args .weight .now) (s .args .previous .now) (s .args .stop) refl (s .pre .1 .1) m), refl, refl)
 
 is-stopped-requires : tie.Need-is-stopped-requires Inv-loop μ-loop
-is-stopped-requires c κs = search needs
+is-stopped-requires c κs = tt
 
 same-length : tie.Need-same-length Inv-loop μ-loop
 same-length c = c .before .before .before .before .loop .inv .1

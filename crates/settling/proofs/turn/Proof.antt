@@ -34,7 +34,7 @@ cast-a : tie.Need-cast-a
 cast-a c = search needs
 
 wide-requires : tie.Need-wide-requires
-wide-requires c κs = search needs
+wide-requires c κs = tt
 
 mul-w : tie.Need-mul-w
 mul-w c =
@@ -86,7 +86,7 @@ shared-slice-read-wide c =
     omega (arith, t .0, s .pre .1 .0 .ends-fit, c .before .before .before .before .wide .ensures)
 
 wide-requires-2 : tie.Need-wide-requires-2
-wide-requires-2 c κs = search needs
+wide-requires-2 c κs = tt
 
 slice-write-status : tie.Need-slice-write-status
 slice-write-status c =

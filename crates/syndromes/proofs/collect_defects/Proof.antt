@@ -28,10 +28,10 @@ list-marked-requires c κs =
     (omega (arith, l, s .pre .0 .long-defect), s .pre .1 .1 .0, s .pre .1 .1 .1)
 
 same-length : tie.Need-same-length
-same-length c = search needs
+same-length c = c .before .before .before .before .before .before .bytes .given
 
 same-length-2 : tie.Need-same-length-2
-same-length-2 c = search needs
+same-length-2 c = c .before .defect-list .given
 
 returns : tie.Need-returns
 returns c =

@@ -27,7 +27,7 @@ collect-defects-requires c κs =
     )
 
 same-length : tie.Need-same-length
-same-length c = search needs
+same-length c = c .before .defect-list .given
 
 returns : tie.Need-returns
 returns c = search needs

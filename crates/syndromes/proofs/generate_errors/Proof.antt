@@ -21,7 +21,7 @@ use Rattle.flips.proofs.flip_all.Reads as flip-all-reads
 use Rattle.marked_lists.proofs.list_marked.Reads as list-marked-reads
 
 errors-door-requires : tie.Need-errors-door-requires
-errors-door-requires c κs = search needs
+errors-door-requires c κs = tt
 
 flip-all-requires : tie.Need-flip-all-requires
 flip-all-requires c κs =
@@ -49,13 +49,13 @@ list-marked-requires-2 c κs =
     (omega (arith, k .lists .long-erasure), omega (arith, k .lists .long-erasures), omega (arith, k .sound .graph .few-edges))
 
 same-length : tie.Need-same-length
-same-length c = search needs
+same-length c = c .before .before .before .before .before .before .before .before .before .before .defect .given
 
 same-length-2 : tie.Need-same-length-2
-same-length-2 c = search needs
+same-length-2 c = c .before .before .before .before .before .defect-list .given
 
 same-length-3 : tie.Need-same-length-3
-same-length-3 c = search needs
+same-length-3 c = c .before .erasure-list .given
 
 returns : tie.Need-returns
 returns c =

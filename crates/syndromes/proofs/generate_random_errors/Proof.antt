@@ -24,13 +24,13 @@ use Rattle.marked_lists.proofs.list_marked.Reads as list-marked-reads
 use Rattle.sampled_edges.proofs.sample_edges.Reads as sample-edges-reads
 
 sampling-door-requires : tie.Need-sampling-door-requires
-sampling-door-requires c κs = search needs
+sampling-door-requires c κs = tt
 
 fill-u8-requires : tie.Need-fill-u8-requires
-fill-u8-requires c κs = search needs
+fill-u8-requires c κs = tt
 
 seed-from-u64-requires : tie.Need-seed-from-u64-requires
-seed-from-u64-requires c κs = search needs
+seed-from-u64-requires c κs = tt
 
 sample-edges-requires : tie.Need-sample-edges-requires
 sample-edges-requires c κs =
@@ -63,13 +63,13 @@ same-length : tie.Need-same-length
 same-length c = search needs
 
 same-length-2 : tie.Need-same-length-2
-same-length-2 c = search needs
+same-length-2 c = c .before .before .before .before .before .before .before .before .before .before .before .erasure .given
 
 same-length-3 : tie.Need-same-length-3
-same-length-3 c = search needs
+same-length-3 c = c .before .before .before .before .before .before .defect-list .given
 
 same-length-4 : tie.Need-same-length-4
-same-length-4 c = search needs
+same-length-4 c = c .before .erasure-list .given
 
 returns : tie.Need-returns
 returns c =

@@ -13,7 +13,7 @@ use Rattle.syndromes.proofs.doors.syndrome_door.Reads as syndrome-door-
 use Rattle.syndromes.proofs.find_defects.Reads as find-defects-reads
 
 syndrome-door-requires : tie.Need-syndrome-door-requires
-syndrome-door-requires c κs = search needs
+syndrome-door-requires c κs = tt
 
 find-defects-requires : tie.Need-find-defects-requires
 find-defects-requires c κs =
@@ -23,7 +23,7 @@ find-defects-requires c κs =
     ((k .sound .graph .few-vertices, k .long .long-boundary, k .room), ((k .long .long-a, k .long .long-b), ((k .sound .graph .in-a, k .sound .graph .in-b), k .named)))
 
 same-length : tie.Need-same-length
-same-length c = search needs
+same-length c = c .before .defect-list .given
 
 returns : tie.Need-returns
 returns c =

@@ -20,7 +20,7 @@ abbrev μ-loop : tie.MeasureT-loop
 μ-loop bytes n m i₀ i = m - i
 
 lesser-requires : tie.Need-lesser-requires Inv-loop μ-loop
-lesser-requires c κs = search needs
+lesser-requires c κs = tt
 
 loop-holds : tie.Need-loop-holds Inv-loop μ-loop
 loop-holds c = (search needs, c .lesser .ensures)
@@ -29,10 +29,10 @@ shared-slice-read-wide-byte : tie.Need-shared-slice-read-wide-byte Inv-loop μ-l
 shared-slice-read-wide-byte c = search needs
 
 wide-byte-requires : tie.Need-wide-byte-requires Inv-loop μ-loop
-wide-byte-requires c κs = search needs
+wide-byte-requires c κs = tt
 
 show-number-requires : tie.Need-show-number-requires Inv-loop μ-loop
-show-number-requires c κs = search needs
+show-number-requires c κs = tt
 
 add-i : tie.Need-add-i Inv-loop μ-loop
 add-i c = search needs
@@ -44,7 +44,7 @@ loop-again : tie.Need-loop-again Inv-loop μ-loop
 loop-again c = search needs
 
 end-line-requires : tie.Need-end-line-requires Inv-loop μ-loop
-end-line-requires c κs = search needs
+end-line-requires c κs = tt
 
 returns : tie.Need-returns Inv-loop μ-loop
 returns c = search needs

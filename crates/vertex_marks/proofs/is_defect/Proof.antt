@@ -1,13 +1,12 @@
 -- `vertex_marks::is_defect` meets its contract. Assumes nothing.
-use borrow.Author.Needs.{needs}
 use Rattle.vertex_marks.proofs.is_defect.Statement.{statement}
 use Rattle.vertex_marks.proofs.is_defect.Tie as tie
 
 marks-sound-requires : tie.Need-marks-sound-requires
-marks-sound-requires c κs = search needs
+marks-sound-requires c κs = tt
 
 is-marked-requires : tie.Need-is-marked-requires
-is-marked-requires c κs = search needs
+is-marked-requires c κs = tt
 
 returns : tie.Need-returns
 returns c = cc

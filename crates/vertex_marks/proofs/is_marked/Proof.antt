@@ -7,7 +7,6 @@ use Rattle.marks.specs.Marks.{isSet}
 use Rattle.vertex_marks.specs.Marked.{isDoor}
 use Rattle.code_room.proofs.Doors.{answer-zero, answer-no}
 use Rattle.vertex_marks.proofs.Below.{is-met}
-use borrow.Author.Needs.{needs}
 use Rattle.vertex_marks.proofs.is_marked.Statement.{statement}
 use Rattle.vertex_marks.proofs.is_marked.Tie as tie
 
@@ -16,22 +15,22 @@ number : (c : tie.After-asked3) → let s = c .before .before .before .before .b
 number c = cc
 
 at-most-requires : tie.Need-at-most-requires
-at-most-requires c κs = search needs
+at-most-requires c κs = tt
 
 vertex-count-sound-requires : tie.Need-vertex-count-sound-requires
-vertex-count-sound-requires c κs = search needs
+vertex-count-sound-requires c κs = tt
 
 both-requires : tie.Need-both-requires
-both-requires c κs = search needs
+both-requires c κs = tt
 
 asked-requires : tie.Need-asked-requires
-asked-requires c κs = search needs
+asked-requires c κs = tt
 
 asked-requires-2 : tie.Need-asked-requires-2
-asked-requires-2 c κs = search needs
+asked-requires-2 c κs = tt
 
 asked-requires-3 : tie.Need-asked-requires-3
-asked-requires-3 c κs = search needs
+asked-requires-3 c κs = tt
 
 shared-slice-read-is-set : tie.Need-shared-slice-read-is-set
 shared-slice-read-is-set c =
@@ -40,7 +39,7 @@ shared-slice-read-is-set c =
     omega (arith, is-met (s .sound) (s .vertex-num) (s .column .now) (s .vertex) z)
 
 is-set-requires : tie.Need-is-set-requires
-is-set-requires c κs = search needs
+is-set-requires c κs = tt
 
 returns : tie.Need-returns
 returns c =

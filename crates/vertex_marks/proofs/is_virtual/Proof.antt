@@ -1,13 +1,12 @@
 -- `vertex_marks::is_virtual` meets its contract. Assumes nothing.
-use borrow.Author.Needs.{needs}
 use Rattle.vertex_marks.proofs.is_virtual.Statement.{statement}
 use Rattle.vertex_marks.proofs.is_virtual.Tie as tie
 
 boundaries-sound-requires : tie.Need-boundaries-sound-requires
-boundaries-sound-requires c κs = search needs
+boundaries-sound-requires c κs = tt
 
 is-marked-requires : tie.Need-is-marked-requires
-is-marked-requires c κs = search needs
+is-marked-requires c κs = tt
 
 returns : tie.Need-returns
 returns c = cc

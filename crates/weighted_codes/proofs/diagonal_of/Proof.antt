@@ -2,14 +2,13 @@
 use mathlib.Core.Path.{_≡_, refl, sym, ap, _∙_}
 use mathlib.Core.Bool.{Bool, cond}
 use borrow.Author.Tests.{eq-eqb, ne-eqb}
-use borrow.Author.Needs.{needs}
 use Rattle.diagonals.specs.Diagonal.{newDiagonal}
 use Rattle.diagonals.specs.declared.DiagonalProbability.the-variants.{None}
 use Rattle.weighted_codes.proofs.diagonal_of.Statement.{statement}
 use Rattle.weighted_codes.proofs.diagonal_of.Tie as tie
 
 new-diagonal-probability-requires : tie.Need-new-diagonal-probability-requires
-new-diagonal-probability-requires c κs = search needs
+new-diagonal-probability-requires c κs = tt
 
 returns : tie.Need-returns
 returns c =

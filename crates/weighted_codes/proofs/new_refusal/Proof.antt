@@ -8,15 +8,14 @@ use Rattle.edge_weights.specs.Probabilities.{isProbability}
 use Rattle.diagonals.specs.Diagonal.{isDiagonalProbability}
 use Rattle.weights.specs.Calls.{isLargestHalfWeight}
 use Rattle.code_weights.specs.Steps.{doorNumber}
-use borrow.Author.Needs.{needs}
 use Rattle.weighted_codes.proofs.new_refusal.Statement.{statement}
 use Rattle.weighted_codes.proofs.new_refusal.Tie as tie
 
 refusal-of-requires : tie.Need-refusal-of-requires
-refusal-of-requires c κs = search needs
+refusal-of-requires c κs = tt
 
 weights-refusal-requires : tie.Need-weights-refusal-requires
-weights-refusal-requires c κs = search needs
+weights-refusal-requires c κs = tt
 
 returns : tie.Need-returns
 returns c =

@@ -48,49 +48,49 @@ stored q max ps l before column e f z =
     e ∙ ap (λ (x : Float). over (map (λ p. halfWeight max (edgeWeight p) x) ps) before) f ∙ sym (after-accepted q (halfWeights max ps) before z)
 
 at-most-requires : tie.Need-at-most-requires
-at-most-requires c κs = search needs
+at-most-requires c κs = tt
 
 at-most-requires-2 : tie.Need-at-most-requires-2
-at-most-requires-2 c κs = search needs
+at-most-requires-2 c κs = tt
 
 both-requires : tie.Need-both-requires
-both-requires c κs = search needs
+both-requires c κs = tt
 
 cast-at-most : tie.Need-cast-at-most
 cast-at-most c = search needs
 
 at-most-requires-3 : tie.Need-at-most-requires-3
-at-most-requires-3 c κs = search needs
+at-most-requires-3 c κs = tt
 
 is-largest-half-weight-requires : tie.Need-is-largest-half-weight-requires
-is-largest-half-weight-requires c κs = search needs
+is-largest-half-weight-requires c κs = tt
 
 are-probabilities-requires : tie.Need-are-probabilities-requires
-are-probabilities-requires c κs = search needs
+are-probabilities-requires c κs = tt
 
 largest-weight-requires : tie.Need-largest-weight-requires
-largest-weight-requires c κs = search needs
+largest-weight-requires c κs = tt
 
 is-above-zero-requires : tie.Need-is-above-zero-requires
-is-above-zero-requires c κs = search needs
+is-above-zero-requires c κs = tt
 
 asked-requires : tie.Need-asked-requires
-asked-requires c κs = search needs
+asked-requires c κs = tt
 
 asked-requires-2 : tie.Need-asked-requires-2
-asked-requires-2 c κs = search needs
+asked-requires-2 c κs = tt
 
 asked-requires-3 : tie.Need-asked-requires-3
-asked-requires-3 c κs = search needs
+asked-requires-3 c κs = tt
 
 asked-requires-4 : tie.Need-asked-requires-4
-asked-requires-4 c κs = search needs
+asked-requires-4 c κs = tt
 
 asked-requires-5 : tie.Need-asked-requires-5
-asked-requires-5 c κs = search needs
+asked-requires-5 c κs = tt
 
 done-of-requires : tie.Need-done-of-requires
-done-of-requires c κs = search needs
+done-of-requires c κs = tt
 
 returns : tie.Need-returns
 returns c =
@@ -108,7 +108,7 @@ store-half-weights-requires c κs =
     long (s .edge-num) (length (s .p .now)) (length (s .half-weight .now)) _ (sym (number (c .before .before)) ∙ c .before .if1 .left)
 
 same-length : tie.Need-same-length
-same-length c = search needs
+same-length c = c .before .half-weight .given
 
 returns-2 : tie.Need-returns-2
 returns-2 c =

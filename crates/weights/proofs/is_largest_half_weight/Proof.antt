@@ -1,10 +1,9 @@
 -- `weights::is_largest_half_weight` meets its contract. Assumes nothing.
-use borrow.Author.Needs.{needs}
 use Rattle.weights.proofs.is_largest_half_weight.Statement.{statement}
 use Rattle.weights.proofs.is_largest_half_weight.Tie as tie
 
 both-requires : tie.Need-both-requires
-both-requires c κs = search needs
+both-requires c κs = tt
 
 returns : tie.Need-returns
 returns c = c .both .ensures

@@ -20,7 +20,7 @@ abbrev μ-loop : tie.MeasureT-loop
 μ-loop p n m largest₀ i₀ l i = m - i
 
 lesser-requires : tie.Need-lesser-requires Inv-loop μ-loop
-lesser-requires c κs = search needs
+lesser-requires c κs = tt
 
 loop-holds : tie.Need-loop-holds Inv-loop μ-loop
 unfolding largest
@@ -33,10 +33,10 @@ shared-slice-read-edge-weight : tie.Need-shared-slice-read-edge-weight Inv-loop 
 shared-slice-read-edge-weight c = omega (arith, c .before .before .loop .inv .1)
 
 edge-weight-requires : tie.Need-edge-weight-requires Inv-loop μ-loop
-edge-weight-requires c κs = search needs
+edge-weight-requires c κs = tt
 
 larger-weight-requires : tie.Need-larger-weight-requires Inv-loop μ-loop
-larger-weight-requires c κs = search needs
+larger-weight-requires c κs = tt
 
 add-i : tie.Need-add-i Inv-loop μ-loop
 add-i c = omega (arith, c .before .before .before .before .loop .inv .1)

@@ -36,10 +36,10 @@ shared-slice-read-edge-weight : tie.Need-shared-slice-read-edge-weight Inv-loop 
 shared-slice-read-edge-weight c = search needs
 
 edge-weight-requires : tie.Need-edge-weight-requires Inv-loop μ-loop
-edge-weight-requires c κs = search needs
+edge-weight-requires c κs = tt
 
 half-weight-requires : tie.Need-half-weight-requires Inv-loop μ-loop
-half-weight-requires c κs = search needs
+half-weight-requires c κs = tt
 
 mul-column : tie.Need-mul-column Inv-loop μ-loop
 mul-column c = search needs

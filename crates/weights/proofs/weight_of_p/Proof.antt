@@ -1,7 +1,6 @@
 -- `weights::weight_of_p` meets its contract. Assumes nothing.
 use mathlib.Core.Path.{sym, ap, _∙_}
 use mathlib.Core.Bool.{Bool}
-use borrow.Author.Needs.{needs}
 use Rattle.columns.specs.Questions.{ask}
 use Rattle.edge_weights.specs.Logarithm.{edgeWeight}
 use Rattle.weights.specs.Answers.{weighed}
@@ -10,10 +9,10 @@ use Rattle.weights.proofs.weight_of_p.Statement.{statement}
 use Rattle.weights.proofs.weight_of_p.Tie as tie
 
 is-probability-requires : tie.Need-is-probability-requires
-is-probability-requires c κs = search needs
+is-probability-requires c κs = tt
 
 edge-weight-requires : tie.Need-edge-weight-requires
-edge-weight-requires c κs = search needs
+edge-weight-requires c κs = tt
 
 returns : tie.Need-returns
 returns c =

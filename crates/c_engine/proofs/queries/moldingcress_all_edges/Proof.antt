@@ -1,40 +1,39 @@
 -- `c_engine::queries::moldingcress_all_edges` meets its contract: it hands on what `complete_graph` promises. Assumes nothing.
-use borrow.Author.Needs.{needs}
 use Rattle.c_engine.proofs.queries.moldingcress_all_edges.Statement.{statement}
 use Rattle.c_engine.proofs.queries.moldingcress_all_edges.Tie as tie
 
 all-edges-requires : tie.Need-all-edges-requires
-all-edges-requires c κs = search needs
+all-edges-requires c κs = tt
 
 done-number-requires : tie.Need-done-number-requires
-done-number-requires c κs = search needs
+done-number-requires c κs = tt
 
 same-length : tie.Need-same-length
-same-length c = search needs
+same-length c = c .before .before .before .before .before .before .before .before .before .before .before .before .before .before .before .before .before .out-weight .given
 
 same-length-2 : tie.Need-same-length-2
-same-length-2 c = search needs
+same-length-2 c = c .before .before .before .before .before .before .before .before .before .before .before .before .before .before .before .before .out-previous .given
 
 same-length-3 : tie.Need-same-length-3
-same-length-3 c = search needs
+same-length-3 c = c .before .before .before .before .before .before .before .before .before .before .before .before .before .before .numbers .given
 
 same-length-4 : tie.Need-same-length-4
-same-length-4 c = search needs
+same-length-4 c = c .before .before .before .before .before .before .before .before .before .before .before .before .list-ends .given
 
 same-length-5 : tie.Need-same-length-5
-same-length-5 c = search needs
+same-length-5 c = c .before .before .before .before .before .before .before .before .before .before .status .given
 
 same-length-6 : tie.Need-same-length-6
-same-length-6 c = search needs
+same-length-6 c = c .before .before .before .before .before .before .before .before .weight .given
 
 same-length-7 : tie.Need-same-length-7
-same-length-7 c = search needs
+same-length-7 c = c .before .before .before .before .before .before .previous .given
 
 same-length-8 : tie.Need-same-length-8
-same-length-8 c = search needs
+same-length-8 c = c .before .before .before .before .node .given
 
 same-length-9 : tie.Need-same-length-9
-same-length-9 c = search needs
+same-length-9 c = c .before .before .leaf .given
 
 returns : tie.Need-returns
 returns c =

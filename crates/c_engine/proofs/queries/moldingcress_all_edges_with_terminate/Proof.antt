@@ -1,5 +1,4 @@
 -- `c_engine::queries::moldingcress_all_edges_with_terminate` meets its contract: it hands on what `complete_graph` promises. Assumes nothing.
-use borrow.Author.Needs.{needs}
 use Rattle.c_engine.proofs.Ends.{ended}
 use Rattle.c_engine.proofs.queries.moldingcress_all_edges_with_terminate.Statement.{
   statement,
@@ -7,40 +6,40 @@ use Rattle.c_engine.proofs.queries.moldingcress_all_edges_with_terminat
 use Rattle.c_engine.proofs.queries.moldingcress_all_edges_with_terminate.Tie as tie
 
 end-of-requires : tie.Need-end-of-requires
-end-of-requires c κs = search needs
+end-of-requires c κs = tt
 
 all-edges-with-terminate-requires : tie.Need-all-edges-with-terminate-requires
-all-edges-with-terminate-requires c κs = search needs
+all-edges-with-terminate-requires c κs = tt
 
 done-number-requires : tie.Need-done-number-requires
-done-number-requires c κs = search needs
+done-number-requires c κs = tt
 
 same-length : tie.Need-same-length
-same-length c = search needs
+same-length c = c .before .before .before .before .before .before .before .before .before .before .before .before .before .before .before .before .before .out-weight .given
 
 same-length-2 : tie.Need-same-length-2
-same-length-2 c = search needs
+same-length-2 c = c .before .before .before .before .before .before .before .before .before .before .before .before .before .before .before .before .out-previous .given
 
 same-length-3 : tie.Need-same-length-3
-same-length-3 c = search needs
+same-length-3 c = c .before .before .before .before .before .before .before .before .before .before .before .before .before .before .numbers .given
 
 same-length-4 : tie.Need-same-length-4
-same-length-4 c = search needs
+same-length-4 c = c .before .before .before .before .before .before .before .before .before .before .before .before .list-ends .given
 
 same-length-5 : tie.Need-same-length-5
-same-length-5 c = search needs
+same-length-5 c = c .before .before .before .before .before .before .before .before .before .before .status .given
 
 same-length-6 : tie.Need-same-length-6
-same-length-6 c = search needs
+same-length-6 c = c .before .before .before .before .before .before .before .before .weight .given
 
 same-length-7 : tie.Need-same-length-7
-same-length-7 c = search needs
+same-length-7 c = c .before .before .before .before .before .before .previous .given
 
 same-length-8 : tie.Need-same-length-8
-same-length-8 c = search needs
+same-length-8 c = c .before .before .before .before .node .given
 
 same-length-9 : tie.Need-same-length-9
-same-length-9 c = search needs
+same-length-9 c = c .before .before .leaf .given
 
 returns : tie.Need-returns
 returns c =

@@ -8,7 +8,6 @@ use lib.Dec.{leb, eqb}
 use lib.ListN.{length, getD, take, drop, length-drop}
 use lib.Seq.{getD-drop}
 use borrow.Author.Tests.{leb-true, le-leb, lt-leb, eq-eqb, ne-eqb, not-true, not-false}
-use borrow.Author.Needs.{needs}
 use Rattle.columns.specs.Questions.{all}
 use Rattle.columns.proofs.Tests.{all-more, all-fails, all-end}
 use Rattle.code_line.specs.Line.{isDigit, isHexDigit, digits, digitOf, hexDigitOf, number, decimalSound, hexSound}
@@ -40,7 +39,7 @@ shared-slice-read-is-hex-digit : tie.Need-shared-slice-read-is-hex-digit Inv-loo
 shared-slice-read-is-hex-digit c = omega arith
 
 is-hex-digit-requires : tie.Need-is-hex-digit-requires Inv-loop μ-loop
-is-hex-digit-requires c κs = search needs
+is-hex-digit-requires c κs = tt
 
 returns : tie.Need-returns Inv-loop μ-loop
 returns c =

@@ -17,25 +17,25 @@ use Rattle.code_line.proofs.fields.decimal_sound.Statement.{statement}
 use Rattle.code_line.proofs.fields.decimal_sound.Tie as tie
 
 both-requires : tie.Need-both-requires
-both-requires c κs = search needs
+both-requires c κs = tt
 
 byte-at-requires : tie.Need-byte-at-requires
-byte-at-requires c κs = search needs
+byte-at-requires c κs = tt
 
 no-leading-zero-requires : tie.Need-no-leading-zero-requires
-no-leading-zero-requires c κs = search needs
+no-leading-zero-requires c κs = tt
 
 add-byte-at : tie.Need-add-byte-at
 add-byte-at c = search needs
 
 byte-at-requires-2 : tie.Need-byte-at-requires-2
-byte-at-requires-2 c κs = search needs
+byte-at-requires-2 c κs = tt
 
 both-requires-2 : tie.Need-both-requires-2
-both-requires-2 c κs = search needs
+both-requires-2 c κs = tt
 
 both-requires-3 : tie.Need-both-requires-3
-both-requires-3 c κs = search needs
+both-requires-3 c κs = tt
 
 returns : tie.Need-returns
 unfolding decimalSound

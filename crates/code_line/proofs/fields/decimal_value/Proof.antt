@@ -8,7 +8,6 @@ use lib.Dec.{leb, eqb}
 use lib.ListN.{length, getD, take, drop, length-drop}
 use lib.Seq.{getD-drop}
 use borrow.Author.Tests.{leb-true, le-leb, lt-leb, eq-eqb, ne-eqb, not-true, not-false}
-use borrow.Author.Needs.{needs}
 use Rattle.columns.specs.Questions.{all}
 use Rattle.columns.proofs.Tests.{all-more, all-fails, all-end}
 use Rattle.code_line.specs.Line.{isDigit, isHexDigit, digits, digitOf, hexDigitOf, number, decimalSound, hexSound}
@@ -38,7 +37,7 @@ shared-slice-read-digit-of : tie.Need-shared-slice-read-digit-of Inv-loop μ-loo
 shared-slice-read-digit-of c = omega (arith, c .before .before .before .before .pre .1, length-drop (c .before .before .before .before .args .at) (c .before .before .before .before .args .text .now))
 
 digit-of-requires : tie.Need-digit-of-requires Inv-loop μ-loop
-digit-of-requires c κs = search needs
+digit-of-requires c κs = tt
 
 add-v : tie.Need-add-v Inv-loop μ-loop
 add-v c = omega (arith, c .before .before .before .loop .inv .1, decimal-small (drop (c .before .before .before .before .before .args .at) (c .before .before .before .before .before .args .text .now)) ((c .before .before .before .loop .i) + 1) (omega (arith, c .before .before .before .before .before .pre .0, c .before .before .before .before .before .pre .2)) (omega (arith, c .before .before .before .before .before .pre .0, c .before .before .before .before .before .pre .2)), number-more 10 digitOf (drop (c .before .before .before .before .before .args .at) (c .before .before .before .before .before .args .text .now)) (c .before .before .before .loop .i) (omega (arith, c .before .before .before .before .before .pre .1, length-drop (c .before .before .before .before .before .args .at) (c .before .before .before .before .before .args .text .now))), c .digit-of .ensures, ap digitOf (getD-drop (c .before .before .before .before .before .args .at) (c .before .before .before .before .before .args .text .now) (c .before .before .before .loop .i) 0))

@@ -17,7 +17,7 @@ use Rattle.code_line.proofs.fields.hex_digit_of.Statement.{statement}
 use Rattle.code_line.proofs.fields.hex_digit_of.Tie as tie
 
 digit-of-requires : tie.Need-digit-of-requires
-digit-of-requires c κs = search needs
+digit-of-requires c κs = tt
 
 cast-result : tie.Need-cast-result
 cast-result c = search needs

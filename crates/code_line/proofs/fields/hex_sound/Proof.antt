@@ -31,10 +31,10 @@ add-byte-at : tie.Need-add-byte-at
 add-byte-at c = search needs
 
 byte-at-requires : tie.Need-byte-at-requires
-byte-at-requires c κs = search needs
+byte-at-requires c κs = tt
 
 both-requires : tie.Need-both-requires
-both-requires c κs = search needs
+both-requires c κs = tt
 
 returns-2 : tie.Need-returns-2
 unfolding hexSound

@@ -8,7 +8,6 @@ use lib.Dec.{leb, eqb}
 use lib.ListN.{length, getD, take, drop, length-drop}
 use lib.Seq.{getD-drop}
 use borrow.Author.Tests.{leb-true, le-leb, lt-leb, eq-eqb, ne-eqb, not-true, not-false}
-use borrow.Author.Needs.{needs}
 use Rattle.columns.specs.Questions.{all}
 use Rattle.columns.proofs.Tests.{all-more, all-fails, all-end}
 use Rattle.code_line.specs.Line.{isDigit, isHexDigit, digits, digitOf, hexDigitOf, number, decimalSound, hexSound}
@@ -38,7 +37,7 @@ shared-slice-read-hex-digit-of : tie.Need-shared-slice-read-hex-digit-of Inv-loo
 shared-slice-read-hex-digit-of c = omega (arith, c .before .before .before .before .pre .0, length-drop (c .before .before .before .before .args .at) (c .before .before .before .before .args .text .now))
 
 hex-digit-of-requires : tie.Need-hex-digit-of-requires Inv-loop μ-loop
-hex-digit-of-requires c κs = search needs
+hex-digit-of-requires c κs = tt
 
 add-v : tie.Need-add-v Inv-loop μ-loop
 add-v c = omega (arith, c .before .before .before .loop .inv .1, hex-small (drop (c .before .before .before .before .before .args .at) (c .before .before .before .before .before .args .text .now)) ((c .before .before .before .loop .i) + 1) (c .before .before .before .before .before .pre .1) (omega arith), number-more 16 hexDigitOf (drop (c .before .before .before .before .before .args .at) (c .before .before .before .before .before .args .text .now)) (c .before .before .before .loop .i) (omega (arith, c .before .before .before .before .before .pre .0, length-drop (c .before .before .before .before .before .args .at) (c .before .before .before .before .before .args .text .now))), c .hex-digit-of .ensures, ap hexDigitOf (getD-drop (c .before .before .before .before .before .args .at) (c .before .before .before .before .before .args .text .now) (c .before .before .before .loop .i) 0))

@@ -12,18 +12,17 @@ use Rattle.columns.specs.Questions.{all}
 use Rattle.columns.proofs.Tests.{all-more, all-fails, all-end}
 use Rattle.code_line.specs.Line.{isDigit, isHexDigit, digits, digitOf, hexDigitOf, number, decimalSound, hexSound}
 use Rattle.code_line.proofs.Runs.{digits-within, seen-none, seen-next, seen-stop, seen-end, number-more, number-none, decimal-small, hex-small}
-use borrow.Author.Needs.{needs}
 use Rattle.code_line.proofs.fields.is_hex_digit.Statement.{statement}
 use Rattle.code_line.proofs.fields.is_hex_digit.Tie as tie
 
 is-digit-requires : tie.Need-is-digit-requires
-is-digit-requires c κs = search needs
+is-digit-requires c κs = tt
 
 both-requires : tie.Need-both-requires
-both-requires c κs = search needs
+both-requires c κs = tt
 
 either-requires : tie.Need-either-requires
-either-requires c κs = search needs
+either-requires c κs = tt
 
 returns : tie.Need-returns
 returns c = c .either .ensures ∙ (λ k. (c .before .before .is-digit .ensures k) || (c .before .both .ensures k))

@@ -8,7 +8,7 @@ enum-known-reply : tie.Need-enum-known-reply
 enum-known-reply c = search needs
 
 write-refusal-requires : tie.Need-write-refusal-requires
-write-refusal-requires c κs = search needs
+write-refusal-requires c κs = tt
 
 enum-known-reply-2 : tie.Need-enum-known-reply-2
 enum-known-reply-2 c = search needs
@@ -17,7 +17,7 @@ write-listing-requires : tie.Need-write-listing-requires
 write-listing-requires c κs = search needs
 
 same-length : tie.Need-same-length
-same-length c = search needs
+same-length c = c .before .text .given
 
 returns : tie.Need-returns
 returns c =
@@ -25,7 +25,7 @@ returns c =
     refused-reply _ _ _ _ _ _ _ _ _ (s .reply) _ (c .before .before .write-refusal .ensures) (let t = c .before .before .before .before .before .reply .given in let u = c .before .before .before .before .known-told .given in cc)
 
 same-length-2 : tie.Need-same-length-2
-same-length-2 c = search needs
+same-length-2 c = c .before .text2 .given
 
 returns-2 : tie.Need-returns-2
 returns-2 c =

@@ -6,7 +6,6 @@ use Rattle.code_listing.specs.Steps.{HoldsCode, HoldsWeights}
 use Rattle.code_listing.proofs.Holds.{h-few, h-long, holds-weights}
 use Rattle.code_listing.proofs.Crossed.{lengths}
 use Rattle.code_listing.proofs.Texts.{listed-reply}
-use borrow.Author.Needs.{needs}
 use Rattle.code_listing.proofs.built.write_weighed.Statement.{statement}
 use Rattle.code_listing.proofs.built.write_weighed.Tie as tie
 
@@ -26,10 +25,10 @@ write-reply-requires c κs =
     ((h .few-vertices, w .3, h .few-edges, w .0, w .1), w .2)
 
 same-length : tie.Need-same-length
-same-length c = search needs
+same-length c = c .before .before .before .before .before .before .before .before .weights .given
 
 same-length-2 : tie.Need-same-length-2
-same-length-2 c = search needs
+same-length-2 c = c .before .text .given
 
 returns : tie.Need-returns
 returns c =

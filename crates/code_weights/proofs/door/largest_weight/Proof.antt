@@ -7,24 +7,23 @@ use Rattle.columns.specs.Places.{zeroFloat}
 use Rattle.edge_weights.specs.Logarithm.{edgeWeight}
 use Rattle.weights.specs.Calls.{larger}
 use Rattle.code_weights.specs.Steps.{diagonalP, largestOf}
-use borrow.Author.Needs.{needs}
 use Rattle.code_weights.proofs.door.largest_weight.Statement.{statement}
 use Rattle.code_weights.proofs.door.largest_weight.Tie as tie
 
 edge-weight-requires : tie.Need-edge-weight-requires
-edge-weight-requires c κs = search needs
+edge-weight-requires c κs = tt
 
 larger-weight-requires : tie.Need-larger-weight-requires
-larger-weight-requires c κs = search needs
+larger-weight-requires c κs = tt
 
 diagonal-p-requires : tie.Need-diagonal-p-requires
-diagonal-p-requires c κs = search needs
+diagonal-p-requires c κs = tt
 
 edge-weight-requires-2 : tie.Need-edge-weight-requires-2
-edge-weight-requires-2 c κs = search needs
+edge-weight-requires-2 c κs = tt
 
 larger-weight-requires-2 : tie.Need-larger-weight-requires-2
-larger-weight-requires-2 c κs = search needs
+larger-weight-requires-2 c κs = tt
 
 returns : tie.Need-returns
 unfolding largestOf

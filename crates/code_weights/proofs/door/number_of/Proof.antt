@@ -5,18 +5,17 @@ use Prim.Native.Nat.{ℕ}
 use borrow.Author.Tests.{eq-eqb, ne-eqb}
 use Rattle.columns.specs.Questions.{ask}
 use Rattle.code_weights.specs.Steps.{doorNumber}
-use borrow.Author.Needs.{needs}
 use Rattle.code_weights.proofs.door.number_of.Statement.{statement}
 use Rattle.code_weights.proofs.door.number_of.Tie as tie
 
 asked-requires : tie.Need-asked-requires
-asked-requires c κs = search needs
+asked-requires c κs = tt
 
 asked-requires-2 : tie.Need-asked-requires-2
-asked-requires-2 c κs = search needs
+asked-requires-2 c κs = tt
 
 asked-requires-3 : tie.Need-asked-requires-3
-asked-requires-3 c κs = search needs
+asked-requires-3 c κs = tt
 
 returns : tie.Need-returns
 unfolding doorNumber

@@ -2,27 +2,26 @@
 use mathlib.Core.Path.{_≡_, refl, sym, ap, _∙_}
 use mathlib.Core.Bool.{_&&_}
 use Rattle.code_weights.specs.Steps.{doorNumber}
-use borrow.Author.Needs.{needs}
 use Rattle.code_weights.proofs.door.weights_refusal.Statement.{statement}
 use Rattle.code_weights.proofs.door.weights_refusal.Tie as tie
 
 is-largest-half-weight-requires : tie.Need-is-largest-half-weight-requires
-is-largest-half-weight-requires c κs = search needs
+is-largest-half-weight-requires c κs = tt
 
 is-probability-requires : tie.Need-is-probability-requires
-is-probability-requires c κs = search needs
+is-probability-requires c κs = tt
 
 is-diagonal-probability-requires : tie.Need-is-diagonal-probability-requires
-is-diagonal-probability-requires c κs = search needs
+is-diagonal-probability-requires c κs = tt
 
 both-requires : tie.Need-both-requires
-both-requires c κs = search needs
+both-requires c κs = tt
 
 is-above-zero-requires : tie.Need-is-above-zero-requires
-is-above-zero-requires c κs = search needs
+is-above-zero-requires c κs = tt
 
 number-of-requires : tie.Need-number-of-requires
-number-of-requires c κs = search needs
+number-of-requires c κs = tt
 
 returns : tie.Need-returns
 returns c =

@@ -11,7 +11,6 @@ use Rattle.columns.specs.Lists.{each}
 use Rattle.columns.proofs.Counting.{store-each}
 use Rattle.code_weights.specs.declared.Weighed.{Weighed}
 use Rattle.code_weights.specs.Steps.{diagonalAt}
-use borrow.Author.Needs.{needs}
 use Rattle.code_weights.proofs.weigh.weigh_edges.Statement.{statement}
 use Rattle.code_weights.proofs.weigh.weigh_edges.Tie as tie
 
@@ -47,7 +46,7 @@ diagonal-at-requires c κs =
     omega (arith, r .room-a, r .room-b)
 
 picked-requires : tie.Need-picked-requires Inv-loop μ-loop
-picked-requires c κs = search needs
+picked-requires c κs = tt
 
 store-weighed-requires : tie.Need-store-weighed-requires Inv-loop μ-loop
 store-weighed-requires c κs =

@@ -2,15 +2,14 @@
 use mathlib.Core.Path.{_≡_, refl, sym, ap, _∙_}
 use lib.Ieee.{Float}
 use Rattle.edge_weights.specs.Rounding.{halfWeight}
-use borrow.Author.Needs.{needs}
 use Rattle.code_weights.proofs.weigh.weighed.Statement.{statement}
 use Rattle.code_weights.proofs.weigh.weighed.Tie as tie
 
 edge-weight-requires : tie.Need-edge-weight-requires
-edge-weight-requires c κs = search needs
+edge-weight-requires c κs = tt
 
 half-weight-requires : tie.Need-half-weight-requires
-half-weight-requires c κs = search needs
+half-weight-requires c κs = tt
 
 returns : tie.Need-returns
 returns c =

@@ -1,17 +1,16 @@
 -- `columns::VisualizePosition::load` meets its contract. Assumes nothing.
-use borrow.Author.Needs.{needs}
 use Rattle.columns.proofs.VisualizePosition.load.Statement.{statement}
 use Rattle.columns.proofs.VisualizePosition.load.Tie as tie
 use Rattle.columns.specs.Places.{position}
 
 load-f64-requires : tie.Need-load-f64-requires
-load-f64-requires c κs = search needs
+load-f64-requires c κs = tt
 
 load-f64-requires-2 : tie.Need-load-f64-requires-2
-load-f64-requires-2 c κs = search needs
+load-f64-requires-2 c κs = tt
 
 load-f64-requires-3 : tie.Need-load-f64-requires-3
-load-f64-requires-3 c κs = search needs
+load-f64-requires-3 c κs = tt
 
 returns : tie.Need-returns
 returns c = λ k. position (c .before .before .load-f64 .ensures k) (c .before .load-f642 .ensures k) (c .load-f643 .ensures k)

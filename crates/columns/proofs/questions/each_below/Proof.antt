@@ -2,12 +2,11 @@
 use mathlib.Core.Path.{ap, _∙_}
 use lib.Seq.{take-length}
 use Rattle.columns.specs.Questions.{allBelow}
-use borrow.Author.Needs.{needs}
 use Rattle.columns.proofs.questions.each_below.Statement.{statement}
 use Rattle.columns.proofs.questions.each_below.Tie as tie
 
 all-below-requires : tie.Need-all-below-requires
-all-below-requires c κs = search needs
+all-below-requires c κs = tt
 
 returns : tie.Need-returns
 returns c = let s = c .before .before .args in c .all-below .ensures ∙ ap (allBelow (s .limit)) (take-length (s .list .now))

@@ -3,12 +3,11 @@ use mathlib.Core.Path.{ap, _∙_}
 use lib.Seq.{take-length}
 use Rattle.columns.specs.Questions.{allWithin}
 use Rattle.columns.specs.Limits.{weightLimit}
-use borrow.Author.Needs.{needs}
 use Rattle.columns.proofs.questions.each_weight_sound.Statement.{statement}
 use Rattle.columns.proofs.questions.each_weight_sound.Tie as tie
 
 weights-within-requires : tie.Need-weights-within-requires
-weights-within-requires c κs = search needs
+weights-within-requires c κs = tt
 
 returns : tie.Need-returns
 returns c = let s = c .before .before .args in c .weights-within .ensures ∙ ap (allWithin weightLimit) (take-length (s .list .now))

@@ -32,7 +32,7 @@ loop-again : tie.Need-loop-again Inv-loop μ-loop
 loop-again c = (omega arith, turn (c .before .before .loop .k) (c .before .before .loop .q) (c .before .loop-test .taken) (c .if2 .left) ∙ c .before .before .loop .inv .1)
 
 sum-series-requires : tie.Need-sum-series-requires Inv-loop μ-loop
-sum-series-requires c κs = search needs
+sum-series-requires c κs = tt
 
 int-to-float-result : tie.Need-int-to-float-result Inv-loop μ-loop
 int-to-float-result c = search needs

@@ -9,7 +9,6 @@ use Rattle.layers.proofs.Accepted.{accepted}
 use Rattle.layers.proofs.Counted.{edges-counted}
 use Rattle.code_graphs.proofs.AllEdges.{vertices-are}
 use Rattle.example_codes.proofs.Filled.{filled, written}
-use borrow.Author.Needs.{needs}
 use Rattle.example_codes.proofs.create.fill_edges.Statement.{statement}
 use Rattle.example_codes.proofs.create.fill_edges.Tie as tie
 
@@ -22,34 +21,34 @@ code-edges-requires c κs =
     (record { room-a = omega (arith, l .long-a); room-b = omega (arith, l .long-b) }, omega (arith, ok .distance .three, ok .distance .few, ok .few-rounds, ok .few-vertices, vertices-are (s .kind) (s .d) (s .rounds) ok))
 
 fill-f64-requires : tie.Need-fill-f64-requires
-fill-f64-requires c κs = search needs
+fill-f64-requires c κs = tt
 
 fill-f64-requires-2 : tie.Need-fill-f64-requires-2
-fill-f64-requires-2 c κs = search needs
+fill-f64-requires-2 c κs = tt
 
 fill-u32-requires : tie.Need-fill-u32-requires
-fill-u32-requires c κs = search needs
+fill-u32-requires c κs = tt
 
 fill-u8-requires : tie.Need-fill-u8-requires
-fill-u8-requires c κs = search needs
+fill-u8-requires c κs = tt
 
 same-length : tie.Need-same-length
-same-length c = search needs
+same-length c = c .before .before .before .before .before .before .before .before .before .before .before .before .before .before .before .before .before .before .before .ends-a .given
 
 same-length-2 : tie.Need-same-length-2
-same-length-2 c = search needs
+same-length-2 c = c .before .before .before .before .before .before .before .before .before .before .before .before .before .before .before .before .before .ends-b .given
 
 same-length-3 : tie.Need-same-length-3
-same-length-3 c = search needs
+same-length-3 c = c .before .before .before .before .before .before .before .before .before .before .before .before .before .p .given
 
 same-length-4 : tie.Need-same-length-4
-same-length-4 c = search needs
+same-length-4 c = c .before .before .before .before .before .before .before .before .before .pe .given
 
 same-length-5 : tie.Need-same-length-5
-same-length-5 c = search needs
+same-length-5 c = c .before .before .before .before .before .half-weight .given
 
 same-length-6 : tie.Need-same-length-6
-same-length-6 c = search needs
+same-length-6 c = c .before .erasure .given
 
 returns : tie.Need-returns
 returns c =

@@ -8,7 +8,6 @@ use Rattle.layers.proofs.Accepted.{accepted}
 use Rattle.layers.proofs.Counted.{vertices-counted}
 use Rattle.code_graphs.proofs.AllEdges.{vertices-are}
 use Rattle.example_codes.proofs.Filled.{filled, written}
-use borrow.Author.Needs.{needs}
 use Rattle.example_codes.proofs.create.fill_vertices.Statement.{statement}
 use Rattle.example_codes.proofs.create.fill_vertices.Tie as tie
 
@@ -21,22 +20,22 @@ code-vertices-requires c κs =
     (record { room-m = omega (arith, l .long-m); room-i = omega (arith, l .long-i); room-j = omega (arith, l .long-j); room-t = omega (arith, l .long-t) }, omega (arith, ok .distance .three, ok .distance .few, ok .few-rounds))
 
 fill-u8-requires : tie.Need-fill-u8-requires
-fill-u8-requires c κs = search needs
+fill-u8-requires c κs = tt
 
 same-length : tie.Need-same-length
-same-length c = search needs
+same-length c = c .before .before .before .before .before .before .before .before .before .pos-i .given
 
 same-length-2 : tie.Need-same-length-2
-same-length-2 c = search needs
+same-length-2 c = c .before .before .before .before .before .before .before .pos-j .given
 
 same-length-3 : tie.Need-same-length-3
-same-length-3 c = search needs
+same-length-3 c = c .before .before .before .before .before .pos-t .given
 
 same-length-4 : tie.Need-same-length-4
-same-length-4 c = search needs
+same-length-4 c = c .before .before .before .before .before .before .before .before .before .before .before .boundary .given
 
 same-length-5 : tie.Need-same-length-5
-same-length-5 c = search needs
+same-length-5 c = c .before .defect .given
 
 returns : tie.Need-returns
 returns c =

@@ -7,10 +7,10 @@ use Rattle.example_codes.proofs.create.refusal_of.Statement.{statement}
 use Rattle.example_codes.proofs.create.refusal_of.Tie as tie
 
 distance-within-requires : tie.Need-distance-within-requires
-distance-within-requires c κs = search needs
+distance-within-requires c κs = tt
 
 rounds-within-requires : tie.Need-rounds-within-requires
-rounds-within-requires c κs = search needs
+rounds-within-requires c κs = tt
 
 vertex-num-requires : tie.Need-vertex-num-requires
 vertex-num-requires c κs = search needs
@@ -22,10 +22,10 @@ long-enough-requires : tie.Need-long-enough-requires
 long-enough-requires c κs = omega (arith, c .edge-num .ensures .1)
 
 asked-requires : tie.Need-asked-requires
-asked-requires c κs = search needs
+asked-requires c κs = tt
 
 code-refusal-requires : tie.Need-code-refusal-requires
-code-refusal-requires c κs = search needs
+code-refusal-requires c κs = tt
 
 returns : tie.Need-returns
 returns c = c .code-refusal .ensures ∙ question-6 (c .before .before .before .before .before .before .before .args .kind) (c .before .before .before .before .before .before .before .args .d) (c .before .before .before .before .before .before .before .args .rounds) (c .before .before .before .before .before .before .before .args .vertex-room) (c .before .before .before .before .before .before .before .args .edge-room) (c .before .before .before .before .before .before .before .args .numbers) (c .before .before .before .before .before .before .distance-within .result) (c .before .before .before .before .before .rounds-within .result) (c .before .asked .result) (c .before .before .long-enough .result) (c .before .before .before .before .vertex-num .result) (c .before .before .before .edge-num .result) (c .before .asked .ensures) (c .before .before .long-enough .ensures) (c .before .before .before .before .vertex-num .ensures) (c .before .before .before .edge-num .ensures .0) (c .before .before .before .before .before .before .distance-within .ensures .2) (c .before .before .before .before .before .rounds-within .ensures .1)

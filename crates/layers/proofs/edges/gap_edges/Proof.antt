@@ -28,10 +28,10 @@ unfolding planarGap
 straight-rows-requires c κs = (room-as (planar-gaps (c .before .before .before .before .before .args .kind) (c .before .before .before .before .before .args .d) (c .before .before .before .before .before .args .base) (c .before .before .if1 .taken)) (c .before .before .before .before .before .pre .0), omega (arith, planar-rows (c .before .before .before .before .before .args .kind) (c .before .before .before .before .before .args .d) (λ q. omega arith) (omega arith)))
 
 same-length : tie.Need-same-length
-same-length c = search needs
+same-length c = c .before .before .before .ends-a .given
 
 same-length-2 : tie.Need-same-length-2
-same-length-2 c = search needs
+same-length-2 c = c .before .ends-b .given
 
 returns : tie.Need-returns
 unfolding planarGap
@@ -41,10 +41,10 @@ circuit-gap-requires : tie.Need-circuit-gap-requires
 circuit-gap-requires c κs = (room-as (circuit-gaps (c .before .before .before .before .before .before .args .kind) (c .before .before .before .before .before .before .args .d) (c .before .before .before .before .before .before .args .base) (c .before .before .if2 .taken)) (c .before .before .before .before .before .before .pre .0), omega (arith, planar-rows (c .before .before .before .before .before .before .args .kind) (c .before .before .before .before .before .before .args .d) (λ q. omega arith) (omega arith)))
 
 same-length-3 : tie.Need-same-length-3
-same-length-3 c = search needs
+same-length-3 c = c .before .before .before .ends-a2 .given
 
 same-length-4 : tie.Need-same-length-4
-same-length-4 c = search needs
+same-length-4 c = c .before .ends-b2 .given
 
 returns-2 : tie.Need-returns-2
 returns-2 c = wrote-as (sym (circuit-gaps (c .before .before .before .before .before .before .before .before .before .before .before .args .kind) (c .before .before .before .before .before .before .before .before .before .before .before .args .d) (c .before .before .before .before .before .before .before .before .before .before .before .args .base) (c .before .before .before .before .before .before .before .if2 .taken))) (c .before .before .before .before .circuit-gap .ensures)
@@ -69,10 +69,10 @@ unfolding rotatedGap
 straight-rows-requires-2 c κs = (room-as (rotated-gaps (c .before .before .before .before .before .before .before .args .kind) (c .before .before .before .before .before .before .before .args .d) (c .before .before .before .before .before .before .before .args .base) (c .before .before .if3 .taken)) (c .before .before .before .before .before .before .before .pre .0), omega (arith, rotated-rows (c .before .before .before .before .before .before .before .args .kind) (c .before .before .before .before .before .before .before .args .d) (omega arith), mul-comm (rotatedWidth (c .before .before .before .before .before .before .before .args .d)) (c .before .before .before .before .before .before .before .args .d + 1)))
 
 same-length-5 : tie.Need-same-length-5
-same-length-5 c = search needs
+same-length-5 c = c .before .before .before .ends-a3 .given
 
 same-length-6 : tie.Need-same-length-6
-same-length-6 c = search needs
+same-length-6 c = c .before .ends-b3 .given
 
 returns-3 : tie.Need-returns-3
 unfolding rotatedGap

@@ -1,11 +1,10 @@
 -- `layers::vertices::time_of` meets its contract. Assumes nothing.
 use borrow.Author.Tests.{eq-eqb, ne-eqb}
-use borrow.Author.Needs.{needs}
 use Rattle.layers.proofs.vertices.time_of.Statement.{statement}
 use Rattle.layers.proofs.vertices.time_of.Tie as tie
 
 rotated-time-requires : tie.Need-rotated-time-requires
-rotated-time-requires c κs = search needs
+rotated-time-requires c κs = tt
 
 returns : tie.Need-returns
 returns c = simp (eq-eqb _ _ (c .before .if1 .taken)) (c .rotated-time .ensures)

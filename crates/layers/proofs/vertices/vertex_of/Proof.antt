@@ -23,7 +23,7 @@ unfolding vertexOf
 returns-2 c = simp (lt-leb _ _ (c .before .before .if1 .left), le-leb _ _ (c .before .if2 .taken)) (c .deep-vertex .ensures)
 
 time-of-requires : tie.Need-time-of-requires
-time-of-requires c κs = search needs
+time-of-requires c κs = tt
 
 sub-rotated-vertex : tie.Need-sub-rotated-vertex
 sub-rotated-vertex c = search needs

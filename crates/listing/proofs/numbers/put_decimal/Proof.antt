@@ -9,7 +9,6 @@ use lib.Seq.{sets}
 use Rattle.listing.specs.Text.{sizeIn, digitsOf, decimal}
 use Rattle.listing.specs.Steps.{Put}
 use Rattle.listing.proofs.Sizes.{digits-long, digit-next}
-use borrow.Author.Needs.{needs}
 use Rattle.listing.proofs.numbers.put_decimal.Statement.{statement}
 use Rattle.listing.proofs.numbers.put_decimal.Tie as tie
 
@@ -33,7 +32,7 @@ abbrev μ-loop : tie.MeasureT-loop
 μ-loop text₀ at n next₀ k₀ text next k = k
 
 size-requires : tie.Need-size-requires Inv-loop μ-loop
-size-requires c κs = search needs
+size-requires c κs = tt
 
 loop-holds : tie.Need-loop-holds Inv-loop μ-loop
 loop-holds c =

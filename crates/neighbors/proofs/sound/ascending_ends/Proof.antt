@@ -5,7 +5,6 @@ use mathlib.Core.Bool.{true≢false}
 use native.Mathlib.Omega.{arith}
 use lib.Dec.{leb}
 use borrow.Author.Tests.{not-false, leb-true}
-use borrow.Author.Needs.{needs}
 use Rattle.columns.proofs.Tests.{and-both, below-first}
 use Rattle.neighbors.proofs.Ends.{ascending-says}
 use Rattle.neighbors.proofs.sound.ascending_ends.Statement.{statement}
@@ -18,7 +17,7 @@ returns-2 : tie.Need-returns-2
 returns-2 c = λ e. absurd (true≢false (sym e))
 
 all-below-requires : tie.Need-all-below-requires
-all-below-requires c κs = search needs
+all-below-requires c κs = tt
 
 returns-3 : tie.Need-returns-3
 returns-3 c = λ e. absurd (true≢false (sym e))

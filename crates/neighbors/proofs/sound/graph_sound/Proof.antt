@@ -5,18 +5,17 @@ use lib.Dec.{leb}
 use borrow.Author.Tests.{not-true, not-false, leb-true}
 use Rattle.columns.proofs.Tests.{and-both}
 use Rattle.neighbors.proofs.Ends.{bad-vertices, bad-edges, bad-range, bad-ends, all-but-pairs, range-says}
-use borrow.Author.Needs.{needs}
 use Rattle.neighbors.proofs.sound.graph_sound.Statement.{statement}
 use Rattle.neighbors.proofs.sound.graph_sound.Tie as tie
 
 vertex-count-sound-requires : tie.Need-vertex-count-sound-requires
-vertex-count-sound-requires c κs = search needs
+vertex-count-sound-requires c κs = tt
 
 returns : tie.Need-returns
 returns c = let s = c .before .before .before .before .args in bad-vertices (s .vertex-num) (s .edge-num) (s .a .now) (s .b .now) (sym (c .before .vertex-count-sound .ensures) ∙ not-true _ (c .if1 .taken))
 
 edge-count-sound-requires : tie.Need-edge-count-sound-requires
-edge-count-sound-requires c κs = search needs
+edge-count-sound-requires c κs = tt
 
 returns-2 : tie.Need-returns-2
 returns-2 c = let s = c .before .before .before .before .before .before .args in bad-edges (s .vertex-num) (s .edge-num) (s .a .now) (s .b .now) (sym (c .before .before .before .vertex-count-sound .ensures) ∙ not-false _ (c .before .before .if1 .left)) (sym (c .before .edge-count-sound .ensures) ∙ not-true _ (c .if2 .taken))
@@ -28,7 +27,7 @@ returns-3 : tie.Need-returns-3
 returns-3 c = sym (c .before .ascending-ends .ensures (c .if3 .taken))
 
 ends-in-range-requires : tie.Need-ends-in-range-requires
-ends-in-range-requires c κs = search needs
+ends-in-range-requires c κs = tt
 
 returns-4 : tie.Need-returns-4
 returns-4 c =

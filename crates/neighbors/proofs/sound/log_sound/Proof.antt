@@ -1,17 +1,16 @@
 -- `neighbors::sound::log_sound` meets its contract. Assumes nothing.
 use Rattle.neighbors.specs.Sound.{logSound}
-use borrow.Author.Needs.{needs}
 use Rattle.neighbors.proofs.sound.log_sound.Statement.{statement}
 use Rattle.neighbors.proofs.sound.log_sound.Tie as tie
 
 all-below-requires : tie.Need-all-below-requires
-all-below-requires c κs = search needs
+all-below-requires c κs = tt
 
 weights-sound-requires : tie.Need-weights-sound-requires
-weights-sound-requires c κs = search needs
+weights-sound-requires c κs = tt
 
 both-requires : tie.Need-both-requires
-both-requires c κs = search needs
+both-requires c κs = tt
 
 returns : tie.Need-returns
 unfolding logSound

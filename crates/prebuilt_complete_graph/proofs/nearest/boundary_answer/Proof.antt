@@ -39,7 +39,7 @@ cast-t10 : tie.Need-cast-t10
 cast-t10 c = let s = c .before .before .before .before .before in let p = place-some (s .args .boundary .now) (s .args .least .now) (length (s .args .least .now)) (c .before .nearest-place .result) (c .before .nearest-place .ensures) (c .if2 .left) in omega (arith, p .0, s .pre .2)
 
 amount-at-requires : tie.Need-amount-at-requires
-amount-at-requires c κs = search needs
+amount-at-requires c κs = tt
 
 returns-3 : tie.Need-returns-3
 returns-3 c = let s = c .before .before .before .before .before .before in let p = place-some (s .args .boundary .now) (s .args .least .now) (length (s .args .least .now)) (c .before .before .nearest-place .result) (c .before .before .nearest-place .ensures) (c .before .if2 .left) in (λ i. Nearest (record { 0 = c .before .before .nearest-place .result }) (c .amount-at .ensures i)) ∙ ap (boundaryFound (s .args .least .now)) (p .1) ∙ ap (λ k. boundaryFound (s .args .least .now) (cond (not k) none (nearestIn (s .args .boundary .now) (s .args .least .now) (length (s .args .least .now))))) (sym (eq-eqb (getD (s .args .boundary .now) (s .args .v) 0) 0 (c .before .before .before .if1 .left)))

@@ -13,7 +13,7 @@ boundary-place-requires : tie.Need-boundary-place-requires
 boundary-place-requires c κs = search needs
 
 weight-at-requires : tie.Need-weight-at-requires
-weight-at-requires c κs = search needs
+weight-at-requires c κs = tt
 
 mul-t8 : tie.Need-mul-t8
 mul-t8 c = search needs

@@ -30,7 +30,7 @@ shared-slice-copy-out-amount-of : tie.Need-shared-slice-copy-out-amount-of
 shared-slice-copy-out-amount-of c = search needs
 
 amount-of-requires : tie.Need-amount-of-requires
-amount-of-requires c κs = search needs
+amount-of-requires c κs = tt
 
 returns : tie.Need-returns
 returns c = let s = c .before .before .before in c .amount-of .ensures ∙ ap amount (toZ-ofZ w32 (getD (s .args .least .now) (s .args .u) (pos 0)) (record { sfits = c .before .amount-of-arg .given }) ∙ getD-any (s .args .least .now) (s .args .u) (pos 0) (negsuc 0) (c .before .before .if1 .taken))

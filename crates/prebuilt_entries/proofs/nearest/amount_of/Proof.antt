@@ -24,7 +24,7 @@ use Rattle.prebuilt_entries.proofs.nearest.amount_of.Statement.{stateme
 use Rattle.prebuilt_entries.proofs.nearest.amount_of.Tie as tie
 
 rank-of-requires : tie.Need-rank-of-requires
-rank-of-requires c κs = search needs
+rank-of-requires c κs = tt
 
 returns : tie.Need-returns
 returns c = let s = c .before .before in let e = toZ-ofZ w32 (s .args .x) (record { sfits = s .good .0 }) in amount-none (s .args .x) (sym (c .before .rank-of .ensures .0 ∙ ap rank e) ∙ c .if1 .taken)

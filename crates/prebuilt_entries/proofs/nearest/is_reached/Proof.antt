@@ -30,7 +30,7 @@ shared-slice-copy-out-rank-of : tie.Need-shared-slice-copy-out-rank-of
 shared-slice-copy-out-rank-of c = search needs
 
 rank-of-requires : tie.Need-rank-of-requires
-rank-of-requires c κs = search needs
+rank-of-requires c κs = tt
 
 returns : tie.Need-returns
 returns c = let s = c .before .before .before in ap (λ k. not (eqb k 0)) (c .rank-of .ensures .0 ∙ ap rank (toZ-ofZ w32 (getD (s .args .least .now) (s .args .u) (pos 0)) (record { sfits = c .before .rank-of-arg .given }) ∙ getD-any (s .args .least .now) (s .args .u) (pos 0) (negsuc 0) (c .before .before .if1 .taken))) ∙ reached-by (weightIn (s .args .least .now) (s .args .u))

@@ -15,13 +15,13 @@ use Rattle.prebuilt_entries.proofs.rows.in_the_middle.Statement.{statem
 use Rattle.prebuilt_entries.proofs.rows.in_the_middle.Tie as tie
 
 rank-of-requires : tie.Need-rank-of-requires
-rank-of-requires c κs = search needs
+rank-of-requires c κs = tt
 
 rank-of-requires-2 : tie.Need-rank-of-requires-2
-rank-of-requires-2 c κs = search needs
+rank-of-requires-2 c κs = tt
 
 rank-of-requires-3 : tie.Need-rank-of-requires-3
-rank-of-requires-3 c κs = search needs
+rank-of-requires-3 c κs = tt
 
 returns : tie.Need-returns
 returns c = let s = c .before .before .before .before in own-none (s .args .own) (s .args .peer) (s .args .x) (sym (c .before .before .before .rank-of .ensures .0 ∙ ap rank (toZ-ofZ w32 (s .args .own) (record { sfits = s .good .0 }))) ∙ c .if1 .taken)

@@ -7,7 +7,6 @@ use mathlib.Core.List.{List}
 use lib.Dec.{eqb}
 use borrow.Author.Tests.{eq-eqb, ne-eqb}
 use Rattle.prebuilt_entries.specs.Entries.{isVirtual}
-use borrow.Author.Needs.{needs}
 use Rattle.prebuilt_entries.proofs.rows.is_hidden.Statement.{statement}
 use Rattle.prebuilt_entries.proofs.rows.is_hidden.Tie as tie
 

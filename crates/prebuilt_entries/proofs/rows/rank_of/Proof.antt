@@ -12,7 +12,6 @@ use mir.Val.{Fits, SFits}
 use mir.ValLaws.{toZ-ofZ}
 use Rattle.prebuilt_entries.specs.Entries.{rank}
 use Rattle.prebuilt_entries.proofs.Ranks.{below-zero, not-below, rank-is, rank-small}
-use borrow.Author.Needs.{needs}
 use Rattle.prebuilt_entries.proofs.rows.rank_of.Statement.{statement}
 use Rattle.prebuilt_entries.proofs.rows.rank_of.Tie as tie
 

@@ -9,7 +9,6 @@ use Rattle.prebuilt_entries.specs.Entries.{inTheMiddle, entryBy}
 use mir.Syntax.{w32}
 use mir.Val.{SFits, toZ, ofZ}
 use mir.ValLaws.{toZ-ofZ}
-use borrow.Author.Needs.{needs}
 use Rattle.prebuilt_entries.proofs.rows.row_entry.Statement.{statement}
 use Rattle.prebuilt_entries.proofs.rows.row_entry.Tie as tie
 
@@ -17,7 +16,7 @@ returns : tie.Need-returns
 returns c = let s = c .before .args in ap (λ k. cond k (negsuc 0) (cond (inTheMiddle (s .own) (s .peer) (s .x)) (negsuc 0) (s .x))) (sym (c .if1 .taken))
 
 in-the-middle-requires : tie.Need-in-the-middle-requires
-in-the-middle-requires c κs = search needs
+in-the-middle-requires c κs = tt
 
 returns-2 : tie.Need-returns-2
 returns-2 c =

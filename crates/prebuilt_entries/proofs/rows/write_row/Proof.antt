@@ -40,7 +40,7 @@ shared-slice-read-is-hidden-2 : tie.Need-shared-slice-read-is-hidden-2 Inv-loop 
 shared-slice-read-is-hidden-2 c = search needs
 
 is-hidden-requires : tie.Need-is-hidden-requires Inv-loop μ-loop
-is-hidden-requires c κs = search needs
+is-hidden-requires c κs = tt
 
 mul-row-entry : tie.Need-mul-row-entry Inv-loop μ-loop
 mul-row-entry c = search needs
@@ -61,7 +61,7 @@ slice-copy-out-row-entry : tie.Need-slice-copy-out-row-entry Inv-loop μ-loop
 slice-copy-out-row-entry c = let s = c .before .before .before .before .before .before .before .before in let at = c .before .before .before .before .before .before .loop in omega (arith, s .pre .1, at .inv .1, c .before .before .before .before .before .loop-test .taken)
 
 row-entry-requires : tie.Need-row-entry-requires Inv-loop μ-loop
-row-entry-requires c κs = search needs
+row-entry-requires c κs = tt
 
 mul-t23 : tie.Need-mul-t23 Inv-loop μ-loop
 mul-t23 c = search needs

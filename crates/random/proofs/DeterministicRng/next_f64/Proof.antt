@@ -3,15 +3,14 @@ use mathlib.Core.Path.{ap, _∙_}
 use lib.IntN.{pos}
 use lib.Ieee.{Float, binary64, div, ofInt, ofBits}
 use Rattle.random.specs.Random.{drawOf}
-use borrow.Author.Needs.{needs}
 use Rattle.random.proofs.DeterministicRng.next_f64.Statement.{statement}
 use Rattle.random.proofs.DeterministicRng.next_f64.Tie as tie
 
 next-u64-requires : tie.Need-next-u64-requires
-next-u64-requires c κs = search needs
+next-u64-requires c κs = tt
 
 nearest-u64-to-f64-requires : tie.Need-nearest-u64-to-f64-requires
-nearest-u64-to-f64-requires c κs = search needs
+nearest-u64-to-f64-requires c κs = tt
 
 returns : tie.Need-returns
 unfolding drawOf

@@ -7,13 +7,13 @@ use Rattle.random.proofs.DeterministicRng.next_u64.Statement.{statement
 use Rattle.random.proofs.DeterministicRng.next_u64.Tie as tie
 
 wrapping-mul-requires : tie.Need-wrapping-mul-requires
-wrapping-mul-requires c κs = search needs
+wrapping-mul-requires c κs = tt
 
 rotate-left-requires : tie.Need-rotate-left-requires
 rotate-left-requires c κs = search needs
 
 wrapping-mul-requires-2 : tie.Need-wrapping-mul-requires-2
-wrapping-mul-requires-2 c κs = search needs
+wrapping-mul-requires-2 c κs = tt
 
 rotate-left-requires-2 : tie.Need-rotate-left-requires-2
 rotate-left-requires-2 c κs = search needs

@@ -36,7 +36,7 @@ shared-slice-read-wide : tie.Need-shared-slice-read-wide Inv-loop μ-loop
 shared-slice-read-wide c = search needs
 
 wide-requires : tie.Need-wide-requires Inv-loop μ-loop
-wide-requires c κs = search needs
+wide-requires c κs = tt
 
 mul-wide-2 : tie.Need-mul-wide-2 Inv-loop μ-loop
 mul-wide-2 c = search needs
@@ -48,7 +48,7 @@ shared-slice-read-wide-2 c =
     omega (arith, c .before .wide .ensures .0, s .pre .0 .1, order-below (s .args .order .now) (s .pre .0 .0) (l .k) (omega arith))
 
 wide-requires-2 : tie.Need-wide-requires-2 Inv-loop μ-loop
-wide-requires-2 c κs = search needs
+wide-requires-2 c κs = tt
 
 mul-copy-run : tie.Need-mul-copy-run Inv-loop μ-loop
 mul-copy-run c = record { fits = omega (arith, c .before .before .wide .ensures .1) }

@@ -22,7 +22,7 @@ list-starts-requires : tie.Need-list-starts-requires
 list-starts-requires c κs = search needs
 
 copy-u32-requires : tie.Need-copy-u32-requires
-copy-u32-requires c κs = search needs
+copy-u32-requires c κs = tt
 
 gather-lists-requires : tie.Need-gather-lists-requires
 gather-lists-requires c κs =
@@ -31,13 +31,13 @@ gather-lists-requires c κs =
     ((s .pre .0 .0, s .pre .0 .1, omega (arith, s .pre .0 .2)), (c .before .before .before .before .before .before .before .before .before .before .list-starts .ensures .1, (omega (arith, l, s .pre .1 .1), s .pre .1 .0)))
 
 same-length : tie.Need-same-length
-same-length c = search needs
+same-length c = c .before .numbers .given
 
 same-length-2 : tie.Need-same-length-2
-same-length-2 c = search needs
+same-length-2 c = c .before .before .before .before .before .before .before .scratch .given
 
 same-length-3 : tie.Need-same-length-3
-same-length-3 c = search needs
+same-length-3 c = c .before .before .before .before .before .before .before .before .before .before .before .before .starts .given
 
 returns : tie.Need-returns
 returns c =

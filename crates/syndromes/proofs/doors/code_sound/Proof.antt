@@ -1,6 +1,5 @@
 -- `syndromes::doors::code_sound` meets its contract. Assumes nothing.
 use Rattle.syndromes.specs.Records.{codeSound}
-use borrow.Author.Needs.{needs}
 use Rattle.syndromes.proofs.doors.code_sound.Statement.{statement}
 use Rattle.syndromes.proofs.doors.code_sound.Tie as tie
 use Rattle.syndromes.proofs.doors.code_sound.Reads as reads
@@ -10,13 +9,13 @@ use Rattle.columns.proofs.questions.boundaries_sound.Reads as boundaries-sound-
 use Rattle.neighbors.proofs.sound.graph_sound.Reads as graph-sound-reads
 
 graph-sound-requires : tie.Need-graph-sound-requires
-graph-sound-requires c κs = search needs
+graph-sound-requires c κs = tt
 
 boundaries-sound-requires : tie.Need-boundaries-sound-requires
-boundaries-sound-requires c κs = search needs
+boundaries-sound-requires c κs = tt
 
 both-requires : tie.Need-both-requires
-both-requires c κs = search needs
+both-requires c κs = tt
 
 returns : tie.Need-returns
 unfolding codeSound

@@ -1,6 +1,5 @@
 -- `syndromes::doors::errors_door` meets its contract. Assumes nothing.
 use Rattle.syndromes.specs.Errors.{errorsDoor}
-use borrow.Author.Needs.{needs}
 use Rattle.syndromes.proofs.doors.errors_door.Statement.{statement}
 use Rattle.syndromes.proofs.doors.errors_door.Tie as tie
 use Rattle.syndromes.proofs.doors.errors_door.Reads as reads
@@ -14,40 +13,40 @@ use Rattle.syndromes.proofs.doors.graph_long.Reads as graph-long-reads
 use Rattle.syndromes.proofs.doors.syndrome_long.Reads as syndrome-long-reads
 
 graph-long-requires : tie.Need-graph-long-requires
-graph-long-requires c κs = search needs
+graph-long-requires c κs = tt
 
 syndrome-long-requires : tie.Need-syndrome-long-requires
-syndrome-long-requires c κs = search needs
+syndrome-long-requires c κs = tt
 
 code-sound-requires : tie.Need-code-sound-requires
-code-sound-requires c κs = search needs
+code-sound-requires c κs = tt
 
 marks-sound-requires : tie.Need-marks-sound-requires
-marks-sound-requires c κs = search needs
+marks-sound-requires c κs = tt
 
 marks-sound-requires-2 : tie.Need-marks-sound-requires-2
-marks-sound-requires-2 c κs = search needs
+marks-sound-requires-2 c κs = tt
 
 each-below-requires : tie.Need-each-below-requires
-each-below-requires c κs = search needs
+each-below-requires c κs = tt
 
 both-requires : tie.Need-both-requires
-both-requires c κs = search needs
+both-requires c κs = tt
 
 both-requires-2 : tie.Need-both-requires-2
-both-requires-2 c κs = search needs
+both-requires-2 c κs = tt
 
 both-requires-3 : tie.Need-both-requires-3
-both-requires-3 c κs = search needs
+both-requires-3 c κs = tt
 
 asked-requires : tie.Need-asked-requires
-asked-requires c κs = search needs
+asked-requires c κs = tt
 
 asked-requires-2 : tie.Need-asked-requires-2
-asked-requires-2 c κs = search needs
+asked-requires-2 c κs = tt
 
 asked-requires-3 : tie.Need-asked-requires-3
-asked-requires-3 c κs = search needs
+asked-requires-3 c κs = tt
 
 returns : tie.Need-returns
 unfolding errorsDoor

@@ -1,6 +1,5 @@
 -- `syndromes::doors::probabilities_sound` meets its contract. Assumes nothing.
 use Rattle.syndromes.specs.Sampling.{probabilitiesSound}
-use borrow.Author.Needs.{needs}
 use Rattle.syndromes.proofs.doors.probabilities_sound.Statement.{statement}
 use Rattle.syndromes.proofs.doors.probabilities_sound.Tie as tie
 use Rattle.syndromes.proofs.doors.probabilities_sound.Reads as reads
@@ -10,13 +9,13 @@ use Rattle.probabilities.proofs.are_erasure_probabilities.Reads as are-erasure-
 use Rattle.probabilities.proofs.are_probabilities.Reads as are-probabilities-reads
 
 are-probabilities-requires : tie.Need-are-probabilities-requires
-are-probabilities-requires c κs = search needs
+are-probabilities-requires c κs = tt
 
 are-erasure-probabilities-requires : tie.Need-are-erasure-probabilities-requires
-are-erasure-probabilities-requires c κs = search needs
+are-erasure-probabilities-requires c κs = tt
 
 both-requires : tie.Need-both-requires
-both-requires c κs = search needs
+both-requires c κs = tt
 
 returns : tie.Need-returns
 unfolding probabilitiesSound

@@ -1,6 +1,5 @@
 -- `syndromes::doors::sampling_door` meets its contract. Assumes nothing.
 use Rattle.syndromes.specs.Sampling.{samplingDoor}
-use borrow.Author.Needs.{needs}
 use Rattle.syndromes.proofs.doors.sampling_door.Statement.{statement}
 use Rattle.syndromes.proofs.doors.sampling_door.Tie as tie
 use Rattle.syndromes.proofs.doors.sampling_door.Reads as reads
@@ -14,40 +13,40 @@ use Rattle.syndromes.proofs.doors.probabilities_sound.Reads as probabil
 use Rattle.syndromes.proofs.doors.syndrome_long.Reads as syndrome-long-reads
 
 graph-long-requires : tie.Need-graph-long-requires
-graph-long-requires c κs = search needs
+graph-long-requires c κs = tt
 
 at-most-requires : tie.Need-at-most-requires
-at-most-requires c κs = search needs
+at-most-requires c κs = tt
 
 at-most-requires-2 : tie.Need-at-most-requires-2
-at-most-requires-2 c κs = search needs
+at-most-requires-2 c κs = tt
 
 syndrome-long-requires : tie.Need-syndrome-long-requires
-syndrome-long-requires c κs = search needs
+syndrome-long-requires c κs = tt
 
 code-sound-requires : tie.Need-code-sound-requires
-code-sound-requires c κs = search needs
+code-sound-requires c κs = tt
 
 probabilities-sound-requires : tie.Need-probabilities-sound-requires
-probabilities-sound-requires c κs = search needs
+probabilities-sound-requires c κs = tt
 
 both-requires : tie.Need-both-requires
-both-requires c κs = search needs
+both-requires c κs = tt
 
 both-requires-2 : tie.Need-both-requires-2
-both-requires-2 c κs = search needs
+both-requires-2 c κs = tt
 
 both-requires-3 : tie.Need-both-requires-3
-both-requires-3 c κs = search needs
+both-requires-3 c κs = tt
 
 asked-requires : tie.Need-asked-requires
-asked-requires c κs = search needs
+asked-requires c κs = tt
 
 asked-requires-2 : tie.Need-asked-requires-2
-asked-requires-2 c κs = search needs
+asked-requires-2 c κs = tt
 
 asked-requires-3 : tie.Need-asked-requires-3
-asked-requires-3 c κs = search needs
+asked-requires-3 c κs = tt
 
 returns : tie.Need-returns
 unfolding samplingDoor

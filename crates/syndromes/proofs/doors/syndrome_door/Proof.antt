@@ -1,6 +1,5 @@
 -- `syndromes::doors::syndrome_door` meets its contract. Assumes nothing.
 use Rattle.syndromes.specs.Syndrome.{syndromeDoor}
-use borrow.Author.Needs.{needs}
 use Rattle.syndromes.proofs.doors.syndrome_door.Statement.{statement}
 use Rattle.syndromes.proofs.doors.syndrome_door.Tie as tie
 use Rattle.syndromes.proofs.doors.syndrome_door.Reads as reads
@@ -13,28 +12,28 @@ use Rattle.syndromes.proofs.doors.code_sound.Reads as code-sound-reads
 use Rattle.syndromes.proofs.doors.graph_long.Reads as graph-long-reads
 
 graph-long-requires : tie.Need-graph-long-requires
-graph-long-requires c κs = search needs
+graph-long-requires c κs = tt
 
 at-most-requires : tie.Need-at-most-requires
-at-most-requires c κs = search needs
+at-most-requires c κs = tt
 
 code-sound-requires : tie.Need-code-sound-requires
-code-sound-requires c κs = search needs
+code-sound-requires c κs = tt
 
 each-below-requires : tie.Need-each-below-requires
-each-below-requires c κs = search needs
+each-below-requires c κs = tt
 
 both-requires : tie.Need-both-requires
-both-requires c κs = search needs
+both-requires c κs = tt
 
 asked-requires : tie.Need-asked-requires
-asked-requires c κs = search needs
+asked-requires c κs = tt
 
 asked-requires-2 : tie.Need-asked-requires-2
-asked-requires-2 c κs = search needs
+asked-requires-2 c κs = tt
 
 asked-requires-3 : tie.Need-asked-requires-3
-asked-requires-3 c κs = search needs
+asked-requires-3 c κs = tt
 
 returns : tie.Need-returns
 unfolding syndromeDoor

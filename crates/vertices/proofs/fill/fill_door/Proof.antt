@@ -1,25 +1,24 @@
 -- `vertices::fill::fill_door` meets its contract. Assumes nothing.
-use borrow.Author.Needs.{needs}
 use Rattle.vertices.proofs.fill.fill_door.Statement.{statement}
 use Rattle.vertices.proofs.fill.fill_door.Tie as tie
 
 vertex-columns-long-requires : tie.Need-vertex-columns-long-requires
-vertex-columns-long-requires c κs = search needs
+vertex-columns-long-requires c κs = tt
 
 edge-columns-long-requires : tie.Need-edge-columns-long-requires
-edge-columns-long-requires c κs = search needs
+edge-columns-long-requires c κs = tt
 
 graph-sound-requires : tie.Need-graph-sound-requires
-graph-sound-requires c κs = search needs
+graph-sound-requires c κs = tt
 
 both-requires : tie.Need-both-requires
-both-requires c κs = search needs
+both-requires c κs = tt
 
 asked-requires : tie.Need-asked-requires
-asked-requires c κs = search needs
+asked-requires c κs = tt
 
 asked-requires-2 : tie.Need-asked-requires-2
-asked-requires-2 c κs = search needs
+asked-requires-2 c κs = tt
 
 returns : tie.Need-returns
 returns c = cc

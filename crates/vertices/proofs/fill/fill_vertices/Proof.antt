@@ -12,22 +12,22 @@ use Rattle.vertices.proofs.fill.fill_vertices.Statement.{statement}
 use Rattle.vertices.proofs.fill.fill_vertices.Tie as tie
 
 fill-door-requires : tie.Need-fill-door-requires
-fill-door-requires c κs = search needs
+fill-door-requires c κs = tt
 
 fill-f64-requires : tie.Need-fill-f64-requires
-fill-f64-requires c κs = search needs
+fill-f64-requires c κs = tt
 
 fill-f64-requires-2 : tie.Need-fill-f64-requires-2
-fill-f64-requires-2 c κs = search needs
+fill-f64-requires-2 c κs = tt
 
 fill-f64-requires-3 : tie.Need-fill-f64-requires-3
-fill-f64-requires-3 c κs = search needs
+fill-f64-requires-3 c κs = tt
 
 fill-u8-requires : tie.Need-fill-u8-requires
-fill-u8-requires c κs = search needs
+fill-u8-requires c κs = tt
 
 fill-u8-requires-2 : tie.Need-fill-u8-requires-2
-fill-u8-requires-2 c κs = search needs
+fill-u8-requires-2 c κs = tt
 
 write-lists-requires : tie.Need-write-lists-requires
 write-lists-requires c κs =
@@ -43,25 +43,25 @@ write-lists-requires c κs =
     ((g .long-a, g .long-b, m .lengths, m .numbers), (g .few-edges, g .few-vertices, g .in-a, g .in-b))
 
 same-length : tie.Need-same-length
-same-length c = search needs
+same-length c = c .before .before .before .before .before .before .before .before .before .before .before .before .before .before .before .before .before .before .before .before .before .before .before .before .pos-i .given
 
 same-length-2 : tie.Need-same-length-2
-same-length-2 c = search needs
+same-length-2 c = c .before .before .before .before .before .before .before .before .before .before .before .before .before .before .before .before .before .before .before .before .pos-j .given
 
 same-length-3 : tie.Need-same-length-3
-same-length-3 c = search needs
+same-length-3 c = c .before .before .before .before .before .before .before .before .before .before .before .before .before .before .before .before .pos-t .given
 
 same-length-4 : tie.Need-same-length-4
-same-length-4 c = search needs
+same-length-4 c = c .before .before .before .before .before .before .before .before .before .before .before .before .boundary .given
 
 same-length-5 : tie.Need-same-length-5
-same-length-5 c = search needs
+same-length-5 c = c .before .before .before .before .before .before .before .before .defect .given
 
 same-length-6 : tie.Need-same-length-6
-same-length-6 c = search needs
+same-length-6 c = c .before .before .before .list-lengths .given
 
 same-length-7 : tie.Need-same-length-7
-same-length-7 c = search needs
+same-length-7 c = c .before .neighbor-numbers .given
 
 returns : tie.Need-returns
 returns c =
@@ -87,7 +87,7 @@ returns c =
     }
 
 done-of-requires : tie.Need-done-of-requires
-done-of-requires c κs = search needs
+done-of-requires c κs = tt
 
 same-length-8 : tie.Need-same-length-8
 same-length-8 c = search needs

@@ -13,10 +13,10 @@ fill-lists-requires c κs =
     ((p .0 .0, (p .0 .1, (p .0 .2, (zeros-room (c .before .before .before .before .before .before .before .args .n) 4096 (p .1 .1), p .0 .3)))), (p .1 .0, (p .1 .2, p .1 .3)))
 
 same-length : tie.Need-same-length
-same-length c = search needs
+same-length c = c .before .before .before .before .list-lengths .given
 
 same-length-2 : tie.Need-same-length-2
-same-length-2 c = search needs
+same-length-2 c = c .before .before .neighbor-numbers .given
 
 returns : tie.Need-returns
 returns c = search needs

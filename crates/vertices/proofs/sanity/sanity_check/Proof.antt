@@ -5,12 +5,11 @@ use borrow.Author.Tests.{not-true, not-false}
 use Rattle.verdicts.specs.declared.Verdict.the-variants.{Refused}
 use Rattle.verdicts.specs.Sanity.{verdict, sanityLong}
 use Rattle.vertices.proofs.Verdicts.{long-of, checked}
-use borrow.Author.Needs.{needs}
 use Rattle.vertices.proofs.sanity.sanity_check.Statement.{statement}
 use Rattle.vertices.proofs.sanity.sanity_check.Tie as tie
 
 sanity-long-requires : tie.Need-sanity-long-requires
-sanity-long-requires c κs = search needs
+sanity-long-requires c κs = tt
 
 returns : tie.Need-returns
 returns c =

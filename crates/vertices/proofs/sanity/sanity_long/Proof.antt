@@ -5,34 +5,34 @@ use Rattle.vertices.proofs.sanity.sanity_long.Statement.{statement}
 use Rattle.vertices.proofs.sanity.sanity_long.Tie as tie
 
 at-most-requires : tie.Need-at-most-requires
-at-most-requires c κs = search needs
+at-most-requires c κs = tt
 
 at-most-requires-2 : tie.Need-at-most-requires-2
-at-most-requires-2 c κs = search needs
+at-most-requires-2 c κs = tt
 
 at-most-requires-3 : tie.Need-at-most-requires-3
-at-most-requires-3 c κs = search needs
+at-most-requires-3 c κs = tt
 
 mul-at-most : tie.Need-mul-at-most
 mul-at-most c = search needs
 
 at-most-requires-4 : tie.Need-at-most-requires-4
-at-most-requires-4 c κs = search needs
+at-most-requires-4 c κs = tt
 
 lists-fit-requires : tie.Need-lists-fit-requires
-lists-fit-requires c κs = search needs
+lists-fit-requires c κs = tt
 
 both-requires : tie.Need-both-requires
-both-requires c κs = search needs
+both-requires c κs = tt
 
 both-requires-2 : tie.Need-both-requires-2
-both-requires-2 c κs = search needs
+both-requires-2 c κs = tt
 
 both-requires-3 : tie.Need-both-requires-3
-both-requires-3 c κs = search needs
+both-requires-3 c κs = tt
 
 both-requires-4 : tie.Need-both-requires-4
-both-requires-4 c κs = search needs
+both-requires-4 c κs = tt
 
 returns : tie.Need-returns
 unfolding sanityLong

@@ -23,7 +23,7 @@ vertices-checked-requires : tie.Need-vertices-checked-requires
 vertices-checked-requires c κs = search needs
 
 or-else-requires : tie.Need-or-else-requires
-or-else-requires c κs = search needs
+or-else-requires c κs = tt
 
 returns-3 : tie.Need-returns-3
 returns-3 c =

@@ -8,8 +8,8 @@ use Rattle.probabilities.proofs.is_probability.Tie as tie
 is-plus-zero-requires : tie.Need-is-plus-zero-requires
 is-plus-zero-requires c κs = tt
 
-both-requires : tie.Need-both-requires
-both-requires c κs = tt
+is-in-range-requires : tie.Need-is-in-range-requires
+is-in-range-requires c κs = tt
 
 either-requires : tie.Need-either-requires
 either-requires c κs = tt

@@ -33,7 +33,7 @@ use Rattle.example_codes.specs.CreateCode.{numberOf, verticesIn, edgesIn, creat
 use Rattle.weighted_codes.specs.Probabilities.{probabilities, diagonalOf}
 use Rattle.weighted_codes.specs.NewCode.{newRefusalIn, weightedColumns, NewCode}
 use Rattle.weighted_codes.proofs.Outcome.{sized}
-use Rattle.listing.specs.Text.{refusalLine}
+use Rattle.texts.specs.Text.{refusalLine}
 use Rattle.code_listing.specs.Listing.{listRefusal, weightsOf, listingOf, codeText}
 use Rattle.code_listing.specs.Steps.{CodeRoom, HoldsCode, HoldsWeights}
 use Rattle.code_listing.proofs.Room.{refusal-is}

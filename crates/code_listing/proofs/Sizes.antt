@@ -16,8 +16,8 @@ use Rattle.layers.specs.Accepts.{Buildable}
 use Rattle.layers.proofs.Accepted.{Accepted, accepted, buildable, ask-zero}
 use Rattle.weights.specs.Calls.{isLargestHalfWeight}
 use Rattle.columns.specs.Limits.{halfWeightLimit}
-use Rattle.listing.specs.Text.{ended, refusalLine, graphLine, vertexLines, edgeLines, crossingLine, listing}
-use Rattle.listing.proofs.Sizes.{ended-few, vertex-lines-few, edge-lines-few}
+use Rattle.texts.specs.Text.{ended, refusalLine, graphLine, vertexLines, edgeLines, crossingLine, listing}
+use Rattle.texts.proofs.Sizes.{ended-few, vertex-lines-few, edge-lines-few}
 use Rattle.code_listing.specs.Listing.{listRefusal, weightsOf, crossingOf, withCrossing, listingOf, codeText}
 use Rattle.code_listing.proofs.Room.{edges-six}
 

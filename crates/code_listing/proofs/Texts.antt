@@ -11,8 +11,8 @@ use Rattle.columns.proofs.Counting.{joined-same}
 use Rattle.code_columns.specs.Edges.{firsts, seconds, boundaries}
 use Rattle.layers.specs.Codes.{edgesOf, verticesOf}
 use Rattle.layers.specs.Counts.{vertexNum, edgeNum}
-use Rattle.listing.specs.Text.{ended, vertexLine, edgeLine, graphLine, crossingLine, vertexLines, edgeLines, listing, refusalLine}
-use Rattle.listing.specs.Steps.{Put}
+use Rattle.texts.specs.Text.{ended, vertexLine, edgeLine, graphLine, crossingLine, vertexLines, edgeLines, listing, refusalLine}
+use Rattle.texts.specs.Steps.{Put}
 use Rattle.crossing_answers.specs.declared.CrossingReply.{CrossingReply}
 use Rattle.crossing_answers.specs.declared.CrossingReply.the-variants.{Crossed, Refused}
 use Rattle.crossing_answers.specs.Crossing.{replyOf}

@@ -18,7 +18,7 @@ use Rattle.edge_weights.specs.Probabilities.{isProbability}
 use Rattle.diagonals.specs.Diagonal.{isDiagonalProbability}
 use Rattle.weights.specs.Calls.{edgeWeights, someAbove, isLargestHalfWeight, halfWeights}
 use Rattle.weighted_codes.specs.Probabilities.{probabilities, diagonalOf}
-use Rattle.listing.specs.Text.{refusalLine, listing}
+use Rattle.texts.specs.Text.{refusalLine, listing}
 
 -- ---- the questions after the first
 

@@ -17,7 +17,7 @@ use Rattle.example_codes.specs.Columns.{CodeColumns, edgeRoom, vertexRoom}
 use Rattle.crossing_answers.specs.declared.CrossingReply.{CrossingReply}
 use Rattle.crossing_answers.specs.declared.CrossingReply.the-variants.{Crossed, Refused}
 use Rattle.crossing_answers.specs.Crossing.{replyOf}
-use Rattle.listing.specs.Text.{refusalLine, listing}
+use Rattle.texts.specs.Text.{refusalLine, listing}
 use Rattle.code_listing.specs.Listing.{weightsOf, crossingOf, listingOf}
 use Rattle.weighted_codes.specs.Probabilities.{probabilities, diagonalOf}
 

@@ -2,7 +2,7 @@
 ghost use mathlib.Core.Path.{_≡_};
 ghost use Prim.Native.Nat.{_≤_};
 ghost use lib.ListN.{length};
-ghost use Rattle.listing.specs.Steps.{Put};
+ghost use Rattle.texts.specs.Steps.{Put};
 ghost use Rattle.code_listing.specs.Listing.{listingOf};
 ghost use Rattle.code_listing.specs.Steps.{HoldsCode, HoldsWeights, ScratchRoom, Replied, replyText};
 use columns::Weight;

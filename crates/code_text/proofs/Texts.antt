@@ -12,8 +12,8 @@ use borrow.Author.Tests.{le-leb, lt-leb}
 use Rattle.columns.specs.Lists.{after}
 use Rattle.columns.specs.Questions.{ask}
 use Rattle.columns.proofs.Columns.{after-accepted, after-refused, sets-over}
-use Rattle.listing.specs.Text.{refusalLine}
-use Rattle.listing.specs.Steps.{Put}
+use Rattle.texts.specs.Text.{refusalLine}
+use Rattle.texts.specs.Steps.{Put}
 use Rattle.code_line.specs.declared.CodeLine.{CodeLine}
 use Rattle.code_line.specs.declared.LineRead.{LineRead}
 use Rattle.code_line.specs.declared.LineRead.the-variants.{WellFormed, NotWellFormed}

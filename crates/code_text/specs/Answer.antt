@@ -10,7 +10,7 @@ use Rattle.columns.specs.Questions.{ask}
 use Rattle.code_line.specs.declared.LineRead.{LineRead}
 use Rattle.code_line.specs.declared.LineRead.the-variants.{WellFormed, NotWellFormed}
 use Rattle.code_line.specs.Line.{readOf}
-use Rattle.listing.specs.Text.{refusalLine}
+use Rattle.texts.specs.Text.{refusalLine}
 use Rattle.code_listing.specs.Listing.{codeText}
 use Rattle.code_text.specs.declared.Listed.{Listed}
 use Rattle.code_text.specs.declared.Listed.the-variants.{Text, Refused}

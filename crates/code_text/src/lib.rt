@@ -7,7 +7,7 @@ ghost use mathlib.Core.Path.{_≡_};
 ghost use Prim.Native.Nat.{_≤_};
 ghost use lib.ListN.{length};
 ghost use lib.Ieee.{binary64, ofBits};
-ghost use Rattle.listing.specs.Steps.{Put};
+ghost use Rattle.texts.specs.Steps.{Put};
 ghost use Rattle.code_text.specs.Answer.{textOf, CodeListed};
 ghost use Rattle.code_text.specs.Claims.{EveryTextFits};
 

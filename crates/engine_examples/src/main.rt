@@ -101,7 +101,16 @@ fn refused(number: u32, before: EngineCounts) -> EngineCounts {
     before
 }
 
-fn show_path(c: EngineCounts, weights: &[u32], a: u32, b: u32) {
+fn show_path(
+    c: EngineCounts,
+    ends_a: &[u32],
+    ends_b: &[u32],
+    weights: &[u32],
+    boundary: &[u8],
+    log: &[u32],
+    a: u32,
+    b: u32,
+) {
     let mut vertices = [9u32; 4];
     let mut steps = [9u32; 4];
     let mut numbers = [0u32; 6];
@@ -113,12 +122,12 @@ fn show_path(c: EngineCounts, weights: &[u32], a: u32, b: u32) {
     let mut leaf = [0u64; 4];
     let r = paths::get_path(
         c,
-        &[0u32, 1, 0],
-        &[1u32, 2, 3],
+        ends_a,
+        ends_b,
         weights,
-        &[0u8, 0, 2, 1],
-        &[],
-        &[],
+        boundary,
+        log,
+        log,
         VertexIndex(a),
         VertexIndex(b),
         &mut vertices,
@@ -358,23 +367,36 @@ fn crossings() {
     );
 }
 
+// A path on the listing's graph, its log empty.
+fn listing_path(c: EngineCounts, a: u32, b: u32) {
+    show_path(
+        c,
+        &[0u32, 1, 0],
+        &[1u32, 2, 3],
+        &[1000u32, 1000, 1000],
+        &[0u8, 0, 2, 1],
+        &[],
+        a,
+        b,
+    );
+}
+
 fn paths() {
     let c = EngineCounts {
         vertices: 4,
         edges: 3,
         entries: 0,
     };
-    let weights = [1000u32, 1000, 1000];
-    show_path(c, &weights, 3, 2);
-    show_path(c, &weights, 2, 2);
-    show_path(c, &weights, 4, 4);
+    listing_path(c, 3, 2);
+    listing_path(c, 2, 2);
+    listing_path(c, 4, 4);
     // without edge 2 vertex 3 stands alone: 17
     let fewer = EngineCounts {
         vertices: 4,
         edges: 2,
         entries: 0,
     };
-    show_path(fewer, &weights, 3, 2);
+    listing_path(fewer, 3, 2);
 }
 
 fn show_done(d: Done) {

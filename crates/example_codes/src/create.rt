@@ -60,7 +60,7 @@ fn fill_edges(
     requires { ⌜ EdgeColumnsLong (edgeNum kind d rounds) (now «ends_a») (now «ends_b») (now p) (now pe) (now «half_weight») (now erasure) ⌝ }
     ensures { λ r. ⌜ EdgeColumnsFilled kind d rounds (now («ends_a» .entry)) (now («ends_b» .entry)) (now (p .entry)) (now (pe .entry)) (now («half_weight» .entry)) (now (erasure .entry)) (now («ends_a» .exit)) (now («ends_b» .exit)) (now (p .exit)) (now (pe .exit)) (now («half_weight» .exit)) (now (erasure .exit)) r ⌝ }
 {
-    let n = layers::edges::code_edges(ends_a, ends_b, kind, d, rounds);
+    let n = layer_edges::code_edges(ends_a, ends_b, kind, d, rounds);
     fill_f64(p, n, 0.0);
     fill_f64(pe, n, 0.0);
     fill_u32(half_weight, n, 0);

@@ -1,15 +1,13 @@
 // The text that `codelist` prints. A text column that is too short keeps as much of it as it has places for.
-mod numbers;
-
 use columns::Weight;
-use numbers::put_byte;
-use numbers::put_field;
+use texts::put_byte;
+use texts::put_field;
 ghost use mathlib.Core.Path.{_≡_};
 ghost use mathlib.Core.List.{[], _∷_};
 ghost use Prim.Native.Nat.{_≤_, _<_};
 ghost use lib.ListN.{length};
-ghost use Rattle.listing.specs.Text.{ended, refusalLine, graphLine, vertexLine, edgeLine, crossingLine, vertexLines, edgeLines, listing};
-ghost use Rattle.listing.specs.Steps.{Put};
+ghost use Rattle.texts.specs.Text.{ended, refusalLine, graphLine, vertexLine, edgeLine, crossingLine, vertexLines, edgeLines, listing};
+ghost use Rattle.texts.specs.Steps.{Put};
 
 // A line of one number.
 fn put_one(text: &mut [u8], at: usize, letter: u8, n: u32) -> usize

@@ -5,10 +5,10 @@ use Prim.Native.Nat.{ℕ, _+_, _-_, _*_, _≤_, _<_}
 use native.Mathlib.Omega.{arith}
 use lib.ListN.{length, getD}
 use Rattle.columns.specs.Lists.{joined}
-use Rattle.listing.specs.Text.{decimal, ended, vertexLine, edgeLine, vertexLines, edgeLines}
-use Rattle.listing.specs.Steps.{Put}
-use Rattle.listing.proofs.Putting.{none, both, more, line-end, field, lettered, renamed, long-kept}
-use Rattle.listing.proofs.Sizes.{decimal-few, vertices-few, edges-few}
+use Rattle.texts.specs.Text.{decimal, ended, vertexLine, edgeLine, vertexLines, edgeLines}
+use Rattle.texts.specs.Steps.{Put}
+use Rattle.texts.proofs.Putting.{none, both, more, line-end, field, lettered, renamed, long-kept}
+use Rattle.texts.proofs.Sizes.{decimal-few, vertices-few, edges-few}
 use borrow.Author.Needs.{needs}
 use Rattle.listing.proofs.put_graph.Statement.{statement}
 use Rattle.listing.proofs.put_graph.Tie as tie

@@ -2,9 +2,9 @@
 use mathlib.Core.List.{List, [], _∷_, _++_}
 use Prim.Native.Nat.{ℕ, _+_, _≤_}
 use native.Mathlib.Omega.{arith}
-use Rattle.listing.specs.Text.{graphLine, vertexLines, edgeLines, crossingLine, listing}
-use Rattle.listing.proofs.Putting.{both}
-use Rattle.listing.proofs.Sizes.{ended-few, vertex-lines-few, edge-lines-few}
+use Rattle.texts.specs.Text.{graphLine, vertexLines, edgeLines, crossingLine, listing}
+use Rattle.texts.proofs.Putting.{both}
+use Rattle.texts.proofs.Sizes.{ended-few, vertex-lines-few, edge-lines-few}
 use borrow.Author.Needs.{needs}
 use Rattle.listing.proofs.write_listing.Statement.{statement}
 use Rattle.listing.proofs.write_listing.Tie as tie

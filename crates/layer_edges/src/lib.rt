@@ -63,7 +63,7 @@ fn layer_size(kind: u32, d: u32) -> u32
     requires { ⌜ (1 ≤ d) × ((d ≤ 4095) × (layerSize kind d ≤ 4096)) ⌝ }
     ensures { λ r. ⌜ r ≡ layerSize kind d ⌝ }
 {
-    super::vertices::rows_of(kind, d) * super::vertices::width_of(kind, d)
+    layers::vertices::rows_of(kind, d) * layers::vertices::width_of(kind, d)
 }
 
 // The edges of a code.

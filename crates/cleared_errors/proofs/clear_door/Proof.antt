@@ -1,4 +1,7 @@
 -- `cleared_errors::clear_door` meets its contract. Assumes nothing.
+use Rattle.columns.specs.Questions.{ask}
+use mathlib.Core.Bool.{_&&_}
+use mathlib.Core.Path.{_∙_}
 use Rattle.cleared_errors.proofs.clear_door.Statement.{statement}
 use Rattle.cleared_errors.proofs.clear_door.Tie as tie
 use Rattle.cleared_errors.proofs.clear_door.Reads as reads
@@ -34,7 +37,7 @@ asked-requires-2 : tie.Need-asked-requires-2
 asked-requires-2 c κs = tt
 
 returns : tie.Need-returns
-returns c = cc
+returns c = c .asked2 .ensures ∙ (λ i. ask ((c .before .before .before .both .ensures ∙ (λ i. (c .before .before .before .before .before .before .before .at-most .ensures) i && (c .before .before .before .before .before .before .at-most2 .ensures) i)) i) 6 ((c .before .asked .ensures ∙ (λ i. ask ((c .before .before .both2 .ensures ∙ (λ i. (c .before .before .before .before .before .vertex-count-sound .ensures) i && (c .before .before .before .before .edge-count-sound .ensures) i)) i) 7 0)) i))
 
 pub clear-door-spec : {M : Type 1} → statement M
 clear-door-spec =

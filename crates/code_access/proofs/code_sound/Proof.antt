@@ -1,4 +1,6 @@
 -- `code_access::code_sound` meets its contract. Assumes nothing.
+use mathlib.Core.Bool.{_&&_}
+use mathlib.Core.Path.{_∙_}
 use Rattle.code_access.specs.Calls.{codeSound}
 use Rattle.code_access.proofs.code_sound.Statement.{statement}
 use Rattle.code_access.proofs.code_sound.Tie as tie
@@ -20,7 +22,7 @@ both-requires-2 c κs = tt
 
 returns : tie.Need-returns
 unfolding codeSound
-returns c = cc
+returns c = c .both2 .ensures ∙ (λ i. (c .before .before .before .before .graph-sound .ensures) i && (c .before .both .ensures ∙ (λ i. (c .before .before .before .half-weights-sound .ensures) i && (c .before .before .boundaries-sound .ensures) i)) i)
 
 pub code-sound-spec : {M : Type 1} → statement M
 code-sound-spec =

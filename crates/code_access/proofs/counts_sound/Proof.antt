@@ -1,4 +1,6 @@
 -- `code_access::counts_sound` meets its contract. Assumes nothing.
+use mathlib.Core.Bool.{_&&_}
+use mathlib.Core.Path.{_∙_}
 use Rattle.code_access.specs.Calls.{countsSound}
 use Rattle.code_access.proofs.counts_sound.Statement.{statement}
 use Rattle.code_access.proofs.counts_sound.Tie as tie
@@ -14,7 +16,7 @@ both-requires c κs = tt
 
 returns : tie.Need-returns
 unfolding countsSound
-returns c = cc
+returns c = c .both .ensures ∙ (λ i. (c .before .before .vertex-count-sound .ensures) i && (c .before .edge-count-sound .ensures) i)
 
 pub counts-sound-spec : {M : Type 1} → statement M
 counts-sound-spec =

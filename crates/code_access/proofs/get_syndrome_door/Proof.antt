@@ -1,4 +1,7 @@
 -- `code_access::get_syndrome_door` meets its contract. Assumes nothing.
+use Rattle.columns.specs.Questions.{ask}
+use mathlib.Core.Bool.{_&&_}
+use mathlib.Core.Path.{_∙_}
 use Rattle.code_access.proofs.get_syndrome_door.Statement.{statement}
 use Rattle.code_access.proofs.get_syndrome_door.Tie as tie
 
@@ -45,7 +48,7 @@ asked-requires-2 : tie.Need-asked-requires-2
 asked-requires-2 c κs = tt
 
 returns : tie.Need-returns
-returns c = cc
+returns c = c .asked2 .ensures ∙ (λ i. ask ((c .before .before .before .both4 .ensures ∙ (λ i. (c .before .before .before .before .before .before .before .before .before .before .before .both .ensures ∙ (λ i. (c .before .before .before .before .before .before .before .before .before .before .before .before .before .at-most .ensures) i && (c .before .before .before .before .before .before .before .before .before .before .before .before .at-most2 .ensures) i)) i && (c .before .before .before .before .before .before .before .before .both2 .ensures ∙ (λ i. (c .before .before .before .before .before .before .before .before .before .before .at-most3 .ensures) i && (c .before .before .before .before .before .before .before .before .before .at-most4 .ensures) i)) i)) i) 6 ((c .before .asked .ensures ∙ (λ i. ask ((c .before .before .both5 .ensures ∙ (λ i. (c .before .before .before .before .before .before .before .counts-sound .ensures) i && (c .before .before .before .before .both3 .ensures ∙ (λ i. (c .before .before .before .before .before .before .marks-sound .ensures) i && (c .before .before .before .before .before .marks-sound2 .ensures) i)) i)) i) 7 0)) i))
 
 pub get-syndrome-door-spec : {M : Type 1} → statement M
 get-syndrome-door-spec =

@@ -1,4 +1,6 @@
 -- `code_access::initializer_door` meets its contract. Assumes nothing.
+use Rattle.columns.specs.Questions.{ask}
+use mathlib.Core.Path.{_∙_}
 use Rattle.code_access.proofs.initializer_door.Statement.{statement}
 use Rattle.code_access.proofs.initializer_door.Tie as tie
 
@@ -15,7 +17,7 @@ asked-requires-2 : tie.Need-asked-requires-2
 asked-requires-2 c κs = tt
 
 returns : tie.Need-returns
-returns c = cc
+returns c = c .asked2 .ensures ∙ (λ i. ask ((c .before .before .before .initializer-long .ensures) i) 6 ((c .before .asked .ensures ∙ (λ i. ask ((c .before .before .code-sound .ensures) i) 7 0)) i))
 
 pub initializer-door-spec : {M : Type 1} → statement M
 initializer-door-spec =

@@ -1,4 +1,6 @@
 -- `code_access::initializer_long` meets its contract. Assumes nothing.
+use mathlib.Core.Bool.{_&&_}
+use mathlib.Core.Path.{_∙_}
 use Rattle.code_access.specs.Calls.{initializerLong}
 use Rattle.code_access.proofs.initializer_long.Statement.{statement}
 use Rattle.code_access.proofs.initializer_long.Tie as tie
@@ -26,7 +28,7 @@ both-requires-3 c κs = tt
 
 returns : tie.Need-returns
 unfolding initializerLong
-returns c = cc
+returns c = c .both3 .ensures ∙ (λ i. (c .before .before .before .before .before .before .three-long .ensures) i && (c .before .both2 .ensures ∙ (λ i. (c .before .before .before .before .before .three-long2 .ensures) i && (c .before .before .both .ensures ∙ (λ i. (c .before .before .before .before .at-most .ensures) i && (c .before .before .before .at-most2 .ensures) i)) i)) i)
 
 pub initializer-long-spec : {M : Type 1} → statement M
 initializer-long-spec =

@@ -1,4 +1,7 @@
 -- `code_access::set_syndrome_door` meets its contract. Assumes nothing.
+use Rattle.columns.specs.Questions.{ask}
+use mathlib.Core.Bool.{_&&_}
+use mathlib.Core.Path.{_∙_}
 use Rattle.code_access.proofs.set_syndrome_door.Statement.{statement}
 use Rattle.code_access.proofs.set_syndrome_door.Tie as tie
 
@@ -33,7 +36,7 @@ asked-requires-3 : tie.Need-asked-requires-3
 asked-requires-3 c κs = tt
 
 returns : tie.Need-returns
-returns c = cc
+returns c = c .asked3 .ensures ∙ (λ i. ask ((c .before .before .both2 .ensures ∙ (λ i. (c .before .before .before .before .before .before .before .before .before .at-most .ensures) i && (c .before .before .before .before .before .before .before .before .at-most2 .ensures) i)) i) 6 ((c .before .asked2 .ensures ∙ (λ i. ask ((c .before .before .before .before .before .before .before .counts-sound .ensures) i) 7 ((c .before .before .before .asked .ensures ∙ (λ i. ask ((c .before .before .before .before .both .ensures ∙ (λ i. (c .before .before .before .before .before .before .each-below .ensures) i && (c .before .before .before .before .before .each-below2 .ensures) i)) i) 13 0)) i))) i))
 
 pub set-syndrome-door-spec : {M : Type 1} → statement M
 set-syndrome-door-spec =

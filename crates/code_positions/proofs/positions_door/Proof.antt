@@ -1,4 +1,7 @@
 -- `code_positions::positions_door` meets its contract. Assumes nothing.
+use Rattle.columns.specs.Questions.{ask}
+use mathlib.Core.Bool.{_&&_}
+use mathlib.Core.Path.{_∙_}
 use Rattle.code_positions.proofs.positions_door.Statement.{statement}
 use Rattle.code_positions.proofs.positions_door.Tie as tie
 
@@ -21,7 +24,7 @@ asked-requires-2 : tie.Need-asked-requires-2
 asked-requires-2 c κs = tt
 
 returns : tie.Need-returns
-returns c = cc
+returns c = c .asked2 .ensures ∙ (λ i. ask ((c .before .before .both .ensures ∙ (λ i. (c .before .before .before .before .before .three-long .ensures) i && (c .before .before .before .before .three-long2 .ensures) i)) i) 6 ((c .before .asked .ensures ∙ (λ i. ask ((c .before .before .before .vertex-count-sound .ensures) i) 7 0)) i))
 
 pub positions-door-spec : {M : Type 1} → statement M
 positions-door-spec =

@@ -1,4 +1,6 @@
 -- `code_room::edge_columns_long` meets its contract. Assumes nothing.
+use mathlib.Core.Bool.{_&&_}
+use mathlib.Core.Path.{_∙_}
 use Rattle.code_room.specs.Room.{edgeColumnsLong}
 use borrow.Author.Needs.{needs}
 use Rattle.code_room.proofs.edge_columns_long.Statement.{statement}
@@ -24,7 +26,7 @@ both-requires-2 c κs = tt
 
 returns : tie.Need-returns
 unfolding edgeColumnsLong
-returns c = cc
+returns c = c .both2 .ensures ∙ (λ i. (c .before .before .before .before .at-most .ensures) i && (c .before .both .ensures ∙ (λ i. (c .before .before .before .at-most2 .ensures) i && (c .before .before .at-most3 .ensures) i)) i)
 
 pub edge-columns-long-spec : {M : Type 1} → statement M
 edge-columns-long-spec =

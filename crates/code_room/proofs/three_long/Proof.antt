@@ -1,4 +1,6 @@
 -- `code_room::three_long` meets its contract. Assumes nothing.
+use mathlib.Core.Bool.{_&&_}
+use mathlib.Core.Path.{_∙_}
 use Rattle.code_room.specs.Room.{threeLong}
 use Rattle.code_room.proofs.three_long.Statement.{statement}
 use Rattle.code_room.proofs.three_long.Tie as tie
@@ -20,7 +22,7 @@ both-requires-2 c κs = tt
 
 returns : tie.Need-returns
 unfolding threeLong
-returns c = cc
+returns c = c .both2 .ensures ∙ (λ i. (c .before .before .before .before .at-most .ensures) i && (c .before .both .ensures ∙ (λ i. (c .before .before .before .at-most2 .ensures) i && (c .before .before .at-most3 .ensures) i)) i)
 
 pub three-long-spec : {M : Type 1} → statement M
 three-long-spec =

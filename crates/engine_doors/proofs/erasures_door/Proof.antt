@@ -1,4 +1,6 @@
 -- `engine_doors::erasures_door` meets its contract. Assumes nothing.
+use Rattle.columns.specs.Questions.{ask}
+use mathlib.Core.Path.{_∙_}
 use Rattle.engine_doors.proofs.erasures_door.Statement.{statement}
 use Rattle.engine_doors.proofs.erasures_door.Tie as tie
 
@@ -27,7 +29,7 @@ asked-requires-4 : tie.Need-asked-requires-4
 asked-requires-4 c κs = tt
 
 returns : tie.Need-returns
-returns c = cc
+returns c = c .asked4 .ensures ∙ (λ i. ask ((c .before .before .before .before .before .before .before .long-enough .ensures) i) 6 ((c .before .asked3 .ensures ∙ (λ i. ask ((c .before .before .before .before .before .before .engine-sound .ensures) i) 7 ((c .before .before .asked2 .ensures ∙ (λ i. ask ((c .before .before .before .before .before .equal .ensures) i) 12 ((c .before .before .before .asked .ensures ∙ (λ i. ask ((c .before .before .before .before .each-below .ensures) i) 13 0)) i))) i))) i))
 
 pub erasures-door-spec : {M : Type 1} → statement M
 erasures-door-spec =

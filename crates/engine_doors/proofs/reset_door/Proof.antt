@@ -1,4 +1,6 @@
 -- `engine_doors::reset_door` meets its contract. Assumes nothing.
+use Rattle.columns.specs.Questions.{ask}
+use mathlib.Core.Path.{_∙_}
 use Rattle.engine_doors.proofs.reset_door.Statement.{statement}
 use Rattle.engine_doors.proofs.reset_door.Tie as tie
 
@@ -15,7 +17,7 @@ asked-requires-2 : tie.Need-asked-requires-2
 asked-requires-2 c κs = tt
 
 returns : tie.Need-returns
-returns c = cc
+returns c = c .asked2 .ensures ∙ (λ i. ask ((c .before .before .before .long-enough .ensures) i) 6 ((c .before .asked .ensures ∙ (λ i. ask ((c .before .before .engine-sound .ensures) i) 7 0)) i))
 
 pub reset-door-spec : {M : Type 1} → statement M
 reset-door-spec =

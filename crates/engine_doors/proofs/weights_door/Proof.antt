@@ -1,4 +1,6 @@
 -- `engine_doors::weights_door` meets its contract. Assumes nothing.
+use Rattle.columns.specs.Questions.{ask}
+use mathlib.Core.Path.{_∙_}
 use Rattle.engine_doors.proofs.weights_door.Statement.{statement}
 use Rattle.engine_doors.proofs.weights_door.Tie as tie
 
@@ -39,7 +41,7 @@ asked-requires-6 : tie.Need-asked-requires-6
 asked-requires-6 c κs = tt
 
 returns : tie.Need-returns
-returns c = cc
+returns c = c .asked6 .ensures ∙ (λ i. ask ((c .before .before .before .before .before .before .before .before .before .before .before .equal .ensures) i) 6 ((c .before .asked5 .ensures ∙ (λ i. ask ((c .before .before .before .before .before .before .before .before .before .before .long-enough .ensures) i) 6 ((c .before .before .asked4 .ensures ∙ (λ i. ask ((c .before .before .before .before .before .before .before .before .before .engine-sound .ensures) i) 7 ((c .before .before .before .asked3 .ensures ∙ (λ i. ask ((c .before .before .before .before .before .before .before .before .equal2 .ensures) i) 12 ((c .before .before .before .before .asked2 .ensures ∙ (λ i. ask ((c .before .before .before .before .before .before .before .each-below .ensures) i) 13 ((c .before .before .before .before .before .asked .ensures ∙ (λ i. ask ((c .before .before .before .before .before .before .each-weight-sound .ensures) i) 15 0)) i))) i))) i))) i))) i))
 
 pub weights-door-spec : {M : Type 1} → statement M
 weights-door-spec =

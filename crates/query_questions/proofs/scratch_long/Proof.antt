@@ -62,7 +62,7 @@ both-requires-6 c κs = tt
 
 returns : tie.Need-returns
 unfolding scratchLong
-returns c = cc
+returns c = c .both6 .ensures ∙ (λ i. (c .before .before .before .before .before .before .before .before .before .before .before .before .at-most .ensures) i && (c .before .both5 .ensures ∙ (λ i. (c .before .before .before .before .before .before .before .before .before .before .before .at-most2 .ensures) i && (c .before .before .both4 .ensures ∙ (λ i. (c .before .before .before .before .before .before .before .before .before .before .at-most3 .ensures) i && (c .before .before .before .both3 .ensures ∙ (λ i. (c .before .before .before .before .before .before .before .before .before .at-most4 .ensures) i && (c .before .before .before .before .both2 .ensures ∙ (λ i. (c .before .before .before .before .before .before .before .before .at-most5 .ensures) i && (c .before .before .before .before .before .both .ensures ∙ (λ i. (c .before .before .before .before .before .before .before .at-most6 .ensures) i && (c .before .before .before .before .before .before .at-most7 .ensures) i)) i)) i)) i)) i)) i)
 
 pub scratch-long-spec : {M : Type 1} → statement M
 scratch-long-spec =

@@ -1,4 +1,6 @@
 -- `reorder::columns_long` meets its contract. Assumes nothing.
+use mathlib.Core.Bool.{_&&_}
+use mathlib.Core.Path.{_∙_}
 use Rattle.reorder.specs.Columns.{columnsLong}
 use Rattle.reorder.proofs.columns_long.Statement.{statement}
 use Rattle.reorder.proofs.columns_long.Tie as tie
@@ -39,7 +41,7 @@ both-requires-4 c κs = tt
 
 returns : tie.Need-returns
 unfolding columnsLong
-returns c = cc
+returns c = c .both4 .ensures ∙ (λ i. (c .before .before .before .before .before .before .before .before .ends-long .ensures) i && (c .before .both3 .ensures ∙ (λ i. (c .before .before .before .before .before .before .before .vertex-long .ensures) i && (c .before .before .both2 .ensures ∙ (λ i. (c .before .before .before .before .before .before .positions-long .ensures) i && (c .before .before .before .both .ensures ∙ (λ i. (c .before .before .before .before .before .lists-long .ensures) i && (c .before .before .before .before .lists-long2 .ensures) i)) i)) i)) i)
 
 pub columns-long-spec : {M : Type 1} → statement M
 columns-long-spec =

@@ -1,4 +1,6 @@
 -- `reorder::columns_sound` meets its contract. Assumes nothing.
+use mathlib.Core.Bool.{_&&_}
+use mathlib.Core.Path.{_∙_}
 use Rattle.reorder.specs.Columns.{columnsSound}
 use Rattle.reorder.proofs.columns_sound.Statement.{statement}
 use Rattle.reorder.proofs.columns_sound.Tie as tie
@@ -19,7 +21,7 @@ both-requires c κs = tt
 
 returns : tie.Need-returns
 unfolding columnsSound
-returns c = cc
+returns c = c .both .ensures ∙ (λ i. (c .before .before .code-sound .ensures) i && (c .before .marks-sound .ensures) i)
 
 pub columns-sound-spec : {M : Type 1} → statement M
 columns-sound-spec =

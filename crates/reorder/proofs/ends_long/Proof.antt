@@ -1,4 +1,6 @@
 -- `reorder::ends_long` meets its contract. Assumes nothing.
+use mathlib.Core.Bool.{_&&_}
+use mathlib.Core.Path.{_∙_}
 use Rattle.reorder.specs.Columns.{endsLong}
 use Rattle.reorder.proofs.ends_long.Statement.{statement}
 use Rattle.reorder.proofs.ends_long.Tie as tie
@@ -18,7 +20,7 @@ both-requires c κs = tt
 
 returns : tie.Need-returns
 unfolding endsLong
-returns c = cc
+returns c = c .both .ensures ∙ (λ i. (c .before .before .at-most .ensures) i && (c .before .at-most2 .ensures) i)
 
 pub ends-long-spec : {M : Type 1} → statement M
 ends-long-spec = tie.close (tie.spec at-most-requires at-most-requires-2 both-requires returns)

@@ -1,4 +1,6 @@
 -- `reorder::lists_long` meets its contract. Assumes nothing.
+use mathlib.Core.Bool.{_&&_}
+use mathlib.Core.Path.{_∙_}
 use Rattle.reorder.specs.Columns.{listsLong}
 use borrow.Author.Needs.{needs}
 use Rattle.reorder.proofs.lists_long.Statement.{statement}
@@ -23,7 +25,7 @@ both-requires c κs = tt
 
 returns : tie.Need-returns
 unfolding listsLong
-returns c = cc
+returns c = c .both .ensures ∙ (λ i. (c .before .before .at-most .ensures) i && (c .before .sum-within .ensures) i)
 
 pub lists-long-spec : {M : Type 1} → statement M
 lists-long-spec =

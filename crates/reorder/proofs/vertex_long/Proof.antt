@@ -1,4 +1,6 @@
 -- `reorder::vertex_long` meets its contract. Assumes nothing.
+use mathlib.Core.Bool.{_&&_}
+use mathlib.Core.Path.{_∙_}
 use Rattle.reorder.specs.Columns.{vertexLong}
 use Rattle.reorder.proofs.vertex_long.Statement.{statement}
 use Rattle.reorder.proofs.vertex_long.Tie as tie
@@ -24,7 +26,7 @@ both-requires-2 c κs = tt
 
 returns : tie.Need-returns
 unfolding vertexLong
-returns c = cc
+returns c = c .both2 .ensures ∙ (λ i. (c .before .before .before .before .at-most .ensures) i && (c .before .both .ensures ∙ (λ i. (c .before .before .before .at-most2 .ensures) i && (c .before .before .at-most3 .ensures) i)) i)
 
 pub vertex-long-spec : {M : Type 1} → statement M
 vertex-long-spec =

@@ -1,4 +1,6 @@
 -- `neighbors::sound::ends_in_range` meets its contract. Assumes nothing.
+use mathlib.Core.Bool.{_&&_}
+use mathlib.Core.Path.{_∙_}
 use Rattle.neighbors.specs.Sound.{endsInRange}
 use Rattle.neighbors.proofs.sound.ends_in_range.Statement.{statement}
 use Rattle.neighbors.proofs.sound.ends_in_range.Tie as tie
@@ -26,7 +28,7 @@ both-requires-3 c κs = tt
 
 returns : tie.Need-returns
 unfolding endsInRange
-returns c = cc
+returns c = c .both3 .ensures ∙ (λ i. (c .before .before .before .before .before .before .at-most .ensures) i && (c .before .both2 .ensures ∙ (λ i. (c .before .before .before .before .before .at-most2 .ensures) i && (c .before .before .both .ensures ∙ (λ i. (c .before .before .before .before .all-below .ensures) i && (c .before .before .before .all-below2 .ensures) i)) i)) i)
 
 pub ends-in-range-spec : {M : Type 1} → statement M
 ends-in-range-spec =

@@ -1,4 +1,6 @@
 -- `neighbors::sound::log_sound` meets its contract. Assumes nothing.
+use mathlib.Core.Bool.{_&&_}
+use mathlib.Core.Path.{_∙_}
 use Rattle.neighbors.specs.Sound.{logSound}
 use Rattle.neighbors.proofs.sound.log_sound.Statement.{statement}
 use Rattle.neighbors.proofs.sound.log_sound.Tie as tie
@@ -14,7 +16,7 @@ both-requires c κs = tt
 
 returns : tie.Need-returns
 unfolding logSound
-returns c = cc
+returns c = c .both .ensures ∙ (λ i. (c .before .before .all-below .ensures) i && (c .before .weights-sound .ensures) i)
 
 pub log-sound-spec : {M : Type 1} → statement M
 log-sound-spec =

@@ -1,4 +1,6 @@
 -- `syndromes::doors::code_sound` meets its contract. Assumes nothing.
+use mathlib.Core.Bool.{_&&_}
+use mathlib.Core.Path.{_∙_}
 use Rattle.syndromes.specs.Records.{codeSound}
 use Rattle.syndromes.proofs.doors.code_sound.Statement.{statement}
 use Rattle.syndromes.proofs.doors.code_sound.Tie as tie
@@ -19,7 +21,7 @@ both-requires c κs = tt
 
 returns : tie.Need-returns
 unfolding codeSound
-returns c = cc
+returns c = c .both .ensures ∙ (λ i. (c .before .before .graph-sound .ensures) i && (c .before .boundaries-sound .ensures) i)
 
 pub code-sound-spec : {M : Type 1} → statement M
 code-sound-spec =

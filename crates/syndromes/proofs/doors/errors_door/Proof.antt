@@ -1,4 +1,7 @@
 -- `syndromes::doors::errors_door` meets its contract. Assumes nothing.
+use Rattle.columns.specs.Questions.{ask}
+use mathlib.Core.Bool.{_&&_}
+use mathlib.Core.Path.{_∙_}
 use Rattle.syndromes.specs.Errors.{errorsDoor}
 use Rattle.syndromes.proofs.doors.errors_door.Statement.{statement}
 use Rattle.syndromes.proofs.doors.errors_door.Tie as tie
@@ -50,7 +53,7 @@ asked-requires-3 c κs = tt
 
 returns : tie.Need-returns
 unfolding errorsDoor
-returns c = cc
+returns c = c .asked3 .ensures ∙ (λ i. ask ((c .before .before .before .before .before .both .ensures ∙ (λ i. (c .before .before .before .before .before .before .before .before .before .before .before .graph-long .ensures) i && (c .before .before .before .before .before .before .before .before .before .before .syndrome-long .ensures) i)) i) 6 ((c .before .asked2 .ensures ∙ (λ i. ask ((c .before .before .before .both3 .ensures ∙ (λ i. (c .before .before .before .before .before .before .before .before .before .code-sound .ensures) i && (c .before .before .before .before .both2 .ensures ∙ (λ i. (c .before .before .before .before .before .before .before .before .marks-sound .ensures) i && (c .before .before .before .before .before .before .before .marks-sound2 .ensures) i)) i)) i) 7 ((c .before .before .asked .ensures ∙ (λ i. ask ((c .before .before .before .before .before .before .each-below .ensures) i) 13 0)) i))) i))
 
 pub errors-door-spec : {M : Type 1} → statement M
 errors-door-spec =

@@ -1,4 +1,6 @@
 -- `syndromes::doors::probabilities_sound` meets its contract. Assumes nothing.
+use mathlib.Core.Bool.{_&&_}
+use mathlib.Core.Path.{_∙_}
 use Rattle.syndromes.specs.Sampling.{probabilitiesSound}
 use Rattle.syndromes.proofs.doors.probabilities_sound.Statement.{statement}
 use Rattle.syndromes.proofs.doors.probabilities_sound.Tie as tie
@@ -19,7 +21,7 @@ both-requires c κs = tt
 
 returns : tie.Need-returns
 unfolding probabilitiesSound
-returns c = cc
+returns c = c .both .ensures ∙ (λ i. (c .before .before .are-probabilities .ensures) i && (c .before .are-erasure-probabilities .ensures) i)
 
 pub probabilities-sound-spec : {M : Type 1} → statement M
 probabilities-sound-spec =

@@ -1,4 +1,7 @@
 -- `syndromes::doors::sampling_door` meets its contract. Assumes nothing.
+use Rattle.columns.specs.Questions.{ask}
+use mathlib.Core.Bool.{_&&_}
+use mathlib.Core.Path.{_∙_}
 use Rattle.syndromes.specs.Sampling.{samplingDoor}
 use Rattle.syndromes.proofs.doors.sampling_door.Statement.{statement}
 use Rattle.syndromes.proofs.doors.sampling_door.Tie as tie
@@ -50,7 +53,7 @@ asked-requires-3 c κs = tt
 
 returns : tie.Need-returns
 unfolding samplingDoor
-returns c = cc
+returns c = c .asked3 .ensures ∙ (λ i. ask ((c .before .before .before .both3 .ensures ∙ (λ i. (c .before .before .before .before .before .before .before .before .before .before .before .graph-long .ensures) i && (c .before .before .before .before .both2 .ensures ∙ (λ i. (c .before .before .before .before .before .before .before .before .before .before .at-most .ensures) i && (c .before .before .before .before .before .both .ensures ∙ (λ i. (c .before .before .before .before .before .before .before .before .before .at-most2 .ensures) i && (c .before .before .before .before .before .before .before .before .syndrome-long .ensures) i)) i)) i)) i) 6 ((c .before .asked2 .ensures ∙ (λ i. ask ((c .before .before .before .before .before .before .before .code-sound .ensures) i) 7 ((c .before .before .asked .ensures ∙ (λ i. ask ((c .before .before .before .before .before .before .probabilities-sound .ensures) i) 9 0)) i))) i))
 
 pub sampling-door-spec : {M : Type 1} → statement M
 sampling-door-spec =

@@ -1,4 +1,7 @@
 -- `syndromes::doors::syndrome_door` meets its contract. Assumes nothing.
+use Rattle.columns.specs.Questions.{ask}
+use mathlib.Core.Bool.{_&&_}
+use mathlib.Core.Path.{_∙_}
 use Rattle.syndromes.specs.Syndrome.{syndromeDoor}
 use Rattle.syndromes.proofs.doors.syndrome_door.Statement.{statement}
 use Rattle.syndromes.proofs.doors.syndrome_door.Tie as tie
@@ -37,7 +40,7 @@ asked-requires-3 c κs = tt
 
 returns : tie.Need-returns
 unfolding syndromeDoor
-returns c = cc
+returns c = c .asked3 .ensures ∙ (λ i. ask ((c .before .before .before .both .ensures ∙ (λ i. (c .before .before .before .before .before .before .before .graph-long .ensures) i && (c .before .before .before .before .before .before .at-most .ensures) i)) i) 6 ((c .before .asked2 .ensures ∙ (λ i. ask ((c .before .before .before .before .before .code-sound .ensures) i) 7 ((c .before .before .asked .ensures ∙ (λ i. ask ((c .before .before .before .before .each-below .ensures) i) 13 0)) i))) i))
 
 pub syndrome-door-spec : {M : Type 1} → statement M
 syndrome-door-spec =

@@ -1,4 +1,6 @@
 -- `syndromes::doors::syndrome_long` meets its contract. Assumes nothing.
+use mathlib.Core.Bool.{_&&_}
+use mathlib.Core.Path.{_∙_}
 use Rattle.syndromes.specs.Records.{syndromeLong}
 use Rattle.syndromes.proofs.doors.syndrome_long.Statement.{statement}
 use Rattle.syndromes.proofs.doors.syndrome_long.Tie as tie
@@ -30,7 +32,7 @@ both-requires-3 c κs = tt
 
 returns : tie.Need-returns
 unfolding syndromeLong
-returns c = cc
+returns c = c .both3 .ensures ∙ (λ i. (c .before .before .before .before .before .before .at-most .ensures) i && (c .before .both2 .ensures ∙ (λ i. (c .before .before .before .before .before .at-most2 .ensures) i && (c .before .before .both .ensures ∙ (λ i. (c .before .before .before .before .at-most3 .ensures) i && (c .before .before .before .at-most4 .ensures) i)) i)) i)
 
 pub syndrome-long-spec : {M : Type 1} → statement M
 syndrome-long-spec =

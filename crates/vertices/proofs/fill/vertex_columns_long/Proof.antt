@@ -1,4 +1,6 @@
 -- `vertices::fill::vertex_columns_long` meets its contract. Assumes nothing.
+use mathlib.Core.Bool.{_&&_}
+use mathlib.Core.Path.{_∙_}
 use Rattle.vertices.specs.Fill.{vertexColumnsLong}
 use Rattle.vertices.proofs.fill.vertex_columns_long.Statement.{statement}
 use Rattle.vertices.proofs.fill.vertex_columns_long.Tie as tie
@@ -38,7 +40,7 @@ both-requires-5 c κs = tt
 
 returns : tie.Need-returns
 unfolding vertexColumnsLong
-returns c = cc
+returns c = c .both5 .ensures ∙ (λ i. (c .before .before .before .both2 .ensures ∙ (λ i. (c .before .before .before .before .before .before .before .before .before .before .at-most .ensures) i && (c .before .before .before .before .both .ensures ∙ (λ i. (c .before .before .before .before .before .before .before .before .before .at-most2 .ensures) i && (c .before .before .before .before .before .before .before .before .at-most3 .ensures) i)) i)) i && (c .before .both4 .ensures ∙ (λ i. (c .before .before .before .before .before .before .before .at-most4 .ensures) i && (c .before .before .both3 .ensures ∙ (λ i. (c .before .before .before .before .before .before .at-most5 .ensures) i && (c .before .before .before .before .before .at-most6 .ensures) i)) i)) i)
 
 pub vertex-columns-long-spec : {M : Type 1} → statement M
 vertex-columns-long-spec =

@@ -1,4 +1,6 @@
 -- `vertices::sanity::sanity_long` meets its contract. Assumes nothing.
+use mathlib.Core.Bool.{_&&_}
+use mathlib.Core.Path.{_∙_}
 use Rattle.verdicts.specs.Sanity.{sanityLong}
 use borrow.Author.Needs.{needs}
 use Rattle.vertices.proofs.sanity.sanity_long.Statement.{statement}
@@ -36,7 +38,7 @@ both-requires-4 c κs = tt
 
 returns : tie.Need-returns
 unfolding sanityLong
-returns c = cc
+returns c = c .both4 .ensures ∙ (λ i. (c .before .before .both2 .ensures ∙ (λ i. (c .before .before .before .before .before .before .before .before .at-most .ensures) i && (c .before .before .before .both .ensures ∙ (λ i. (c .before .before .before .before .before .before .before .at-most2 .ensures) i && (c .before .before .before .before .before .before .at-most3 .ensures) i)) i)) i && (c .before .both3 .ensures ∙ (λ i. (c .before .before .before .before .before .at-most4 .ensures) i && (c .before .before .before .before .lists-fit .ensures) i)) i)
 
 pub sanity-long-spec : {M : Type 1} → statement M
 sanity-long-spec =

@@ -1,4 +1,4 @@
--- Records: the engine graph. Door: the questions. Step: what one call answers and leaves. Open: what open answers and leaves.
+-- Records: the engine graph. Door: questions 6 and 7. Step: what a load or a reset asks, answers and leaves. Open: the same of open.
 pub mod Records
 pub mod Door
 pub mod Step

@@ -1,4 +1,4 @@
--- What one call answers and what it leaves in every lent column: the relation that the functions' contracts cite.
+-- What a load or a reset answers and what it leaves in every lent column: the relation that the contracts in edge_modifier cite.
 use Prim.Native.Nat.{ℕ}
 use mathlib.Core.Path.{_≡_}
 use mathlib.Core.Bool.{cond}
@@ -14,7 +14,7 @@ use Rattle.engine_columns.specs.Records.{Engine, engine, counts}
 use Rattle.edge_log.specs.Load.{loaded, earlier, named, undone, erased, given}
 use Rattle.engine_columns.specs.Door.{longEnough, sound}
 
--- a call with its arguments
+-- a load or a reset, with its arguments
 pub data Call : Type 0 where
   loadErasures : List ℕ → Call
   loadWeights : List ℕ → List ℕ → Call

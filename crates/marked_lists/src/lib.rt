@@ -48,7 +48,7 @@ fn all_zero(bytes: &[u8], at: usize) -> bool
     zero
 }
 
-// Lists the 8 numbers from a place on whose byte is 1, after those already listed; how many are listed then.
+// Lists those of the 8 numbers from a place on whose byte is 1, after those already listed; how many are listed then.
 fn list_block(bytes: &[u8], at: u32, list: &mut [u32], listed: u32) -> u32
     requires { ⌜ (at + 8 ≤ length (now bytes)) × (at + 8 ≤ length (now list)) × (at + 8 ≤ 32768) × (listed ≡ length (marked at (now bytes))) ⌝ }
     ensures { λ r. ⌜ (r ≡ length (marked (at + 8) (now (bytes .entry)))) × Continued (now (bytes .entry)) at (at + 8) (now (list .entry)) (now (list .exit)) ⌝ }

@@ -1,4 +1,4 @@
-// Question 7, as total tests.
+// Question 7 of counts, ends and log.
 ghost use mathlib.Core.Path.{_≡_};
 ghost use mathlib.Core.Bool.{true};
 ghost use Rattle.columns.specs.Questions.{vertexCountSound, edgeCountSound};

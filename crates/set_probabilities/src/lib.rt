@@ -11,7 +11,7 @@ ghost use mathlib.Core.Path.{_≡_};
 ghost use Rattle.edge_weights.specs.Probabilities.{isProbability, isErasureProbability};
 ghost use Rattle.set_probabilities.specs.Calls.{SetEach};
 
-// Sets the number of each edge, where question 9 is met.
+// Sets each edge to the value: questions 6 and 7, and whether 9 is met.
 fn set_each(met: bool, edge_num: u32, value: f64, column: &mut [f64]) -> Done
     ensures { λ r. ⌜ SetEach met «edge_num» value (now (column .entry)) (now (column .exit)) r ⌝ }
 {

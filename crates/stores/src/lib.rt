@@ -38,7 +38,7 @@ pub fn fill_u8(column: &mut [u8], n: usize, value: u8)
     }
 }
 
-// Copies the first n elements, or all where either column has fewer.
+// Copies the first n elements, or as many as there are and have places.
 pub fn copy_f64(to: &mut [f64], from: &[f64], n: usize)
     ensures { λ _. ⌜ now (to .exit) ≡ sets (now (to .entry)) 0 (take n (now (from .entry))) ⌝ }
 {

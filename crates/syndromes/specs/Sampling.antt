@@ -15,7 +15,7 @@ use Rattle.syndromes.specs.declared.SyndromeAnswer.{SyndromeAnswer}
 use Rattle.syndromes.specs.Records.{CodeGraph, graphLong, codeSound, SyndromeColumns, syndromeLong}
 use Rattle.syndromes.specs.Errors.{SyndromeLeft}
 
--- the defect bytes: errors on those edges, over no defects
+-- the defect bytes: errors on the edges that the draws say, over no defects
 unfoldable pub sampledDefects : DeterministicRng → CodeGraph → (p pe : List Float) → List ℕ
 sampledDefects r g p pe =
     flipEach (g .endsA) (g .endsB) (g .boundary) (sampledErrors r p pe (g .edges)) (replicate (g .vertices) 0)

@@ -1,4 +1,4 @@
-// Questions 6 and 7 of the columns that the calls are lent, and the doors.
+// Questions 6, 7 and 9 of the columns that the calls are lent, and the doors.
 ghost use mathlib.Core.Path.{_≡_};
 ghost use Rattle.syndromes.specs.Records.{codeGraph, graphLong, codeSound, syndromeColumns, syndromeLong};
 ghost use Rattle.syndromes.specs.Errors.{errorsDoor};

@@ -1,4 +1,4 @@
--- Document 01's questions 6 to 10 of weights, as definitions.
+-- What the calls of document 01's section "Weights" ask and answer. Question 9 stands in edge_weights, the setters in set_probabilities.
 -- Answers: what `weight_of_p` answers. Calls: each call's number, answer and columns afterwards.
 pub mod Answers
 pub mod Calls

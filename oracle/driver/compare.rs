@@ -1225,7 +1225,10 @@ fn replay_engine(inputs: &mut Inputs) -> (String, String) {
         input += &line(&values);
         input += &line(queries.iter().flatten());
     }
-    (line([cases]) + &input, output)
+    // document 01's examples on the listing's graph, six cases: the crossing is not the Rust's
+    input += include_str!("examples/stdin");
+    output += include_str!("examples/stdout");
+    (line([cases + 6]) + &input, output)
 }
 
 /// the numbers that crates/replay_codes reads, and what it is to write

@@ -1,14 +1,16 @@
-// Replays the Rust's answers on small graphs: tables with and without an end, loads and resets. Standard input has the cases as decimal
-// numbers, oracle/README.md says how they and the file stdout were made.
+// Replays the Rust's answers on small graphs: tables with and without an end, loads and resets. Then document 01's examples on the listing's graph: paths, and
+// crossings, which the Rust does not have. Standard input has the cases as decimal numbers, oracle/README.md says how they and the file stdout were made.
 // First the number of cases. A case: vertices, edges, queries; first ends, second ends, weights, boundary bytes; a list of four edges and their
 // weights; the queries, three numbers each. A query: 0 source 0, the table; 1 source end, the table up to the end; 2 0 0, load the list as
-// erasures; 3 0 0, load the list with its weights; 4 0 0, reset.
+// erasures; 3 0 0, load the list with its weights; 4 0 0, reset; 5 0 0, crossing; 6 a b, path. Queries after a refused open have the counts that it was asked for.
 use columns::Done;
 use columns::VertexIndex;
 use columns::Weight;
 use complete_graph::End;
+use crossing_answers::CrossingReply;
 use engine_columns::EngineAnswer;
 use engine_columns::EngineCounts;
+use paths::PathAnswer;
 use replay_numbers::after;
 use replay_numbers::at;
 use replay_numbers::copy_u8;
@@ -108,6 +110,155 @@ fn table(
     show_list(&out_previous, c.vertices as usize);
 }
 
+// A refusal's number, or 0 and the crossing weight.
+fn show_crossing(answer: CrossingReply) {
+    match answer {
+        CrossingReply::Crossed(weight) => show_two(0, weight),
+        CrossingReply::Refused(number) => show(number as u64),
+    }
+    end_line();
+}
+
+fn show_two(x: u32, y: u32) {
+    show(x as u64);
+    show(y as u64);
+}
+
+// The crossing weight and the least weights from the left, from a column that holds marks before it.
+fn cross(
+    c: EngineCounts,
+    ends_a: &[u32],
+    ends_b: &[u32],
+    weights: &[Weight],
+    boundary: &[u8],
+    log_edges: &[u32],
+    log_weights: &[Weight],
+) {
+    let mut out_weight = [7i32; VERTICES];
+    let mut numbers = [0u32; 2 * EDGES];
+    let mut list_ends = [0u32; VERTICES];
+    let mut status = [0u8; VERTICES];
+    let mut weight = [0u32; VERTICES];
+    let mut previous = [0u32; VERTICES];
+    let mut node = [0u64; VERTICES];
+    let mut leaf = [0u64; VERTICES];
+    show_crossing(crossings::crossing(
+        c,
+        ends_a,
+        ends_b,
+        weights,
+        boundary,
+        log_edges,
+        log_weights,
+        &mut out_weight,
+        &mut numbers,
+        &mut list_ends,
+        &mut status,
+        &mut weight,
+        &mut previous,
+        &mut node,
+        &mut leaf,
+    ));
+    show_weights(&out_weight, c.vertices as usize);
+}
+
+// A refusal's number, or the path's length and total.
+fn show_path(answer: PathAnswer) {
+    match answer {
+        PathAnswer::Found(count, total) => show_two(count, total),
+        PathAnswer::Refused(number) => show(number as u64),
+    }
+    end_line();
+}
+
+// The path from a to b with its steps, from columns that hold marks before it.
+fn path(
+    c: EngineCounts,
+    ends_a: &[u32],
+    ends_b: &[u32],
+    weights: &[Weight],
+    boundary: &[u8],
+    log_edges: &[u32],
+    log_weights: &[Weight],
+    a: u32,
+    b: u32,
+) {
+    let mut out_vertices = [7u32; VERTICES];
+    let mut out_steps = [7u32; VERTICES];
+    let mut numbers = [0u32; 2 * EDGES];
+    let mut list_ends = [0u32; VERTICES];
+    let mut status = [0u8; VERTICES];
+    let mut weight = [0u32; VERTICES];
+    let mut previous = [0u32; VERTICES];
+    let mut node = [0u64; VERTICES];
+    let mut leaf = [0u64; VERTICES];
+    show_path(paths::get_path(
+        c,
+        ends_a,
+        ends_b,
+        weights,
+        boundary,
+        log_edges,
+        log_weights,
+        VertexIndex(a),
+        VertexIndex(b),
+        &mut out_vertices,
+        &mut out_steps,
+        &mut numbers,
+        &mut list_ends,
+        &mut status,
+        &mut weight,
+        &mut previous,
+        &mut node,
+        &mut leaf,
+    ));
+    show_list(&out_vertices, c.vertices as usize);
+    show_list(&out_steps, c.vertices as usize);
+}
+
+// A query that changes nothing.
+fn ask(
+    c: EngineCounts,
+    ends_a: &[u32],
+    ends_b: &[u32],
+    weights: &[Weight],
+    boundary: &[u8],
+    log_edges: &[u32],
+    log_weights: &[Weight],
+    kind: u64,
+    a: u32,
+    b: u32,
+) {
+    if kind == 5 {
+        cross(c, ends_a, ends_b, weights, boundary, log_edges, log_weights);
+    } else if kind == 6 {
+        path(
+            c,
+            ends_a,
+            ends_b,
+            weights,
+            boundary,
+            log_edges,
+            log_weights,
+            a,
+            b,
+        );
+    } else {
+        table(
+            c,
+            ends_a,
+            ends_b,
+            weights,
+            boundary,
+            log_edges,
+            log_weights,
+            kind,
+            a,
+            b,
+        );
+    }
+}
+
 // A load or a reset, and the weights afterwards.
 fn change(
     c: EngineCounts,
@@ -149,6 +300,13 @@ fn change(
     edge_modifier::reset(c, ends_a, ends_b, weights, boundary, log_edges, log_weights)
 }
 
+fn is_change(kind: u64) -> bool {
+    if kind < 2 {
+        return false;
+    }
+    kind < 5
+}
+
 // One query, of three numbers.
 fn query(
     c: EngineCounts,
@@ -161,11 +319,11 @@ fn query(
     list: &[u32],
     values: &[Weight],
     kind: u64,
-    source: u32,
-    end: u32,
+    a: u32,
+    b: u32,
 ) -> EngineCounts {
-    if kind < 2 {
-        table(
+    if !is_change(kind) {
+        ask(
             c,
             ends_a,
             ends_b,
@@ -174,8 +332,8 @@ fn query(
             log_edges,
             log_weights,
             kind,
-            source,
-            end,
+            a,
+            b,
         );
         return c;
     }
@@ -309,16 +467,16 @@ fn run(
         &mut boundary,
     );
     show_engine(answer);
-    let none = EngineCounts {
-        vertices: 0,
-        edges: 0,
+    let asked = EngineCounts {
+        vertices,
+        edges,
         entries: 0,
     };
     queries(
         numbers,
         first_query,
         count,
-        counts_after(none, answer),
+        counts_after(asked, answer),
         &ends_a,
         &ends_b,
         &mut weights,

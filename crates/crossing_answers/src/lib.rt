@@ -12,12 +12,10 @@ ghost use Rattle.relaxing.specs.Ready.{stateOf, sumLimit};
 ghost use Rattle.crossing_answers.specs.Codes.{codeOf};
 ghost use Rattle.crossing_answers.specs.Crossing.{crossingDoor};
 use columns::Weight;
-use columns::questions::asked;
 use columns::questions::at_most;
 use columns::questions::both;
 use engine_columns::EngineCounts;
-use engine_columns::engine_sound;
-use engine_columns::long_enough;
+use query_questions::query_door;
 
 // The crossing weight, or the number of the question that is not met.
 pub enum CrossingReply {
@@ -70,7 +68,8 @@ pub fn crossing_door(
 ) -> u32
     ensures { λ r. ⌜ r ≡ crossingDoor (engine c (now («ends_a» .entry)) (now («ends_b» .entry)) (now (weights .entry)) (now (boundary .entry)) (now («log_edges» .entry)) (now («log_weights» .entry))) scratch out 0 ⌝ }
 {
-    let long = long_enough(
+    let fits = both(at_most(c.vertices as usize, out), scratch);
+    query_door(
         c,
         ends_a,
         ends_b,
@@ -78,11 +77,10 @@ pub fn crossing_door(
         boundary,
         log_edges,
         log_weights,
+        fits,
+        true,
         0,
-    );
-    let fits = both(at_most(c.vertices as usize, out), scratch);
-    let sound = engine_sound(c, ends_a, ends_b, weights, boundary, log_edges, log_weights);
-    asked(both(long, fits), 6, asked(sound, 7, 0))
+    )
 }
 
 // 18, or the crossing weight that was found.

@@ -49,9 +49,7 @@ returns : tie.Need-returns Inv-loop μ-loop
 returns c =
     let s = c .before .before .before .before .before .before .before in
     let at = c .before .before .before .before .loop in
-    λ w. let t = c .enum-told .given in
-    let r = c .before .before .step-back .ensures w in
-    let e : entryOf (stepBack (stateOf (s .args .status .now) w (s .args .previous .now)) (s .args .a) (at .v)) ≡ None = cc in
+    λ w. let e : entryOf (stepBack (stateOf (s .args .status .now) w (s .args .previous .now)) (s .args .a) (at .v)) ≡ None = sym (c .before .before .step-back .ensures w) ∙ c .enum-told .given .1 in
     omega (arith, at .inv .1 w, count-none (stateOf (s .args .status .now) w (s .args .previous .now)) (s .args .a) (length (s .args .status .now)) (at .j) (at .v) (c .before .before .before .loop-test .taken) (entry-none _ e))
 
 add-j : tie.Need-add-j Inv-loop μ-loop
@@ -65,10 +63,7 @@ loop-again c =
     let s = c .before .before .before .before .before .before .before .before in
     let at = c .before .before .before .before .before .loop in (
       omega (arith, c .before .before .before .before .loop-test .taken),
-      λ w. let t = c .before .p .given in
-          let u = c .known-told .given in
-          let r = c .before .before .before .step-back .ensures w in
-          let e : entryOf (stepBack (stateOf (s .args .status .now) w (s .args .previous .now)) (s .args .a) (at .v)) ≡ Previous (c .before .p .given .0 .0) = cc in
+      λ w. let e : entryOf (stepBack (stateOf (s .args .status .now) w (s .args .previous .now)) (s .args .a) (at .v)) ≡ Previous (c .before .p .given .0 .0) = sym (c .before .before .before .step-back .ensures w) ∙ c .before .p .given .1 in
           omega (arith, at .inv .1 w, count-more (stateOf (s .args .status .now) w (s .args .previous .now)) (s .args .a) (length (s .args .status .now)) (at .j) (at .v) _ (c .before .before .before .before .loop-test .taken) (entry-some _ _ e)),
     )
 

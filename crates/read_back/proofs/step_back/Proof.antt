@@ -28,10 +28,10 @@ enum-told : tie.Need-enum-told
 enum-told c = search needs
 
 returns-2 : tie.Need-returns-2
-returns-2 c = let s = c .before .before .before .before .before .before in λ w. (let r = c .before .before .entry-at .ensures w in let t = c .enum-told .given in cc) ∙ ap (λ b. entryOf (cond b none (entry (stateOf (s .args .status .now) w (s .args .previous .now)) (s .args .v)))) (sym (ne-eqb (s .args .v) (s .args .a) (c .before .before .before .if1 .left)))
+returns-2 c = let s = c .before .before .before .before .before .before in λ w. sym (c .enum-told .given .1) ∙ c .before .before .entry-at .ensures w ∙ ap (λ b. entryOf (cond b none (entry (stateOf (s .args .status .now) w (s .args .previous .now)) (s .args .v)))) (sym (ne-eqb (s .args .v) (s .args .a) (c .before .before .before .if1 .left)))
 
 returns-3 : tie.Need-returns-3
-returns-3 c = let s = c .before .before .before .before .before .before .before in λ w. (let r = c .before .before .before .entry-at .ensures w in let t = c .before .p .given in let u = c .known-told .given in cc) ∙ ap (λ b. entryOf (cond b none (entry (stateOf (s .args .status .now) w (s .args .previous .now)) (s .args .v)))) (sym (ne-eqb (s .args .v) (s .args .a) (c .before .before .before .before .if1 .left)))
+returns-3 c = let s = c .before .before .before .before .before .before .before in λ w. sym (c .before .p .given .1) ∙ c .before .before .before .entry-at .ensures w ∙ ap (λ b. entryOf (cond b none (entry (stateOf (s .args .status .now) w (s .args .previous .now)) (s .args .v)))) (sym (ne-eqb (s .args .v) (s .args .a) (c .before .before .before .before .if1 .left)))
 
 pub step-back-spec : {M : Type 1} → statement M
 step-back-spec =

@@ -1,7 +1,10 @@
 -- `vertex_marks::is_marked` meets its contract. Assumes nothing.
 use mathlib.Core.Path.{_≡_, refl, sym, ap, _∙_}
 use native.Mathlib.Omega.{arith}
-use lib.ListN.{getD}
+use mathlib.Core.Bool.{_&&_}
+use lib.ListN.{getD, length}
+use lib.Dec.{leb}
+use Rattle.columns.specs.Questions.{ask, vertexCountSound}
 use Rattle.vertex_marks.specs.declared.Truth.the-variants.{Is, Refused}
 use Rattle.marks.specs.Marks.{isSet}
 use Rattle.vertex_marks.specs.Marked.{isDoor}
@@ -12,7 +15,11 @@ use Rattle.vertex_marks.proofs.is_marked.Tie as tie
 
 -- the number that the questions give
 number : (c : tie.After-asked3) → let s = c .before .before .before .before .before .before .before .args in c .asked3 .result ≡ isDoor (s .sound) (s .vertex-num) (s .column .now) (s .vertex)
-number c = cc
+number c =
+    let s = c .before .before .before .before .before .before .before .args in
+    let sounds = c .before .before .before .both .ensures ∙ ap (λ b. b && s .sound) (c .before .before .before .before .vertex-count-sound .ensures) in
+    let last = c .before .asked2 .ensures ∙ ap (λ b. ask b 7 (c .before .before .asked .result)) sounds ∙ ap (ask (vertexCountSound (s .vertex-num) && s .sound) 7) (c .before .before .asked .ensures) in
+    c .asked3 .ensures ∙ ap (λ b. ask b 6 (c .before .asked2 .result)) (c .before .before .before .before .before .at-most .ensures) ∙ ap (ask (leb (s .vertex-num) (length (s .column .now))) 6) last
 
 at-most-requires : tie.Need-at-most-requires
 at-most-requires c κs = tt

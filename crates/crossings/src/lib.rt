@@ -47,7 +47,7 @@ fn run_crossing(
     ensures { λ r. ⌜ Coded r (crossing (graphOf (length (now (status .entry))) (now («ends_a» .entry)) (now («ends_b» .entry)) (now (boundary .entry))) (weighs (now (weights .entry)))) ⌝ }
     ensures { λ r. ⌜ now («out_weight» .exit) ≡ wherever (crossing (graphOf (length (now (status .entry))) (now («ends_a» .entry)) (now («ends_b» .entry)) (now (boundary .entry))) (weighs (now (weights .entry)))) (leastFromLeft (graphOf (length (now (status .entry))) (now («ends_a» .entry)) (now («ends_b» .entry)) (now (boundary .entry))) (weighs (now (weights .entry)))) (now («out_weight» .entry)) ⌝ }
 {
-    settling::begin_left(status, boundary);
+    sources::begin_left(status, boundary);
     search(
         ends_a,
         ends_b,

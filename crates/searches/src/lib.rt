@@ -42,7 +42,7 @@ pub fn search(
         list_ends,
         status.len(),
     );
-    settling::begin(status, weight, previous, node, leaf);
+    sources::begin(status, weight, previous, node, leaf);
     settling::settle(
         ends_a,
         ends_b,

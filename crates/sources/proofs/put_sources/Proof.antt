@@ -1,4 +1,4 @@
--- `settling::put_sources` meets its contract. Invariant: the keys of the first v vertices stand. Assumes nothing.
+-- `sources::put_sources` meets its contract. Invariant: the keys of the first v vertices stand. Assumes nothing.
 use mathlib.Core.Path.{_≡_, refl, sym, ap, ap₂, _∙_, subst}
 use Prim.Native.Nat.{ℕ, zero, suc, _+_, _*_, _-_, _<_, _≤_}
 use native.Mathlib.Omega.{arith}
@@ -12,10 +12,10 @@ use Rattle.columns.specs.Lists.{each}
 use Rattle.columns.proofs.Counting.{store-each, whole, replicate-each, length-each}
 use Rattle.priority_queue.specs.Tree.{Tree}
 use Rattle.relaxing.specs.Ready.{Keyed}
-use Rattle.settling.proofs.Beginning.{keyed-none, keyed-more}
+use Rattle.sources.proofs.Beginning.{keyed-none, keyed-more}
 use borrow.Author.Needs.{needs}
-use Rattle.settling.proofs.put_sources.Statement.{statement}
-use Rattle.settling.proofs.put_sources.Tie as tie
+use Rattle.sources.proofs.put_sources.Statement.{statement}
+use Rattle.sources.proofs.put_sources.Tie as tie
 
 abbrev Inv-loop : tie.InvT-loop
 Inv-loop status node₀ leaf₀ n v₀ node leaf v = (v ≤ length status) × (length leaf ≡ length status) × (length node ≡ length node₀) × Tree node leaf (length status) × Keyed status v leaf × (n ≡ length status)

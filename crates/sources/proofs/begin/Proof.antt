@@ -1,13 +1,13 @@
--- `settling::begin` meets its contract. Assumes nothing.
+-- `sources::begin` meets its contract. Assumes nothing.
 use mathlib.Core.Path.{_≡_, sym, ap, _∙_}
 use native.Mathlib.Omega.{arith}
 use lib.ListN.{length, replicate, length-replicate}
 use Rattle.columns.specs.Lists.{each}
 use Rattle.columns.proofs.Counting.{whole, replicate-each}
-use Rattle.settling.proofs.Beginning.{ready-first}
+use Rattle.sources.proofs.Beginning.{ready-first}
 use borrow.Author.Needs.{needs}
-use Rattle.settling.proofs.begin.Statement.{statement}
-use Rattle.settling.proofs.begin.Tie as tie
+use Rattle.sources.proofs.begin.Statement.{statement}
+use Rattle.sources.proofs.begin.Tie as tie
 
 fill-u32-requires : tie.Need-fill-u32-requires
 fill-u32-requires c κs = tt

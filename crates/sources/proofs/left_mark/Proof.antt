@@ -1,4 +1,4 @@
--- `settling::left_mark` meets its contract. Assumes nothing.
+-- `sources::left_mark` meets its contract. Assumes nothing.
 use mathlib.Core.Path.{_≡_, refl, sym, ap, ap₂, _∙_, subst}
 use Prim.Native.Nat.{ℕ, zero, suc, _+_, _*_, _-_, _<_, _≤_}
 use native.Mathlib.Omega.{arith}
@@ -11,8 +11,8 @@ use borrow.Author.Tests.{eq-eqb, ne-eqb}
 use Rattle.columns.specs.Lists.{each}
 use Rattle.columns.proofs.Counting.{store-each, whole, replicate-each, length-each}
 use Rattle.walks.specs.Lists.{bit}
-use Rattle.settling.proofs.left_mark.Statement.{statement}
-use Rattle.settling.proofs.left_mark.Tie as tie
+use Rattle.sources.proofs.left_mark.Statement.{statement}
+use Rattle.sources.proofs.left_mark.Tie as tie
 
 returns : tie.Need-returns
 returns c = ap bit (sym (eq-eqb _ 1 (c .if1 .taken)))

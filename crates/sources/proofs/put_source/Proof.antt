@@ -1,4 +1,4 @@
--- `settling::put_source` meets its contract. Assumes nothing.
+-- `sources::put_source` meets its contract. Assumes nothing.
 use mathlib.Core.Path.{_≡_, refl, sym, ap, ap₂, _∙_, subst}
 use Prim.Native.Nat.{ℕ, zero, suc, _+_, _*_, _-_, _<_, _≤_}
 use native.Mathlib.Omega.{arith}
@@ -10,8 +10,8 @@ use lib.Dec.{eqb, ltb}
 use borrow.Author.Tests.{eq-eqb, ne-eqb}
 use Rattle.columns.specs.Lists.{each}
 use Rattle.columns.proofs.Counting.{store-each, whole, replicate-each, length-each}
-use Rattle.settling.proofs.put_source.Statement.{statement}
-use Rattle.settling.proofs.put_source.Tie as tie
+use Rattle.sources.proofs.put_source.Statement.{statement}
+use Rattle.sources.proofs.put_source.Tie as tie
 
 shared-slice-read-if1 : tie.Need-shared-slice-read-if1
 shared-slice-read-if1 c = omega (arith, c .before .before .before .before .pre .1)

@@ -1,4 +1,4 @@
--- `settling::begin_at` meets its contract. Assumes nothing.
+-- `sources::begin_at` meets its contract. Assumes nothing.
 use mathlib.Core.Path.{_≡_, refl, sym, ap, ap₂, _∙_, subst}
 use Prim.Native.Nat.{ℕ, zero, suc, _+_, _*_, _-_, _<_, _≤_}
 use native.Mathlib.Omega.{arith}
@@ -10,8 +10,8 @@ use lib.Dec.{eqb, ltb}
 use borrow.Author.Tests.{eq-eqb, ne-eqb}
 use Rattle.columns.specs.Lists.{each}
 use Rattle.columns.proofs.Counting.{store-each, whole, replicate-each, length-each}
-use Rattle.settling.proofs.begin_at.Statement.{statement}
-use Rattle.settling.proofs.begin_at.Tie as tie
+use Rattle.sources.proofs.begin_at.Statement.{statement}
+use Rattle.sources.proofs.begin_at.Tie as tie
 
 fill-u8-requires : tie.Need-fill-u8-requires
 fill-u8-requires c κs = tt

@@ -1,4 +1,4 @@
--- `settling::begin_left` meets its contract. Invariant: the bytes of the first v vertices are written. Assumes nothing.
+-- `sources::begin_left` meets its contract. Invariant: the bytes of the first v vertices are written. Assumes nothing.
 use mathlib.Core.Path.{_≡_, refl, sym, ap, ap₂, _∙_, subst}
 use Prim.Native.Nat.{ℕ, zero, suc, _+_, _*_, _-_, _<_, _≤_}
 use native.Mathlib.Omega.{arith}
@@ -12,8 +12,8 @@ use Rattle.columns.specs.Lists.{each}
 use Rattle.columns.proofs.Counting.{store-each, whole, replicate-each, length-each}
 use Rattle.walks.specs.Lists.{delta}
 use borrow.Author.Needs.{needs}
-use Rattle.settling.proofs.begin_left.Statement.{statement}
-use Rattle.settling.proofs.begin_left.Tie as tie
+use Rattle.sources.proofs.begin_left.Statement.{statement}
+use Rattle.sources.proofs.begin_left.Tie as tie
 
 abbrev Inv-loop : tie.InvT-loop
 Inv-loop status₀ boundary v₀ status v = (v ≤ length status₀) × (length status ≡ length status₀) × (status ≡ sets status₀ 0 (each v (λ u. delta (getD boundary u 0) 1)))

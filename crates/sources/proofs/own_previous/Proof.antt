@@ -1,4 +1,4 @@
--- `settling::own_previous` meets its contract. Invariant: the first v places are written. Assumes nothing.
+-- `sources::own_previous` meets its contract. Invariant: the first v places are written. Assumes nothing.
 use mathlib.Core.Path.{_≡_, refl, sym, ap, ap₂, _∙_, subst}
 use Prim.Native.Nat.{ℕ, zero, suc, _+_, _*_, _-_, _<_, _≤_}
 use native.Mathlib.Omega.{arith}
@@ -11,8 +11,8 @@ use borrow.Author.Tests.{eq-eqb, ne-eqb}
 use Rattle.columns.specs.Lists.{each}
 use Rattle.columns.proofs.Counting.{store-each, whole, replicate-each, length-each}
 use borrow.Author.Needs.{needs}
-use Rattle.settling.proofs.own_previous.Statement.{statement}
-use Rattle.settling.proofs.own_previous.Tie as tie
+use Rattle.sources.proofs.own_previous.Statement.{statement}
+use Rattle.sources.proofs.own_previous.Tie as tie
 
 abbrev Inv-loop : tie.InvT-loop
 Inv-loop previous₀ v₀ previous v = (v ≤ length previous₀) × (length previous ≡ length previous₀) × (previous ≡ sets previous₀ 0 (each v (λ u. u)))

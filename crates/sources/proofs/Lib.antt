@@ -1,0 +1,2 @@
+-- Beginning: the state before the first turn.
+pub mod Beginning

@@ -1,4 +1,5 @@
 // Damaged graphs for `sanity_check`, and getters after setters.
+ghost use Prim.Native.Nat.{_≤_};
 use code_access::ListCount;
 use code_access::SyndromeCounts;
 use code_access::Truth;
@@ -49,50 +50,60 @@ fn show_verdict(v: Verdict) {
     end_line();
 }
 
-// The edges (0,1) (1,2) (0,2) with these lists.
-fn show_triangle(lengths: &[u32], numbers: &[u32]) {
+// The edges (0,1) (1,2) (0,2) with the first n lengths and the first m numbers.
+fn show_triangle(lengths: [u32; 3], n: usize, numbers: [u32; 6], m: usize)
+    requires { ⌜ (n ≤ 3) × (m ≤ 6) ⌝ }
+{
     let a = [0u32, 1, 0];
     let b = [1u32, 2, 2];
-    show_verdict(vertices::sanity::sanity_check(3, 3, &a, &b, lengths, numbers));
+    show_verdict(vertices::sanity::sanity_check(3, 3, &a, &b, &lengths[..n], &numbers[..m]));
 }
 
-// Edges with sound lists for two vertices and edge 0.
-fn show_edges(edge_num: u32, a: &[u32], b: &[u32]) {
+// The first n and the first m ends, with sound lists for two vertices and edge 0.
+fn show_edges(edge_num: u32, a: [u32; 4], n: usize, b: [u32; 4], m: usize)
+    requires { ⌜ (n ≤ 4) × (m ≤ 4) ⌝ }
+{
     let lengths = [1u32, 1];
     let numbers = [0u32, 0, 0, 0, 0, 0, 0, 0];
-    show_verdict(vertices::sanity::sanity_check(2, edge_num, a, b, &lengths, &numbers));
+    show_verdict(vertices::sanity::sanity_check(2, edge_num, &a[..n], &b[..m], &lengths, &numbers));
 }
 
 fn verdicts_on_edges() {
     // no edges
-    show_edges(0, &[0u32], &[1u32]);
+    show_edges(0, [0u32; 4], 1, [1u32; 4], 1);
     // one edge
-    show_edges(1, &[0u32], &[1u32]);
+    show_edges(1, [0u32; 4], 1, [1u32; 4], 1);
     // the pair of edges 0, 2 and 3
-    show_edges(4, &[0u32, 1, 1, 0], &[1u32, 2, 0, 1]);
+    show_edges(4, [0u32, 1, 1, 0], 4, [1u32, 2, 0, 1], 4);
     // equal ends are a pair too
-    show_edges(3, &[0u32, 7, 7], &[1u32, 7, 7]);
+    show_edges(3, [0u32, 7, 7, 0], 3, [1u32, 7, 7, 0], 3);
     // ends beyond every limit
-    show_edges(3, &[4000000000u32, 5, 5], &[5u32, 4000000001, 4000000000]);
+    show_edges(
+        3,
+        [4000000000u32, 5, 5, 0],
+        3,
+        [5u32, 4000000001, 4000000000, 0],
+        3,
+    );
     // too few ends
-    show_edges(3, &[0u32, 1], &[1u32, 2, 2]);
+    show_edges(3, [0u32, 1, 0, 0], 2, [1u32, 2, 2, 0], 3);
 }
 
 fn verdicts_on_vertices() {
     // sound
-    show_triangle(&[2u32, 2, 2], &[0u32, 2, 0, 1, 1, 2]);
+    show_triangle([2u32, 2, 2], 3, [0u32, 2, 0, 1, 1, 2], 6);
     // vertex 1 has no edges; that vertex 2 has edge 1 twice comes later
-    show_triangle(&[2u32, 0, 2], &[0u32, 2, 1, 1, 0, 0]);
+    show_triangle([2u32, 0, 2], 3, [0u32, 2, 1, 1, 0, 0], 6);
     // vertex 0 has edge 2 twice
-    show_triangle(&[3u32, 2, 0], &[2u32, 0, 2, 0, 1, 0]);
+    show_triangle([3u32, 2, 0], 3, [2u32, 0, 2, 0, 1, 0], 6);
     // a number beyond every limit
-    show_triangle(&[1u32, 3, 1], &[0u32, 4000000000, 1, 4000000000, 1, 0]);
+    show_triangle([1u32, 3, 1], 3, [0u32, 4000000000, 1, 4000000000, 1, 0], 6);
     // numbers for 7 places asked for, 6 lent
-    show_triangle(&[3u32, 2, 2], &[0u32, 2, 0, 1, 1, 2]);
+    show_triangle([3u32, 2, 2], 3, [0u32, 2, 0, 1, 1, 2], 6);
     // fewer than twice the edges
-    show_triangle(&[1u32, 1, 1], &[0u32, 0, 1, 1, 2]);
+    show_triangle([1u32, 1, 1], 3, [0u32, 0, 1, 1, 2, 0], 5);
     // too few lengths
-    show_triangle(&[2u32, 2], &[0u32, 2, 0, 1, 1, 2]);
+    show_triangle([2u32, 2, 0], 2, [0u32, 2, 0, 1, 1, 2], 6);
 }
 
 fn show_done(d: Done) {
@@ -111,14 +122,6 @@ fn show_count(c: ListCount) {
     end_line();
 }
 
-fn show_counts(c: SyndromeCounts) {
-    match c {
-        SyndromeCounts::Counts(d, e) => write_two(d, e),
-        SyndromeCounts::Refused(number) => write_refusal(number),
-    }
-    end_line();
-}
-
 fn show_truth(t: Truth) {
     match t {
         Truth::Is(value) => {
@@ -133,26 +136,33 @@ fn show_truth(t: Truth) {
     end_line();
 }
 
-fn show_four(s: &[u32; 4]) {
+fn show_four(s: [u32; 4]) {
     write_three(s[0], s[1], s[2]);
     write_comma();
     write_number(s[3]);
     end_line();
 }
 
+// Sets the defects, and reads them back.
+fn set_and_get(list: &[u32], bytes: &mut [u8; 4], read: &mut [u32; 4]) {
+    show_done(code_access::set_defect_vertices(4, list, bytes));
+    show_count(code_access::get_defect_vertices(4, bytes, read));
+    show_four(*read);
+}
+
+fn show_defect(bytes: [u8; 4], vertex: u32) {
+    show_truth(code_access::is_defect(4, &bytes, VertexIndex(vertex)));
+}
+
 // Defects 3, 1 and 3 again; then a list that names vertex 4.
 fn defects() {
     let mut bytes = [1u8, 1, 1, 1];
-    let mut list = [9u32, 9, 9, 9];
-    show_done(code_access::set_defect_vertices(4, &[3u32, 1, 3], &mut bytes));
-    show_count(code_access::get_defect_vertices(4, &bytes, &mut list));
-    show_four(&list);
-    show_done(code_access::set_defect_vertices(4, &[0u32, 4], &mut bytes));
-    show_count(code_access::get_defect_vertices(4, &bytes, &mut list));
-    show_four(&list);
-    show_truth(code_access::is_defect(4, &bytes, VertexIndex(1)));
-    show_truth(code_access::is_defect(4, &bytes, VertexIndex(2)));
-    show_truth(code_access::is_defect(4, &bytes, VertexIndex(4)));
+    let mut read = [9u32, 9, 9, 9];
+    set_and_get(&[3u32, 1, 3], &mut bytes, &mut read);
+    set_and_get(&[0u32, 4], &mut bytes, &mut read);
+    show_defect(bytes, 1);
+    show_defect(bytes, 2);
+    show_defect(bytes, 4);
 }
 
 // Both lists at once.
@@ -162,9 +172,17 @@ fn syndrome() {
     let mut defects = [9u32, 9, 9, 9];
     let mut erasures = [9u32, 9, 9, 9];
     show_done(code_access::set_syndrome(4, 3, &[2u32], &[2u32, 0], &mut defect, &mut erasure));
-    show_counts(code_access::get_syndrome(4, 3, &defect, &erasure, &mut defects, &mut erasures));
-    show_four(&defects);
-    show_four(&erasures);
+    match code_access::get_syndrome(4, 3, &defect, &erasure, &mut defects, &mut erasures) {
+        SyndromeCounts::Counts(d, e) => write_two(d, e),
+        SyndromeCounts::Refused(number) => write_refusal(number),
+    }
+    end_line();
+    show_four(defects);
+    show_four(erasures);
+}
+
+fn show_virtual(boundary: [u8; 4], vertex: u32) {
+    show_truth(code_access::is_virtual(4, &boundary, VertexIndex(vertex)));
 }
 
 // The listing's graph: half weights 500, vertex 3 left, vertex 2 right.
@@ -186,13 +204,13 @@ fn initializer() {
         &mut weight,
         &mut list,
     ));
-    show_four(&a);
-    show_four(&b);
-    show_four(&weight);
-    show_four(&list);
-    show_truth(code_access::is_virtual(4, &boundary, VertexIndex(1)));
-    show_truth(code_access::is_virtual(4, &boundary, VertexIndex(2)));
-    show_truth(code_access::is_virtual(4, &boundary, VertexIndex(3)));
+    show_four(a);
+    show_four(b);
+    show_four(weight);
+    show_four(list);
+    show_virtual(boundary, 1);
+    show_virtual(boundary, 2);
+    show_virtual(boundary, 3);
 }
 
 fn main() {

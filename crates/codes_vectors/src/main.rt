@@ -1,4 +1,5 @@
 // Builds codes of every kind and prints their counts and a checksum of each column. What it prints is compared with the file stdout.
+ghost use Prim.Native.Nat.{_≤_};
 use example_codes::Created;
 use example_codes::create::create_code;
 use libc::STDOUT_FILENO;
@@ -94,8 +95,18 @@ fn show_code(
     }
 }
 
-// A code in columns for every code that fits.
-fn code(kind: u32, d: u32, rounds: u32) {
+// A code in the first places of the columns: how many for the edges, for their second ends, for the vertices and for the lists.
+fn code_in(
+    kind: u32,
+    d: u32,
+    rounds: u32,
+    edges: usize,
+    second_ends: usize,
+    vertices: usize,
+    entries: usize,
+)
+    requires { ⌜ (edges ≤ 19685) × («second_ends» ≤ 19685) × (vertices ≤ 4096) × (entries ≤ 39370) ⌝ }
+{
     let mut ends_a = [0u32; 19685];
     let mut ends_b = [0u32; 19685];
     let mut p = [0.5; 19685];
@@ -113,19 +124,19 @@ fn code(kind: u32, d: u32, rounds: u32) {
         kind,
         d,
         rounds,
-        &mut ends_a,
-        &mut ends_b,
-        &mut p,
-        &mut pe,
-        &mut half_weight,
-        &mut erasure,
-        &mut pos_i,
-        &mut pos_j,
-        &mut pos_t,
-        &mut boundary,
-        &mut defect,
-        &mut list_lengths,
-        &mut neighbor_numbers,
+        &mut ends_a[..edges],
+        &mut ends_b[..second_ends],
+        &mut p[..edges],
+        &mut pe[..edges],
+        &mut half_weight[..edges],
+        &mut erasure[..edges],
+        &mut pos_i[..vertices],
+        &mut pos_j[..vertices],
+        &mut pos_t[..vertices],
+        &mut boundary[..vertices],
+        &mut defect[..vertices],
+        &mut list_lengths[..vertices],
+        &mut neighbor_numbers[..entries],
     );
     show_code(
         answer,
@@ -140,43 +151,9 @@ fn code(kind: u32, d: u32, rounds: u32) {
     );
 }
 
-// Columns with one place too few for the edges.
-fn short() {
-    let mut ends_a = [0u32; 3];
-    let mut ends_b = [0u32; 2];
-    let mut p = [0.5; 3];
-    let mut pe = [0.5; 3];
-    let mut half_weight = [7u32; 3];
-    let mut erasure = [1u8; 3];
-    let mut pos_i = [0.5; 4];
-    let mut pos_j = [0.5; 4];
-    let mut pos_t = [0.5; 4];
-    let mut boundary = [9u8; 4];
-    let mut defect = [1u8; 4];
-    let mut list_lengths = [0u32; 4];
-    let mut neighbor_numbers = [0u32; 6];
-    let answer = create_code(
-        1,
-        3,
-        0,
-        &mut ends_a,
-        &mut ends_b,
-        &mut p,
-        &mut pe,
-        &mut half_weight,
-        &mut erasure,
-        &mut pos_i,
-        &mut pos_j,
-        &mut pos_t,
-        &mut boundary,
-        &mut defect,
-        &mut list_lengths,
-        &mut neighbor_numbers,
-    );
-    match answer {
-        Created::Code(v, _) => show(wide(v)),
-        Created::Refused(number) => show(wide(number)),
-    }
+// A code in columns for every code that fits.
+fn code(kind: u32, d: u32, rounds: u32) {
+    code_in(kind, d, rounds, 19685, 19685, 4096, 39370);
 }
 
 fn main() {
@@ -196,5 +173,6 @@ fn main() {
     code(1, 4, 1);
     code(5, 3, 1);
     code(2, 65, 0);
-    short();
+    // Columns with one place too few for the edges.
+    code_in(1, 3, 0, 3, 2, 4, 6);
 }

@@ -25,8 +25,9 @@ const NAMED: usize = 4;
 
 const ORDERED: usize = 24;
 
-// The probabilities of a case.
-fn probability(place: u64) -> f64 {
+// The probability whose place in the table is the number at i.
+fn probability(numbers: &[u64], i: usize) -> f64 {
+    let place = at(numbers, i);
     if place == 0 {
         return 0.0;
     }
@@ -72,16 +73,6 @@ fn show_syndrome(answer: SyndromeAnswer, defect_list: &[u32], erasure_list: &[u3
             show_list(erasure_list, erasures as usize);
         }
         SyndromeAnswer::Refused(number) => {
-            show(number as u64);
-            end_line();
-        }
-    }
-}
-
-fn show_found(answer: ListAnswer, defect_list: &[u32]) {
-    match answer {
-        ListAnswer::Count(count) => show_list(defect_list, count as usize),
-        ListAnswer::Refused(number) => {
             show(number as u64);
             end_line();
         }
@@ -147,7 +138,13 @@ fn flipped(v: u32, e: u32, ends_a: &[u32], ends_b: &[u32], boundary: &[u8], list
 fn found(v: u32, e: u32, ends_a: &[u32], ends_b: &[u32], boundary: &[u8], list: &[u32]) {
     let mut defect_list = [0u32; VERTICES];
     let syndrome = syndromes::syndrome_of(v, e, ends_a, ends_b, boundary, list, &mut defect_list);
-    show_found(syndrome, &defect_list);
+    match syndrome {
+        ListAnswer::Count(count) => show_list(&defect_list, count as usize),
+        ListAnswer::Refused(number) => {
+            show(number as u64);
+            end_line();
+        }
+    }
 }
 
 // The counts, and what is found without a change of the code.
@@ -281,8 +278,8 @@ fn case(numbers: &[u64], from: usize) -> usize {
         narrow_at(numbers, after(from, 1)),
         narrow_at(numbers, after(from, 2)),
         at(numbers, after(from, 3)),
-        probability(at(numbers, after(from, 4))),
-        probability(at(numbers, after(from, 5))),
+        probability(numbers, after(from, 4)),
+        probability(numbers, after(from, 5)),
         &list,
         &order,
     );

@@ -60,10 +60,10 @@ fn show_done(answer: Done) {
 // The counts, the bytes and the lists that a call leaves.
 fn show_syndrome(
     answer: SyndromeAnswer,
-    defect: &[u8],
-    erasure: &[u8],
-    defect_list: &[u32],
-    erasure_list: &[u32],
+    defect: [u8; 9],
+    erasure: [u8; 10],
+    defect_list: [u32; 9],
+    erasure_list: [u32; 10],
 ) {
     match answer {
         SyndromeAnswer::Counts { defects, erasures } => {
@@ -74,10 +74,10 @@ fn show_syndrome(
         SyndromeAnswer::Refused(number) => show_number(number as u64),
     }
     end_line();
-    show_bytes(defect, defect.len());
-    show_bytes(erasure, erasure.len());
-    show_list(defect_list, defect_list.len());
-    show_list(erasure_list, erasure_list.len());
+    show_bytes(&defect, 9);
+    show_bytes(&erasure, 10);
+    show_list(&defect_list, 9);
+    show_list(&erasure_list, 10);
 }
 
 // One sampling; the columns hold 7 before it, and one place more than they need.
@@ -105,7 +105,7 @@ fn sample(seed: u64) {
         &mut defect_list,
         &mut erasure_list,
     );
-    show_syndrome(answer, &defect, &erasure, &defect_list, &erasure_list);
+    show_syndrome(answer, defect, erasure, defect_list, erasure_list);
 }
 
 // Errors over standing defects, an edge named twice; then a number out of range.
@@ -129,7 +129,7 @@ fn errors(list: &[u32]) {
         &mut defect_list,
         &mut erasure_list,
     );
-    show_syndrome(answer, &defect, &erasure, &defect_list, &erasure_list);
+    show_syndrome(answer, defect, erasure, defect_list, erasure_list);
 }
 
 fn syndrome(list: &[u32]) {

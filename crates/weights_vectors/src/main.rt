@@ -62,6 +62,10 @@ fn write_number(n: u32) {
     io::print_decimal(STDOUT_FILENO, n as u64);
 }
 
+fn write_blank() {
+    io::write_all(STDOUT_FILENO, b" ");
+}
+
 fn write_refusal(number: u32) {
     io::write_all(STDOUT_FILENO, b"r");
     write_number(number);
@@ -83,11 +87,11 @@ fn show_weight(p: f64) {
     }
 }
 
-fn write_half_weights(column: &[u32; 3]) {
+fn write_half_weights(column: [u32; 3]) {
     write_number(column[0]);
-    io::write_all(STDOUT_FILENO, b" ");
+    write_blank();
     write_number(column[1]);
-    io::write_all(STDOUT_FILENO, b" ");
+    write_blank();
     write_number(column[2]);
 }
 
@@ -96,7 +100,7 @@ fn show_half_weights(p: f64, q: f64, max_half_weight: u32) {
     let ps = [p, q];
     let mut column = [7u32; 3];
     match weights::compute_weights(2, &ps, &mut column, max_half_weight) {
-        Done::Accepted => write_half_weights(&column),
+        Done::Accepted => write_half_weights(column),
         Done::Refused(number) => write_refusal(number),
     }
 }
@@ -112,7 +116,7 @@ fn show_done(answer: Done) {
 fn show_set(p: f64) {
     let mut column = [0.0; 3];
     show_done(weights::set_probability(2, p, &mut column));
-    io::write_all(STDOUT_FILENO, b" ");
+    write_blank();
     show_done(weights::set_erasure_probability(2, p, &mut column));
 }
 
@@ -124,9 +128,9 @@ fn show(text: &[u8], at: usize)
     let q = of_bits(number(text, at + 17, 16));
     let max_half_weight = (number(text, at + 34, 8) % 0x1_0000_0000) as u32;
     show_weight(p);
-    io::write_all(STDOUT_FILENO, b" ");
+    write_blank();
     show_half_weights(p, q, max_half_weight);
-    io::write_all(STDOUT_FILENO, b" ");
+    write_blank();
     show_set(p);
     io::write_all(STDOUT_FILENO, b"\n");
 }

@@ -1225,7 +1225,7 @@ fn replay_engine(inputs: &mut Inputs) -> (String, String) {
         input += &line(&values);
         input += &line(queries.iter().flatten());
     }
-    // document 01's examples on the listing's graph, six cases: the crossing is not the Rust's
+    // six cases that are not the Rust's: document 01's examples on the listing's graph, and refusals on graphs like it
     input += include_str!("examples/stdin");
     output += include_str!("examples/stdout");
     (line([cases + 6]) + &input, output)

@@ -143,7 +143,7 @@ pub fn counts_report(answer: SyndromeCounts) -> TwoCounts
     }
 }
 
-// Whether a vertex is.
+// Whether a vertex is virtual or a defect.
 pub fn truth_report(answer: Truth) -> TruthReport
     ensures { λ r. ⌜ ReportsTruth answer r ⌝ }
 {

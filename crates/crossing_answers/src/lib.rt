@@ -26,7 +26,7 @@ pub enum CrossingReply {
 // A weight that no vertex has.
 pub const NO_WEIGHT: Weight = 2147483648;
 
-// The lesser of two weights, where the second is that of a right vertex that was taken.
+// The lesser of two weights where the second is that of a right vertex that was taken, else the first.
 fn nearer(best: Weight, boundary: u8, status: u8, weight: Weight) -> Weight
     ensures { λ r. ⌜ r ≡ cond (eqb boundary 2 && eqb status 2) (cond (ltb weight best) weight best) best ⌝ }
 {
@@ -40,7 +40,7 @@ fn nearer(best: Weight, boundary: u8, status: u8, weight: Weight) -> Weight
     best
 }
 
-// The least weight of a right vertex that was taken.
+// The least weight of a right vertex that was taken, NO_WEIGHT where there is none.
 pub fn nearest_right(status: &[u8], weight: &[Weight], boundary: &[u8]) -> Weight
     requires { ⌜ (length (now weight) ≡ length (now status)) × (length (now boundary) ≡ length (now status)) × ((v : ℕ) → v < length (now status) → getD (now weight) v 0 < sumLimit) ⌝ }
     ensures { λ r. ⌜ ((p : List ℕ) → r ≡ codeOf (weightOf (stateOf (now (status .entry)) (now (weight .entry)) p) (firstLeast (λ v. eqb (getD (now (boundary .entry)) v 0) 2 && taken (stateOf (now (status .entry)) (now (weight .entry)) p) v) (weightAt (stateOf (now (status .entry)) (now (weight .entry)) p)) (length (now (status .entry)))))) ⌝ }

@@ -80,7 +80,7 @@ pub fn query_door(
     )
 }
 
-// The number after which a search from the source stops, where an end is named.
+// The number after which a search from the source stops, where an end is named: where that is the source, the number of vertices, which no vertex has.
 pub fn named_stop(b: VertexIndex, source: u32, vertices: u32) -> u32
     ensures { λ r. ⌜ r ≡ cond (eqb (b .0) source) vertices (b .0) ⌝ }
 {

@@ -1,5 +1,5 @@
-// Replays the Rust's answers on small graphs: tables with and without an end, loads and resets. Then document 01's examples on the listing's graph: paths, and
-// crossings, which the Rust does not have. Standard input has the cases as decimal numbers, oracle/README.md says how they and the file stdout were made.
+// Replays the Rust's answers on small graphs: tables with and without an end, loads and resets. Then six cases that are not the Rust's: document 01's
+// examples on the listing's graph (paths, crossings, an erasure, a reset, every weight 1), and refusals on graphs like it. Standard input has the cases as decimal numbers, oracle/README.md says how they and the file stdout were made.
 // First the number of cases. A case: vertices, edges, queries; first ends, second ends, weights, boundary bytes; a list of four edges and their
 // weights; the queries, three numbers each. A query: 0 source 0, the table; 1 source end, the table up to the end; 2 0 0, load the list as
 // erasures; 3 0 0, load the list with its weights; 4 0 0, reset; 5 0 0, crossing; 6 a b, path. Queries after a refused open have the counts that it was asked for.
@@ -259,7 +259,7 @@ fn ask(
     }
 }
 
-// A load or a reset, and the weights afterwards.
+// A load or a reset.
 fn change(
     c: EngineCounts,
     ends_a: &[u32],

@@ -49,66 +49,6 @@ fn write_made(
 }
 
 // The text for a code, over columns for 1,024 vertices.
-fn write_code_in(
-    kind: u32,
-    d: u32,
-    rounds: u32,
-    probability: f64,
-    max_half_weight: Weight,
-    text: &mut [u8],
-    ends_a: &mut [u32],
-    ends_b: &mut [u32],
-    p: &mut [f64],
-    pe: &mut [f64],
-    half_weight: &mut [u32],
-    erasure: &mut [u8],
-    pos_i: &mut [f64],
-    pos_j: &mut [f64],
-    pos_t: &mut [f64],
-    boundary: &mut [u8],
-    defect: &mut [u8],
-    list_lengths: &mut [u32],
-    neighbor_numbers: &mut [u32],
-) -> usize
-    requires { ⌜ CodeRoom (record { endsA = now «ends_a»; endsB = now «ends_b»; p = now p; pe = now pe; halfWeight = now «half_weight»; erasure = now erasure; posI = now «pos_i»; posJ = now «pos_j»; posT = now «pos_t»; boundary = now boundary; defect = now defect; listLengths = now «list_lengths»; neighborNumbers = now «neighbor_numbers» }) ⌝ }
-    ensures { λ r. ⌜ Put (now (text .entry)) 0 (codeText kind d rounds probability «max_half_weight») (now (text .exit)) r ⌝ }
-{
-    let made = new(
-        kind,
-        d,
-        rounds,
-        probability,
-        max_half_weight,
-        ends_a,
-        ends_b,
-        p,
-        pe,
-        half_weight,
-        erasure,
-        pos_i,
-        pos_j,
-        pos_t,
-        boundary,
-        defect,
-        list_lengths,
-        neighbor_numbers,
-    );
-    write_made(
-        made,
-        kind,
-        d,
-        rounds,
-        probability,
-        max_half_weight,
-        ends_a,
-        ends_b,
-        half_weight,
-        boundary,
-        text,
-    )
-}
-
-// The text for a code.
 pub fn write_code(
     kind: u32,
     d: u32,
@@ -132,13 +72,12 @@ pub fn write_code(
     let mut defect = [0u8; 1024];
     let mut list_lengths = [0u32; 1024];
     let mut neighbor_numbers = [0u32; 12288];
-    write_code_in(
+    let made = new(
         kind,
         d,
         rounds,
         probability,
         max_half_weight,
-        text,
         &mut ends_a,
         &mut ends_b,
         &mut p,
@@ -152,6 +91,19 @@ pub fn write_code(
         &mut defect,
         &mut list_lengths,
         &mut neighbor_numbers,
+    );
+    write_made(
+        made,
+        kind,
+        d,
+        rounds,
+        probability,
+        max_half_weight,
+        &ends_a,
+        &ends_b,
+        &half_weight,
+        &boundary,
+        text,
     )
 }
 

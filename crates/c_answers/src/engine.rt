@@ -2,7 +2,6 @@
 use columns::VertexIndex;
 use complete_graph::End;
 use engine_columns::EngineAnswer;
-use engine_columns::EngineCounts;
 ghost use mathlib.Core.Path.{_≡_};
 ghost use Rattle.c_answers.specs.Engine.{ReportsEngine, endOf};
 

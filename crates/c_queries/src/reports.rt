@@ -1,7 +1,6 @@
 // Answers as structs of numbers.
 use c_reports::OneCount;
 use c_reports::TwoCounts;
-use columns::Weight;
 use crossing_answers::CrossingReply;
 use paths::PathAnswer;
 ghost use Rattle.c_queries.specs.Reports.{ReportsPath, ReportsCrossing};

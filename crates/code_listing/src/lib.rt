@@ -6,11 +6,10 @@ use columns::Weight;
 use example_codes::Created;
 use listing::write_refusal;
 use weighted_codes::new;
-ghost use Rattle.example_codes.specs.Columns.{CodeColumns};
 ghost use Rattle.texts.specs.Steps.{Put};
 ghost use Rattle.code_listing.specs.Listing.{codeText};
 ghost use Rattle.code_listing.specs.Claims.{EveryCodeCrosses};
-ghost use Rattle.code_listing.specs.Steps.{CodeRoom, MadeHolds, madeText};
+ghost use Rattle.code_listing.specs.Steps.{MadeHolds, madeText};
 
 // The text for what `new` answers.
 fn write_made(

@@ -6,7 +6,7 @@ ghost use mathlib.Core.Option.{none};
 ghost use Prim.Native.Nat.{ℕ, _+_, _-_, _<_};
 ghost use lib.ListN.{length, getD, take, drop};
 ghost use lib.Dec.{eqb, ltb};
-ghost use Rattle.walks.specs.Settling.{waits, takeChosen, toTake, settled};
+ghost use Rattle.walks.specs.Settling.{takeChosen, toTake, settled};
 ghost use Rattle.walks.proofs.Neighbours.{relaxAlong};
 ghost use Rattle.relaxing.specs.Ready.{graphOf, weighs, stateOf, Ready, Listed, Along, Offers, sources, endOf, startIn, Begun};
 use columns::Weight;

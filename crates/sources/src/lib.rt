@@ -7,7 +7,6 @@ ghost use Rattle.priority_queue.specs.Tree.{Tree, Room};
 ghost use Rattle.walks.specs.Lists.{delta};
 ghost use lib.Dec.{eqb};
 ghost use Rattle.columns.specs.Lists.{each};
-ghost use Rattle.walks.specs.Settling.{waits};
 ghost use Rattle.relaxing.specs.Ready.{stateOf, Ready, Keyed};
 use columns::Weight;
 

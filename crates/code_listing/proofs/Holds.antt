@@ -35,8 +35,8 @@ use Rattle.weighted_codes.specs.NewCode.{newRefusalIn, weightedColumns, NewCode
 use Rattle.weighted_codes.proofs.Outcome.{sized}
 use Rattle.texts.specs.Text.{refusalLine}
 use Rattle.code_listing.specs.Listing.{listRefusal, weightsOf, listingOf, codeText}
-use Rattle.code_listing.specs.Steps.{CodeRoom, HoldsCode, HoldsWeights}
-use Rattle.code_listing.proofs.Room.{refusal-is}
+use Rattle.code_listing.specs.Steps.{HoldsCode, HoldsWeights}
+use Rattle.code_listing.proofs.Room.{CodeRoom, refusal-is}
 use Rattle.code_listing.proofs.Sizes.{ListOpen, list-opened}
 
 -- ---- the answer

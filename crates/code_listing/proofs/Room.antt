@@ -7,6 +7,7 @@ use native.Mathlib.Decide.{ℕ-discrete, decLe}
 use native.Mathlib.Omega.{arith}
 use lib.Dec.{eqb, leb}
 use lib.Ieee.{Float}
+use lib.ListN.{length}
 use borrow.Author.Tests.{eq-eqb, ne-eqb, le-leb, lt-leb}
 use Rattle.columns.specs.Questions.{ask}
 use Rattle.columns.proofs.Counting.{times-next}
@@ -18,10 +19,28 @@ use Rattle.diagonals.specs.declared.DiagonalProbability.{DiagonalProbability}
 use Rattle.edge_weights.specs.Probabilities.{isProbability}
 use Rattle.diagonals.specs.Diagonal.{isDiagonalProbability}
 use Rattle.weights.specs.Calls.{edgeWeights, someAbove, isLargestHalfWeight}
-use Rattle.example_codes.specs.Columns.{longEnough}
+use Rattle.example_codes.specs.Columns.{CodeColumns, longEnough, edgeRoom, vertexRoom, shortest}
 use Rattle.weighted_codes.specs.Probabilities.{probabilities, diagonalOf}
 use Rattle.weighted_codes.specs.NewCode.{newRefusal}
 use Rattle.code_listing.specs.Listing.{listRefusal}
+
+-- ---- the columns
+
+-- the columns of a code for 1,024 vertices and 6,144 edges
+pub record CodeRoom (c : CodeColumns) : Type 0 where
+  pub vertex-room : vertexRoom c ≡ 1024
+  pub edge-room : edgeRoom c ≡ 6144
+  pub numbers : length (c .neighborNumbers) ≡ 12288
+
+pub room-of : (c : CodeColumns) → length (c .endsA) ≡ 6144 → length (c .endsB) ≡ 6144 → length (c .p) ≡ 6144 → length (c .pe) ≡ 6144 → length (c .halfWeight) ≡ 6144 → length (c .erasure) ≡ 6144
+    → length (c .posI) ≡ 1024 → length (c .posJ) ≡ 1024 → length (c .posT) ≡ 1024 → length (c .boundary) ≡ 1024 → length (c .defect) ≡ 1024 → length (c .listLengths) ≡ 1024
+    → length (c .neighborNumbers) ≡ 12288 → CodeRoom c
+room-of c ea eb ep epe eh er vi vj vt vb vd vl n =
+    record {
+      vertex-room = λ i. shortest (vi i) (vj i) (vt i) (vb i) (vd i) (vl i);
+      edge-room = λ i. shortest (ea i) (eb i) (ep i) (epe i) (eh i) (er i);
+      numbers = n;
+    }
 
 -- ---- at most six edges a vertex
 

@@ -3,7 +3,7 @@ use mathlib.Core.Path.{_≡_, refl, sym, ap, _∙_, subst}
 use mathlib.Core.List.{List, [], _∷_, _++_}
 use mathlib.Core.Option.{Option, some, none}
 use Prim.Native.Nat.{ℕ, _<_}
-use lib.ListN.{length, getD, take}
+use lib.ListN.{getD, take}
 use lib.Seq.{getD-take}
 use lib.Ieee.{Float}
 use Rattle.columns.specs.Lists.{joined}
@@ -18,10 +18,11 @@ use Rattle.crossing_answers.specs.declared.CrossingReply.the-variants.{Crossed,
 use Rattle.crossing_answers.specs.Crossing.{replyOf}
 use Rattle.example_codes.specs.declared.Created.{Created}
 use Rattle.example_codes.specs.declared.Created.the-variants as made
-use Rattle.example_codes.specs.Columns.{CodeColumns, shortest}
+use Rattle.example_codes.specs.Columns.{CodeColumns}
 use Rattle.weighted_codes.specs.NewCode.{NewCode}
 use Rattle.code_listing.specs.Listing.{weightsOf, crossingOf, withCrossing, listingOf, codeText}
-use Rattle.code_listing.specs.Steps.{CodeRoom, HoldsCode, HoldsWeights, replyText, MadeHolds, madeText}
+use Rattle.code_listing.specs.Steps.{HoldsCode, HoldsWeights, replyText, MadeHolds, madeText}
+use Rattle.code_listing.proofs.Room.{CodeRoom}
 use Rattle.code_listing.proofs.Holds.{refused-text, holds-code, accepted-text}
 
 -- what stands in a column's first places
@@ -84,17 +85,6 @@ module _ (kind d rounds : ℕ) (p : Float) (max : ℕ) (answer : Created) {t₀ 
 
 pub holds-made : {kind d rounds : ℕ} {p : Float} {max : ℕ} {a b h m : List ℕ} (answer : Created) (v e : ℕ) → MadeHolds kind d rounds p max a b h m answer → answer ≡ made.Code v e → HoldsCode kind d rounds p max v e a b h m
 holds-made {kind} {d} {rounds} {p} {max} {a} {b} {h} {m} answer v e x q = subst (MadeHolds kind d rounds p max a b h m) q x
-
--- columns for 6,144 edges and 1,024 vertices
-pub room-of : (c : CodeColumns) → length (c .endsA) ≡ 6144 → length (c .endsB) ≡ 6144 → length (c .p) ≡ 6144 → length (c .pe) ≡ 6144 → length (c .halfWeight) ≡ 6144 → length (c .erasure) ≡ 6144
-    → length (c .posI) ≡ 1024 → length (c .posJ) ≡ 1024 → length (c .posT) ≡ 1024 → length (c .boundary) ≡ 1024 → length (c .defect) ≡ 1024 → length (c .listLengths) ≡ 1024
-    → length (c .neighborNumbers) ≡ 12288 → CodeRoom c
-room-of c ea eb ep epe eh er vi vj vt vb vd vl n =
-    record {
-      vertex-room = λ i. shortest (vi i) (vj i) (vt i) (vb i) (vd i) (vl i);
-      edge-room = λ i. shortest (ea i) (eb i) (ep i) (epe i) (eh i) (er i);
-      numbers = n;
-    }
 
 module _ (kind d rounds : ℕ) (p : Float) (max : ℕ) (lent back : CodeColumns) (room : CodeRoom lent) where
   pub made-holds : (answer : Created) → NewCode kind d rounds p max lent back answer → MadeHolds kind d rounds p max (back .endsA) (back .endsB) (back .halfWeight) (back .boundary) answer

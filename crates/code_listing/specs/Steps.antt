@@ -3,7 +3,7 @@ use Prim.Native.Nat.{ℕ, _≤_}
 use mathlib.Core.Path.{_≡_}
 use mathlib.Core.Bool.{true}
 use mathlib.Core.List.{List}
-use lib.ListN.{length, take}
+use lib.ListN.{take}
 use lib.Ieee.{Float}
 use Rattle.code_columns.specs.Edges.{firsts, seconds, boundaries}
 use Rattle.layers.specs.Codes.{edgesOf, verticesOf}
@@ -13,19 +13,12 @@ use Rattle.weights.specs.Calls.{halfWeights}
 use Rattle.columns.specs.Questions.{weightsSound}
 use Rattle.example_codes.specs.declared.Created.{Created}
 use Rattle.example_codes.specs.declared.Created.the-variants as made
-use Rattle.example_codes.specs.Columns.{CodeColumns, edgeRoom, vertexRoom}
 use Rattle.crossing_answers.specs.declared.CrossingReply.{CrossingReply}
 use Rattle.crossing_answers.specs.declared.CrossingReply.the-variants.{Crossed, Refused}
 use Rattle.crossing_answers.specs.Crossing.{replyOf}
 use Rattle.texts.specs.Text.{refusalLine, listing}
 use Rattle.code_listing.specs.Listing.{weightsOf, crossingOf, listingOf}
 use Rattle.weighted_codes.specs.Probabilities.{probabilities, diagonalOf}
-
--- the columns of a code for 1,024 vertices and 6,144 edges
-pub record CodeRoom (c : CodeColumns) : Type 0 where
-  pub vertex-room : vertexRoom c ≡ 1024
-  pub edge-room : edgeRoom c ≡ 6144
-  pub numbers : length (c .neighborNumbers) ≡ 12288
 
 -- scratch for 1,024 vertices and 6,144 edges
 pub record ScratchRoom (out numbers ends status weight previous node leaf : ℕ) : Type 0 where

@@ -3,7 +3,8 @@ use mathlib.Core.Path.{sym, _∙_}
 use Prim.Native.Nat.{ℕ}
 use lib.Ieee.{Float, binary64, ofBits}
 use lib.ListN.{length-replicate}
-use Rattle.code_listing.proofs.Texts.{room-of, made-holds, made-put}
+use Rattle.code_listing.proofs.Room.{room-of}
+use Rattle.code_listing.proofs.Texts.{made-holds, made-put}
 use Rattle.code_listing.proofs.write_code.Statement.{statement}
 use Rattle.code_listing.proofs.write_code.Tie as tie
 

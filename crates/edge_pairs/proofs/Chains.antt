@@ -1,19 +1,19 @@
--- Laws of the test that no two edges join one pair, and of chains of edges. Assumes nothing.
+-- Laws of the tests of pairs of ends. Assumes nothing.
 use mathlib.Core.Path.{_≡_, refl, sym, ap, ap₂, _∙_, subst}
 use mathlib.Core.Logic.{⊎-elim, _⊎_, inl, inr}
 use mathlib.Core.Bool.{Bool, true, false, not, _&&_, _||_}
 use mathlib.Core.List.{List}
-use Prim.Native.Nat.{ℕ, zero, suc, _+_, _-_, _*_, _%_, _≤_, _<_, min, max}
+use Prim.Native.Nat.{ℕ, zero, suc, _+_, _≤_, _<_, min, max}
 use native.Mathlib.Nat.{eq-or-lt-of-le, le-of-lt}
 use native.Mathlib.Decide.{ℕ-discrete, decLe}
 use native.Mathlib.Omega.{arith}
-use borrow.Author.Tests.{eq-eqb, ne-eqb, eqb-true, eqb-false}
+use borrow.Author.Tests.{eq-eqb, ne-eqb, eqb-true}
 use lib.ListN.{getD, set, length, replicate, length-replicate}
 use lib.Seq.{getD-set-same, getD-set-other}
 use lib.Dec.{eqb}
 use Rattle.columns.specs.Questions.{every}
 use Rattle.columns.proofs.Tests.{every-not, at-every, every-at}
-use Rattle.edge_pairs.specs.Pairs.{samePair, pairsApart, endsDiffer, lowAt, highAt, slotAt, Last}
+use Rattle.edge_pairs.specs.Pairs.{samePair, pairsApart, endsDiffer, lowAt, highAt}
 
 -- two pairs are the same where their smaller and their larger numbers are
 either : (x y u v : ℕ) → min x y ≡ min u v → max x y ≡ max u v → ((x ≡ u) × (y ≡ v)) ⊎ ((x ≡ v) × (y ≡ u))
@@ -50,58 +50,11 @@ module _ (a b : List ℕ) (i : ℕ) where
       (λ p q. h m l (ap₂ min p q) (ap₂ max p q))
       (λ p q. h m l (omega arith) (omega arith))))
 
--- the slot and the larger end are those of the pair
-module _ (a b : List ℕ) (j i : ℕ) where
-  pub slot-low : slotAt a b j ≡ slotAt a b i → highAt a b j ≡ highAt a b i → lowAt a b j ≡ lowAt a b i
-  slot-low = go (lowAt a b j) (highAt a b j) (lowAt a b i) (highAt a b i)
-    where
-      go : (x y u v : ℕ) → 16 * x + y % 16 ≡ 16 * u + v % 16 → y ≡ v → x ≡ u
-      go x y u v p q = let r : y % 16 ≡ v % 16 = ap (λ (n : ℕ). n % 16) q in omega arith
-
-  pub low-slot : lowAt a b j ≡ lowAt a b i → highAt a b j ≡ highAt a b i → slotAt a b j ≡ slotAt a b i
-  low-slot = ap₂ (λ (x y : ℕ). 16 * x + y % 16)
-
 pub le-or-lt : (a b : ℕ) → (a ≤ b) ⊎ (b < a)
 le-or-lt a b = elim (decLe a b) [ yes e ↦ inl e | no e ↦ inr (omega arith) ]
 
 pub eq-or-not : (a b : ℕ) → (a ≡ b) ⊎ (a ≡ b → ⊥)
 eq-or-not a b = elim (ℕ-discrete a b) [ yes e ↦ inl e | no e ↦ inr e ]
-
--- the last places after one index more
-module _ (f : ℕ → ℕ) (i v : ℕ) (here : f i ≡ v) where
-  pub last-same : Last f (i + 1) v (i + 1)
-  last-same = record {
-    within = omega arith;
-    here = λ h. let e : i + 1 - 1 ≡ i = omega arith in rw e here;
-    none = λ m p q r. absurd (omega arith);
-  }
-
-  pub last-other : (u h : ℕ) → (u ≡ v → ⊥) → Last f i u h → Last f (i + 1) u h
-  last-other u h d l = record {
-    within = omega (arith, l .within);
-    here = l .here;
-    none = λ m p q r.
-        ⊎-elim
-        (λ (e : m ≡ i). d (sym r ∙ ap f e ∙ here))
-        (λ (k : m < i). l .none m p k r)
-        (eq-or-lt-of-le {n = m} {m = i} (omega arith));
-  }
-
-  pub last-head : (k : ℕ) (head : List ℕ) → v < k → length head ≡ k → ((u : ℕ) → u < k → Last f i u (getD head u 0))
-      → (u : ℕ) → u < k → Last f (i + 1) u (getD (set head v (i + 1)) u 0)
-  last-head k head hv hl all u hu =
-      ⊎-elim
-      (λ (e : u ≡ v). rw (e, getD-set-same head v (i + 1) 0 (rw hl hv)) last-same)
-      (λ (d : u ≡ v → ⊥). rw (getD-set-other head v u (i + 1) 0 d) (last-other u (getD head u 0) d (all u hu)))
-      (eq-or-not u v)
-
-  pub last-next : (next : List ℕ) (h : ℕ) → i < length next → Last f i v h → ((j : ℕ) → j < i → Last f j (f j) (getD next j 0))
-      → (j : ℕ) → j < i + 1 → Last f j (f j) (getD (set next i h) j 0)
-  last-next next h hl l all j hj =
-      ⊎-elim
-      (λ (e : j ≡ i). rw (e, getD-set-same next i h 0 hl, here) l)
-      (λ (k : j < i). rw (getD-set-other next i j h 0 (λ e. omega arith)) (all j k))
-      (eq-or-lt-of-le {n = j} {m = i} (omega arith))
 
 -- larger ends that ascend: `top` has for each smaller end the last larger end before edge i, whose ends are v and y
 module _ (a b : List ℕ) (i v y : ℕ) (low : lowAt a b i ≡ v) (high : highAt a b i ≡ y) (top : List ℕ) (room : v < length top) (above : getD top v 0 < y)

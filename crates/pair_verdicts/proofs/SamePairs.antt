@@ -1,18 +1,15 @@
 -- Laws of the first edge that joins the pair of an earlier one. Assumes nothing.
 use mathlib.Core.Path.{_≡_, refl, sym, ap, _∙_}
 use mathlib.Core.Logic.{⊎-elim}
-use mathlib.Core.Bool.{Bool, true, false, not, _&&_, cond, false≢true}
+use mathlib.Core.Bool.{Bool, true, false, not, _&&_, false≢true}
 use mathlib.Core.List.{List}
-use Prim.Native.Nat.{ℕ, _+_, _-_, _≤_, _<_}
-use native.Mathlib.Nat.{eq-or-lt-of-le}
-use native.Mathlib.Decide.{ℕ-discrete}
+use Prim.Native.Nat.{ℕ, _+_, _≤_, _<_}
 use native.Mathlib.Omega.{arith}
-use borrow.Author.Tests.{eq-eqb, ne-eqb, eqb-true, not-true}
+use borrow.Author.Tests.{eq-eqb, eqb-true, not-true}
 use lib.Dec.{eqb}
-use lib.ListN.{getD}
 use Rattle.columns.specs.Questions.{every}
 use Rattle.columns.proofs.Tests.{every-at, every-more}
-use Rattle.edge_pairs.specs.Pairs.{samePair, lowAt, highAt, Last}
+use Rattle.edge_pairs.specs.Pairs.{samePair, pairsApart, FirstRepeat}
 use Rattle.edge_pairs.proofs.Chains.{fresh-not, fresh-all, le-or-lt}
 use Rattle.verdicts.specs.declared.Verdict.{Verdict}
 use Rattle.verdicts.specs.declared.Verdict.the-variants.{Sound}
@@ -53,73 +50,21 @@ module _ {a b : List ℕ} {i r : ℕ} (s : FirstSame a b i r) where
   pub scan-stop : (n : ℕ) → i < n → firstOf i (duplicate a b) ≡ Sound → r < i → verdictOf 2 r i ≡ firstOf n (duplicate a b)
   scan-stop n h p l = sym (first-stop (duplicate a b) n i h p (ap isSound (some-same l)) ∙ some-same l)
 
--- ---- walking a chain, later edges first: of the edges at or past k that share the smaller end of edge i, `first` is the first that joins its pair
+-- by the first edge that joins the pair of an earlier one
+module _ (a b : List ℕ) (n r : ℕ) (s : FirstRepeat a b n r) where
+  none-before : firstOf r (duplicate a b) ≡ Sound
+  unfolding duplicate pairsApart
+  none-before = first-all (duplicate a b) r (λ k h. first-all _ k (λ m l. found-false (samePair a b m k) (verdictOf 2 m k)
+      (not-true (samePair a b m k) (every-at (λ j. not (samePair a b j k)) k (every-at (λ k. every k (λ j. not (samePair a b j k))) r (s .apart) k h) m l))))
 
-pub record Walk (a b : List ℕ) (i k first : ℕ) : Type 0 where
-  pub within : k ≤ i
-  pub here : 0 < k → lowAt a b (k - 1) ≡ lowAt a b i
-  pub past : k ≤ first
-  pub most : first ≤ i
-  pub low : first < i → lowAt a b first ≡ lowAt a b i
-  pub high : first < i → highAt a b first ≡ highAt a b i
-  pub none : (m : ℕ) → k ≤ m → m < first → lowAt a b m ≡ lowAt a b i → highAt a b m ≡ highAt a b i → ⊥
+  pub repeat-none : n ≤ r → firstOf n (duplicate a b) ≡ Sound
+  repeat-none h = let e : r ≡ n = omega (arith, s .within) in rw e at none-before
 
-module _ (a b : List ℕ) (i : ℕ) where
-  pub walk-start : (h : ℕ) → Last (lowAt a b) i (lowAt a b i) h → Walk a b i h i
-  walk-start h l = record {
-    within = l .within;
-    here = l .here;
-    past = l .within;
-    most = omega arith;
-    low = λ g. absurd (omega arith);
-    high = λ g. absurd (omega arith);
-    none = λ m p q r t. l .none m p q r;
-  }
-
-  pub walk-next : (k first first′ h : ℕ) → 0 < k → Walk a b i k first → Last (lowAt a b) (k - 1) (lowAt a b (k - 1)) h
-      → first′ ≡ cond (eqb (highAt a b (k - 1)) (highAt a b i)) (k - 1) first → Walk a b i h first′
-  walk-next k first first′ h pos w l e = go (ℕ-discrete (highAt a b (k - 1)) (highAt a b i))
-    where
-      at : ℕ
-      at = k - 1
-
-      below : (m : ℕ) → h ≤ m → m < at → lowAt a b m ≡ lowAt a b i → ⊥
-      below m p q r = l .none m p q (r ∙ sym (w .here pos))
-
-      go : Dec (highAt a b (k - 1) ≡ highAt a b i) → Walk a b i h first′
-      go (yes same) =
-          let is : first′ ≡ at = e ∙ ap (λ (t : Bool). cond t at first) (eq-eqb _ _ same) in
-          rw is (record {
-            within = omega (arith, l .within, w .within);
-            here = λ g. l .here g ∙ w .here pos;
-            past = l .within;
-            most = omega (arith, w .within);
-            low = λ g. w .here pos;
-            high = λ g. same;
-            none = λ m p q r t. below m p q r;
-          })
-      go (no other) =
-          let is : first′ ≡ first = e ∙ ap (λ (t : Bool). cond t at first) (ne-eqb _ _ other) in
-          rw is (record {
-            within = omega (arith, l .within, w .within);
-            here = λ g. l .here g ∙ w .here pos;
-            past = omega (arith, l .within, w .past);
-            most = w .most;
-            low = w .low;
-            high = w .high;
-            none = λ m p q r t.
-                ⊎-elim
-                (λ (o : k ≤ m). w .none m o q r t)
-                (λ (o : m < k).
-                ⊎-elim
-                (λ (z : m ≡ k - 1). other (ap (highAt a b) (sym z) ∙ t))
-                (λ (z : m < k - 1). below m p z r)
-                (eq-or-lt-of-le {n = m} {m = k - 1} (omega arith)))
-                (le-or-lt k m);
-          })
-
-  pub walk-end : (k first : ℕ) → (0 < k → ⊥) → Walk a b i k first → FirstSame a b i first
-  walk-end k first z w = record { within = w .most; low = w .low; high = w .high; none = λ m h. w .none m (omega arith) h }
+  pub repeat-found : (q : ℕ) → r < n → FirstSame a b r q → verdictOf 2 q r ≡ firstOf n (duplicate a b)
+  repeat-found q h f = scan-stop f n h none-before (⊎-elim
+      (λ (l : r ≤ q). absurd (false≢true (sym (s .repeats h) ∙ fresh-all a b r r (λ m o. f .none m (omega arith)))))
+      (λ (l : q < r). l)
+      (le-or-lt r q))
 
 -- two tests at once
 pub same-both : (x u y v : ℕ) → (eqb x u && eqb y v) ≡ true → (x ≡ u) × (y ≡ v)

@@ -1,9 +1,8 @@
-// The first edge that joins the pair of an earlier one: edges in chains by their smaller end, in local arrays, or one by one.
+// The first edge that joins the pair of an earlier one.
 ghost use mathlib.Core.Path.{_≡_};
-ghost use mathlib.Core.Bool.{cond};
-ghost use Prim.Native.Nat.{ℕ, _<_, _≤_, min, max};
-ghost use lib.ListN.{length, getD};
-ghost use Rattle.edge_pairs.specs.Pairs.{lowAt, highAt, Last};
+ghost use Prim.Native.Nat.{_<_, _≤_};
+ghost use lib.ListN.{length};
+ghost use Rattle.edge_pairs.specs.Pairs.{lowAt, highAt, FirstRepeat};
 ghost use Rattle.verdicts.specs.Sanity.{firstOf, duplicate};
 ghost use Rattle.pair_verdicts.specs.Steps.{FirstSame};
 use columns::EDGE_LIMIT;
@@ -11,103 +10,9 @@ use columns::EdgeIndex;
 use columns::VERTEX_LIMIT;
 use columns::questions::all_below;
 use columns::questions::both;
+use edge_pairs::high_at;
+use edge_pairs::low_at;
 use verdicts::Verdict;
-
-fn wide(x: u32) -> usize
-    ensures { λ r. ⌜ r ≡ x ⌝ }
-{
-    x as usize
-}
-
-fn smaller(a: u32, b: u32) -> u32
-    ensures { λ r. ⌜ r ≡ min a b ⌝ }
-{
-    if a < b { a } else { b }
-}
-
-fn larger(a: u32, b: u32) -> u32
-    ensures { λ r. ⌜ r ≡ max a b ⌝ }
-{
-    if a < b { b } else { a }
-}
-
-// The smaller end of edge i, and the larger.
-fn low_at(a: &[u32], b: &[u32], i: usize) -> u32
-    requires { ⌜ (i < length (now a)) × (i < length (now b)) ⌝ }
-    ensures { λ r. ⌜ r ≡ lowAt (now (a .entry)) (now (b .entry)) i ⌝ }
-{
-    smaller(a[i], b[i])
-}
-
-fn high_at(a: &[u32], b: &[u32], i: usize) -> u32
-    requires { ⌜ (i < length (now a)) × (i < length (now b)) ⌝ }
-    ensures { λ r. ⌜ r ≡ highAt (now (a .entry)) (now (b .entry)) i ⌝ }
-{
-    larger(a[i], b[i])
-}
-
-fn pick(test: bool, x: usize, y: usize) -> usize
-    ensures { λ r. ⌜ r ≡ cond test x y ⌝ }
-{
-    if test { x } else { y }
-}
-
-// The first edge of the chain at h that joins the pair of edge i, or i. A chain holds an edge's number plus 1, later edges first, and 0 at its end.
-fn first_in_chain(a: &[u32], b: &[u32], i: usize, next: &[u32], h: u32) -> usize
-    requires { ⌜ (i < length (now a)) × (i < length (now b)) × (i ≤ length (now next)) ⌝ }
-    requires { ⌜ Last (lowAt (now a) (now b)) i (lowAt (now a) (now b) i) h ⌝ }
-    requires { ⌜ ((j : ℕ) → j < i → Last (lowAt (now a) (now b)) j (lowAt (now a) (now b) j) (getD (now next) j 0)) ⌝ }
-    ensures { λ r. ⌜ FirstSame (now (a .entry)) (now (b .entry)) i r ⌝ }
-{
-    let y = high_at(a, b, i);
-    let mut first = i;
-    let mut k = wide(h);
-    while 0 < k {
-        let at = k - 1;
-        let z = high_at(a, b, at);
-        first = pick(z == y, at, first);
-        k = wide(next[at]);
-    }
-    first
-}
-
-// The first finding among the first n edges, by chains; head holds 0 alone.
-fn duplicates_in_chains(
-    a: &[u32],
-    b: &[u32],
-    n: usize,
-    head: &mut [u32],
-    next: &mut [u32],
-) -> Verdict
-    requires { ⌜ (n ≤ 32768) × (n ≤ length (now a)) × (n ≤ length (now b)) × (length (now head) ≡ 4096) × (n ≤ length (now next)) ⌝ }
-    requires { ⌜ ((j : ℕ) → j < n → lowAt (now a) (now b) j < 4096) ⌝ }
-    requires { ⌜ ((v : ℕ) → getD (now head) v 0 ≡ 0) ⌝ }
-    ensures { λ r. ⌜ r ≡ firstOf n (duplicate (now (a .entry)) (now (b .entry))) ⌝ }
-{
-    let mut i: usize = 0;
-    while i < n {
-        let v = wide(low_at(a, b, i));
-        let h = head[v];
-        let first = first_in_chain(a, b, i, next, h);
-        if first < i {
-            return Verdict::DuplicateEdge(EdgeIndex(first as u32), EdgeIndex(i as u32));
-        }
-        next[i] = h;
-        head[v] = (i + 1) as u32;
-        i += 1;
-    }
-    Verdict::Sound
-}
-
-fn duplicates_by_chains(a: &[u32], b: &[u32], n: usize) -> Verdict
-    requires { ⌜ (n ≤ 32768) × (n ≤ length (now a)) × (n ≤ length (now b)) ⌝ }
-    requires { ⌜ ((j : ℕ) → j < n → lowAt (now a) (now b) j < 4096) ⌝ }
-    ensures { λ r. ⌜ r ≡ firstOf n (duplicate (now (a .entry)) (now (b .entry))) ⌝ }
-{
-    let mut head = [0u32; 4096];
-    let mut next = [0u32; 32768];
-    duplicates_in_chains(a, b, n, &mut head, &mut next)
-}
 
 // The first edge that joins the pair of edge i, or i.
 fn first_same(a: &[u32], b: &[u32], i: usize) -> usize
@@ -144,7 +49,21 @@ fn duplicates_one_by_one(a: &[u32], b: &[u32], n: usize) -> Verdict
     Verdict::Sound
 }
 
-// The first finding among the edges: by chains within the limits.
+// The first of the first n edges that joins the pair of an earlier one, or n: by lists where the ends are below 4,096, and else by sorting.
+fn first_later(a: &[u32], b: &[u32], n: usize) -> usize
+    requires { ⌜ (n ≤ 32768) × (n ≤ length (now a)) × (n ≤ length (now b)) ⌝ }
+    ensures { λ r. ⌜ FirstRepeat (now (a .entry)) (now (b .entry)) n r ⌝ }
+{
+    if !all_below(a, n, VERTEX_LIMIT) {
+        return sorted_pairs::first_repeat(a, b, n);
+    }
+    if !all_below(b, n, VERTEX_LIMIT) {
+        return sorted_pairs::first_repeat(a, b, n);
+    }
+    edge_pairs::first_repeat(a, b, n)
+}
+
+// The first finding among the edges, within the limit of edges by the first that joins the pair of an earlier one.
 pub fn duplicates(a: &[u32], b: &[u32], edge_num: u32) -> Verdict
     requires { ⌜ («edge_num» ≤ length (now a)) × («edge_num» ≤ length (now b)) ⌝ }
     ensures { λ r. ⌜ r ≡ firstOf «edge_num» (duplicate (now (a .entry)) (now (b .entry))) ⌝ }
@@ -153,8 +72,10 @@ pub fn duplicates(a: &[u32], b: &[u32], edge_num: u32) -> Verdict
     if EDGE_LIMIT < edge_num {
         return duplicates_one_by_one(a, b, n);
     }
-    if !all_below(a, n, VERTEX_LIMIT) {
-        return duplicates_one_by_one(a, b, n);
+    let later = first_later(a, b, n);
+    if n <= later {
+        return Verdict::Sound;
     }
-    duplicates_by_chains(a, b, n)
+    let earlier = first_same(a, b, later);
+    Verdict::DuplicateEdge(EdgeIndex(earlier as u32), EdgeIndex(later as u32))
 }

@@ -12,7 +12,7 @@ use Rattle.engine_columns.specs.Records.{Engine}
 use Rattle.tally.specs.Tally.{Tally, lengthsOf}
 use Rattle.tally.proofs.Agreement.{Agrees}
 use Rattle.tally.proofs.LastNamed.{weighs-last-named}
-use Rattle.walks.specs.Graph.{Graph, edges, InRange}
+use Rattle.walks.specs.Graph.{Graph, edges, InRange, LeftJoinsRight}
 use Rattle.walks.specs.Answers.{crossing, leastFromLeft, weightIn}
 use Rattle.walks.specs.Claims.{CrossingAnswer, IsCrossing, LeftWeight, Alike, NotGreater, reached, unreached, signed}
 use Rattle.walks.proofs.LeastCrossing.{crossing-is-least}
@@ -21,7 +21,7 @@ use Rattle.crossing_answers.specs.declared.CrossingReply.{CrossingReply}
 use Rattle.crossing_answers.specs.declared.CrossingReply.the-variants.{Crossed, Refused}
 use Rattle.crossing_answers.specs.Crossing.{replyNumber, replyWeight, CrossingStep}
 use Rattle.acceptance.specs.Listed.{graphIn, weightsIn, crossingNumber, modifying, numbers}
-use Rattle.acceptance.specs.Demand3.{History, CrossingThen, TwoLists, tallyFirst, tallyLast, graphLeft, weightsLeft, refusedBefore, LeftJoinsRight, Demand3}
+use Rattle.acceptance.specs.Demand3.{History, CrossingThen, TwoLists, tallyFirst, tallyLast, graphLeft, weightsLeft, refusedBefore, Demand3}
 use Rattle.acceptance.proofs.Agreeing.{scratchFits, range, edges-are, weight-at, crossing-number, accepted-of, accepted-when, column-at, graph-kept}
 use Rattle.acceptance.proofs.Runs.{FreshGraph, fresh-of, crossing-of, runs}
 use Rattle.acceptance.proofs.Built.{BuiltGraph, built-of, handed-on, built-distance}

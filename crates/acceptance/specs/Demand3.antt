@@ -10,7 +10,7 @@ use Rattle.engine_columns.specs.Open.{GraphColumns}
 use Rattle.tally.specs.Tally.{Tally, tallyOf, tallyNumbers, lengthsOf}
 use Rattle.tally.specs.Readers.{callsSay, weightBy}
 use Rattle.walks.specs.Lists.{sum}
-use Rattle.walks.specs.Graph.{Graph, Left, Right, Joined, CrossingSet}
+use Rattle.walks.specs.Graph.{Graph, LeftJoinsRight, CrossingSet}
 use Rattle.walks.specs.Answers.{weightIn}
 use Rattle.walks.specs.Claims.{Alike, NotGreater, LeftWeight}
 use Rattle.crossing_answers.specs.declared.CrossingReply.{CrossingReply}
@@ -55,10 +55,6 @@ pub record CrossingThen (h : History) : Type 0 where
 -- the question before 18 that refuses it, or 0
 abbrev pub refusedBefore : (h : History) → CrossingThen h → ℕ
 refusedBefore h c = before18 (lengthsOf (h .left)) (c .own) (tallyLast h)
-
--- some walk joins a left vertex to a right one
-abbrev pub LeftJoinsRight : Graph → Type 0
-LeftJoinsRight g = (x : ℕ) × (y : ℕ) × Left g x × Right g y × Joined g x y
 
 -- an accepted crossing after each of two lists, on graphs alike in ends and boundary bytes
 pub record TwoLists (h h′ : History) (c : CrossingThen h) (c′ : CrossingThen h′) : Type 0 where

@@ -13,7 +13,7 @@ ghost use Rattle.engine_columns.specs.Records.{engine, counts};
 ghost use Rattle.query_questions.specs.Queries.{scratchLong};
 ghost use Rattle.query_questions.specs.Scratch.{scratchOf};
 ghost use Rattle.paths.specs.GetPath.{PathStep, PathScratchKept};
-ghost use Rattle.crossing_answers.specs.Crossing.{CrossingStep, CrossingScratch, crossingDoor};
+ghost use Rattle.crossing_answers.specs.Crossing.{CrossingStep, CrossingScratch};
 ghost use Rattle.c_reports.specs.Reports.{Reported};
 ghost use Rattle.c_queries.specs.Reports.{ReportsPath, ReportsCrossing};
 
@@ -98,8 +98,7 @@ pub extern "C" fn moldingcress_crossing(
 ) -> OneCount
     ensures { λ q. ⌜ Reported ReportsCrossing (λ r. (CrossingStep (engine (counts vertices edges entries) (now («ends_a» .entry)) (now («ends_b» .entry)) (now (weights .entry)) (now (boundary .entry)) (now («log_edges» .entry)) (now («log_weights» .entry)))
         (scratchLong vertices edges (length (now (numbers .entry))) (length (now («list_ends» .entry))) (length (now (status .entry))) (length (now (weight .entry))) (length (now (previous .entry))) (length (now (node .entry))) (length (now (leaf .entry))))
-        r (now («out_weight» .entry)) (now («out_weight» .exit))) × (CrossingScratch (crossingDoor (engine (counts vertices edges entries) (now («ends_a» .entry)) (now («ends_b» .entry)) (now (weights .entry)) (now (boundary .entry)) (now («log_edges» .entry)) (now («log_weights» .entry)))
-        (scratchLong vertices edges (length (now (numbers .entry))) (length (now («list_ends» .entry))) (length (now (status .entry))) (length (now (weight .entry))) (length (now (previous .entry))) (length (now (node .entry))) (length (now (leaf .entry)))) (length (now («out_weight» .entry))) 0)
+        r (now («out_weight» .entry)) (now («out_weight» .exit))) × (CrossingScratch (engine (counts vertices edges entries) (now («ends_a» .entry)) (now («ends_b» .entry)) (now (weights .entry)) (now (boundary .entry)) (now («log_edges» .entry)) (now («log_weights» .entry))) r
         (scratchOf (now (numbers .entry)) (now («list_ends» .entry)) (now (status .entry)) (now (weight .entry)) (now (previous .entry)) (now (node .entry)) (now (leaf .entry)))
         (scratchOf (now (numbers .exit)) (now («list_ends» .exit)) (now (status .exit)) (now (weight .exit)) (now (previous .exit)) (now (node .exit)) (now (leaf .exit))))) q ⌝ }
 {

@@ -11,11 +11,11 @@ use Rattle.columns.specs.Lists.{after}
 use Rattle.columns.specs.Questions.{ask}
 use Rattle.engine_columns.specs.Records.{Engine}
 use Rattle.engine_columns.specs.Door.{longEnough, sound}
-use Rattle.walks.specs.Answers.{crossing, leastFromLeft}
+use Rattle.walks.specs.Answers.{crossing, fromLeft, leastFromLeft}
 use Rattle.crossing_answers.specs.declared.CrossingReply.{CrossingReply}
 use Rattle.crossing_answers.specs.declared.CrossingReply.the-variants.{Crossed, Refused}
 use Rattle.query_questions.specs.Queries.{graphIn, weightsIn}
-use Rattle.query_questions.specs.Scratch.{ScratchColumns}
+use Rattle.query_questions.specs.Scratch.{ScratchColumns, ScratchAfter}
 
 -- document 01's number for each case: 0 where the call was accepted
 abbrev pub replyNumber : CrossingReply → ℕ
@@ -51,7 +51,6 @@ pub record CrossingStep (e : Engine) (scratch : Bool) (r : CrossingReply) (weigh
   pub answer : r ≡ replyOf (crossingNumber e scratch (length weights₀)) (crossing (graphIn e) (weightsIn e))
   pub weights-left : weights ≡ after (crossingNumber e scratch (length weights₀)) (leastFromLeft (graphIn e) (weightsIn e)) weights₀
 
--- a call that 6 or 7 refuses leaves scratch as it was; after success and after 18 anything may stand in it
-abbrev pub CrossingScratch : (door : ℕ) → ScratchColumns → ScratchColumns → Type 0
-CrossingScratch zero s₀ s = Unit {0}
-CrossingScratch (suc n) s₀ s = s ≡ s₀
+-- scratch: what the search from the left leaves, after success and after 18; a call that 6 or 7 refuses leaves it as it was
+abbrev pub CrossingScratch : Engine → CrossingReply → ScratchColumns → ScratchColumns → Type 0
+CrossingScratch e r s₀ s = ScratchAfter (replyNumber r) (graphIn e) (fromLeft (graphIn e) (weightsIn e)) s₀ s

@@ -26,10 +26,10 @@ use Rattle.walks.specs.Answers.{left, taken, tableWeight, weightOf, fromLeft, l
 use Rattle.relaxing.specs.Ready.{graphOf, sources, endOf, sumLimit}
 use Rattle.crossing_answers.specs.declared.CrossingReply.{CrossingReply}
 use Rattle.crossing_answers.specs.declared.CrossingReply.the-variants.{Crossed, Refused}
-use Rattle.searches.specs.Search.{Waiting}
-use Rattle.crossing_answers.specs.Crossing.{isJoined, replyOf, crossingDoor, CrossingScratch}
+use Rattle.searches.specs.Search.{Waiting, Searched}
+use Rattle.crossing_answers.specs.Crossing.{replyNumber, isJoined, replyOf, crossingDoor}
 use Rattle.crossing_answers.specs.Codes.{Coded, wherever, codeOf}
-use Rattle.query_questions.specs.Scratch.{ScratchColumns}
+use Rattle.query_questions.specs.Scratch.{isFree}
 
 -- ---- what stands for a weight
 
@@ -175,10 +175,23 @@ left-length g w = length-each (g .vertices) (tableWeight (fromLeft g w))
 
 -- ---- scratch
 
-pub scratch-free : (door : ℕ) (s₀ s : ScratchColumns) → door ≡ 0 → CrossingScratch door s₀ s
-scratch-free zero s₀ s z = tt
-scratch-free (suc n) s₀ s z = absurd (omega arith)
+-- the same number of vertices by another name
+pub searched-as : {n n′ : ℕ} {a b m numbers₀ numbers ends status weight previous node leaf : List ℕ} (w : ℕ → ℕ) → n ≡ n′
+    → Searched (graphOf n a b m) (fromLeft (graphOf n a b m) w) numbers₀ numbers ends status weight previous node leaf
+    → Searched (graphOf n′ a b m) (fromLeft (graphOf n′ a b m) w) numbers₀ numbers ends status weight previous node leaf
+searched-as {a = a} {b} {m} {numbers₀} {numbers} {ends} {status} {weight} {previous} {node} {leaf} w e h =
+    subst (λ k. Searched (graphOf k a b m) (fromLeft (graphOf k a b m) w) numbers₀ numbers ends status weight previous node leaf) e h
 
-pub scratch-same : (door : ℕ) (s : ScratchColumns) → CrossingScratch door s s
-scratch-same zero s = tt
-scratch-same (suc n) s = refl
+-- scratch is free after success and after 18
+pub free-number : (c : Option ℕ) → isFree (replyNumber (replyOf 0 c)) ≡ true
+free-number none = refl
+free-number (some w) = refl
+
+-- 6 and 7 leave it as it was
+pub kept-number : (e : Engine) (scratch : Bool) (weights : ℕ) → (crossingDoor e scratch weights 0 ≡ 0 → ⊥) → isFree (crossingDoor e scratch weights 0) ≡ false
+kept-number e scratch weights f = go (longEnough 0 e && (leb (e .counts .vertices) weights && scratch)) (sound e) f
+  where
+    go : (p q : Bool) → (ask p 6 (ask q 7 0) ≡ 0 → ⊥) → isFree (ask p 6 (ask q 7 0)) ≡ false
+    go true true f = absurd (f refl)
+    go true false f = refl
+    go false q f = refl

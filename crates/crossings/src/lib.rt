@@ -8,12 +8,12 @@ ghost use lib.Seq.{sets};
 ghost use lib.Dec.{eqb};
 ghost use Rattle.columns.specs.Lists.{each};
 ghost use Rattle.engine_columns.specs.Records.{engine};
-ghost use Rattle.walks.specs.Answers.{tableWeight, crossing, leastFromLeft};
+ghost use Rattle.walks.specs.Answers.{tableWeight, crossing, fromLeft, leastFromLeft};
 ghost use Rattle.relaxing.specs.Ready.{graphOf, weighs, stateOf, sumLimit};
 ghost use Rattle.query_questions.specs.Queries.{scratchLong};
 ghost use Rattle.query_questions.specs.Scratch.{scratchOf};
-ghost use Rattle.searches.specs.Search.{Searchable};
-ghost use Rattle.crossing_answers.specs.Crossing.{CrossingStep, CrossingScratch, crossingDoor};
+ghost use Rattle.searches.specs.Search.{Searchable, Searched};
+ghost use Rattle.crossing_answers.specs.Crossing.{CrossingStep, CrossingScratch};
 ghost use Rattle.crossing_answers.specs.Codes.{Coded, wherever};
 use columns::Weight;
 use crossing_answers::CrossingReply;
@@ -46,6 +46,9 @@ fn run_crossing(
     requires { ⌜ (length (now boundary) ≡ length (now status)) × (vertices ≡ length (now status)) × (length (now status) ≤ length (now «out_weight»)) ⌝ }
     ensures { λ r. ⌜ Coded r (crossing (graphOf (length (now (status .entry))) (now («ends_a» .entry)) (now («ends_b» .entry)) (now (boundary .entry))) (weighs (now (weights .entry)))) ⌝ }
     ensures { λ r. ⌜ now («out_weight» .exit) ≡ wherever (crossing (graphOf (length (now (status .entry))) (now («ends_a» .entry)) (now («ends_b» .entry)) (now (boundary .entry))) (weighs (now (weights .entry)))) (leastFromLeft (graphOf (length (now (status .entry))) (now («ends_a» .entry)) (now («ends_b» .entry)) (now (boundary .entry))) (weighs (now (weights .entry)))) (now («out_weight» .entry)) ⌝ }
+    ensures { λ _. ⌜ Searched (graphOf (length (now (status .entry))) (now («ends_a» .entry)) (now («ends_b» .entry)) (now (boundary .entry)))
+        (fromLeft (graphOf (length (now (status .entry))) (now («ends_a» .entry)) (now («ends_b» .entry)) (now (boundary .entry))) (weighs (now (weights .entry))))
+        (now (numbers .entry)) (now (numbers .exit)) (now («list_ends» .exit)) (now (status .exit)) (now (weight .exit)) (now (previous .exit)) (now (node .exit)) (now (leaf .exit)) ⌝ }
 {
     sources::begin_left(status, boundary);
     search(
@@ -99,8 +102,7 @@ pub fn crossing(
     ensures { λ r. ⌜ CrossingStep (engine c (now («ends_a» .entry)) (now («ends_b» .entry)) (now (weights .entry)) (now (boundary .entry)) (now («log_edges» .entry)) (now («log_weights» .entry)))
         (scratchLong (c .vertices) (c .edges) (length (now (numbers .entry))) (length (now («list_ends» .entry))) (length (now (status .entry))) (length (now (weight .entry))) (length (now (previous .entry))) (length (now (node .entry))) (length (now (leaf .entry))))
         r (now («out_weight» .entry)) (now («out_weight» .exit)) ⌝ }
-    ensures { λ r. ⌜ CrossingScratch (crossingDoor (engine c (now («ends_a» .entry)) (now («ends_b» .entry)) (now (weights .entry)) (now (boundary .entry)) (now («log_edges» .entry)) (now («log_weights» .entry)))
-        (scratchLong (c .vertices) (c .edges) (length (now (numbers .entry))) (length (now («list_ends» .entry))) (length (now (status .entry))) (length (now (weight .entry))) (length (now (previous .entry))) (length (now (node .entry))) (length (now (leaf .entry)))) (length (now («out_weight» .entry))) 0)
+    ensures { λ r. ⌜ CrossingScratch (engine c (now («ends_a» .entry)) (now («ends_b» .entry)) (now (weights .entry)) (now (boundary .entry)) (now («log_edges» .entry)) (now («log_weights» .entry))) r
         (scratchOf (now (numbers .entry)) (now («list_ends» .entry)) (now (status .entry)) (now (weight .entry)) (now (previous .entry)) (now (node .entry)) (now (leaf .entry)))
         (scratchOf (now (numbers .exit)) (now («list_ends» .exit)) (now (status .exit)) (now (weight .exit)) (now (previous .exit)) (now (node .exit)) (now (leaf .exit))) ⌝ }
 {
@@ -135,11 +137,11 @@ pub fn crossing(
             &weights[..e],
             &boundary[..v],
             numbers,
-            list_ends,
+            &mut list_ends[..v],
             &mut status[..v],
             &mut weight[..v],
             &mut previous[..v],
-            node,
+            &mut node[..v],
             &mut leaf[..v],
             out_weight,
             c.vertices,

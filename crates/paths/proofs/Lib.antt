@@ -1,3 +1,2 @@
--- PathAsked: the questions of a path query. Walked: what a path query's answer says of walks.
+-- PathAsked: the questions of a path query.
 pub mod PathAsked
-pub mod Walked

@@ -1,18 +1,16 @@
--- What `get_path` answers and leaves in the columns that it writes, and what that says of walks.
+-- What `get_path` answers and leaves in the columns that it writes.
 use Prim.Native.Nat.{ℕ, zero, suc}
 use mathlib.Core.Path.{_≡_}
-use mathlib.Core.Logic.{_≢_, _↔_}
+use mathlib.Core.Logic.{_≢_}
 use mathlib.Core.Bool.{Bool, not, cond, _&&_}
 use mathlib.Core.List.{List}
 use mathlib.Core.Option.{Option, some, none}
-use lib.ListN.{length, take}
+use lib.ListN.{length}
 use lib.Dec.{leb, ltb, eqb}
 use Rattle.columns.specs.Lists.{over}
 use Rattle.columns.specs.Questions.{ask}
 use Rattle.engine_columns.specs.Records.{Engine}
-use Rattle.walks.specs.Graph.{Joined}
 use Rattle.walks.specs.Answers.{FoundPath, path}
-use Rattle.walks.specs.Claims.{IsPath}
 use Rattle.paths.specs.declared.PathAnswer.{PathAnswer}
 use Rattle.paths.specs.declared.PathAnswer.the-variants.{Found, Refused}
 use Rattle.query_questions.specs.Queries.{graphIn, weightsIn, queryDoor}
@@ -66,17 +64,3 @@ pub record PathStep (e : Engine) (scratch : Bool) (a b : ℕ) (r : PathAnswer) (
 abbrev pub PathScratchKept : PathAnswer → ScratchColumns → ScratchColumns → Type 0
 PathScratchKept (Found len total) s₀ s = Unit {0}
 PathScratchKept (Refused n) s₀ s = n ≢ 17 → s ≡ s₀
-
--- 17 exactly where the earlier questions are met and no walk joins a and b; a path exactly where they are met and some walk does.
--- The columns' first places then are a walk from a to b that meets no vertex twice, whose steps sum to the total; no walk weighs less.
-pub record PathSays (e : Engine) (scratch : Bool) (a b : ℕ) (r : PathAnswer) (vertices₀ steps₀ vertices steps : List ℕ) : Type 0 where
-  pub not-reached : numberOf r ≡ 17 ↔ ((pathDoor e scratch a b (length vertices₀) (length steps₀) ≡ 0) × ¬ Joined (graphIn e) a b)
-  pub reached : numberOf r ≡ 0 ↔ ((pathDoor e scratch a b (length vertices₀) (length steps₀) ≡ 0) × Joined (graphIn e) a b)
-  pub least : numberOf r ≡ 0
-      → IsPath (graphIn e) (weightsIn e) a b (record { vertices = take (lengthOf r) vertices; steps = take (lengthOf r) steps; total = totalOf r })
-
--- whatever `get_path` answers and leaves says this of walks
-abbrev pub GetPathIsLeast : Type 0
-GetPathIsLeast =
-    (e : Engine) (scratch : Bool) (a b : ℕ) (r : PathAnswer) (vertices₀ steps₀ vertices steps : List ℕ)
-    → PathStep e scratch a b r vertices₀ steps₀ vertices steps → PathSays e scratch a b r vertices₀ steps₀ vertices steps

@@ -1,2 +1,2 @@
--- GetPath: what `get_path` answers and leaves, and what that says of walks.
+-- GetPath: what `get_path` answers and leaves.
 pub mod GetPath

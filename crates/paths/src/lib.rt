@@ -8,7 +8,7 @@ ghost use Rattle.walks.specs.Answers.{path};
 ghost use Rattle.relaxing.specs.Ready.{stateOf, graphOf, weighs};
 ghost use Rattle.query_questions.specs.Queries.{scratchLong};
 ghost use Rattle.query_questions.specs.Scratch.{scratchOf};
-ghost use Rattle.paths.specs.GetPath.{found, verticesAfter, stepsAfter, PathStep, PathScratchKept, GetPathIsLeast};
+ghost use Rattle.paths.specs.GetPath.{found, verticesAfter, stepsAfter, PathStep, PathScratchKept};
 ghost use Rattle.searches.specs.Search.{Searchable};
 ghost use Rattle.read_back.specs.Path.{pathOf};
 use columns::VertexIndex;
@@ -182,8 +182,3 @@ pub fn get_path(
     }
     PathAnswer::Refused(no)
 }
-
-// What the answer of `get_path` says of walks.
-pub fn get_path_is_least()
-    ensures { λ _. ⌜ GetPathIsLeast ⌝ }
-{}

@@ -1,7 +1,16 @@
 -- The scratch columns of a query, and what it may leave in them.
-use Prim.Native.Nat.{ℕ}
+use Prim.Native.Nat.{ℕ, _+_}
 use mathlib.Core.Path.{_≡_}
+use mathlib.Core.Bool.{Bool, true, false, _||_}
 use mathlib.Core.List.{List}
+use lib.ListN.{length, drop}
+use lib.Dec.{eqb}
+use Rattle.columns.specs.Lists.{each, over}
+use Rattle.priority_queue.specs.Tree.{Tree}
+use Rattle.neighbors.specs.Lists.{lists}
+use Rattle.walks.specs.Graph.{Graph, edges}
+use Rattle.walks.specs.Settling.{State, statusAt, weightAt}
+use Rattle.relaxing.specs.Ready.{keyOf}
 use Rattle.columns.specs.declared.Done.{Done}
 use Rattle.columns.specs.declared.Done.the-variants.{Accepted, Refused}
 
@@ -23,3 +32,24 @@ scratchOf numbers ends status weight previous node leaf =
 abbrev pub ScratchKept : Done → ScratchColumns → ScratchColumns → Type 0
 ScratchKept Accepted s₀ s = Unit {0}
 ScratchKept (Refused n) s₀ s = s ≡ s₀
+
+-- Engine, Crossing, last sentence: scratch is free after success and after 17 and 18.
+abbrev pub isFree : (number : ℕ) → Bool
+isFree n = eqb n 0 || (eqb n 17 || eqb n 18)
+
+-- What holds of scratch after a search of the graph g that settled in the state s. The first places hold: the neighbour lists, one after another, and where each ends; the state's
+-- columns; the keys of the vertices that wait, in a tree of least keys. The places past the vertices, and past the lists, which are twice the edges, are as they were.
+pub record SearchLeft (g : Graph) (s : State) (scratch₀ scratch : ScratchColumns) : Type 0 where
+  pub numbers-left : scratch .numbers ≡ over (lists (g .endsA) (g .endsB) (edges g) (g .vertices)) (scratch₀ .numbers)
+  pub ends-left : scratch .ends ≡ over (each (g .vertices) (λ v. length (lists (g .endsA) (g .endsB) (edges g) (v + 1)))) (scratch₀ .ends)
+  pub status-left : scratch .status ≡ over (s .status) (scratch₀ .status)
+  pub weight-left : scratch .weight ≡ over (s .weight) (scratch₀ .weight)
+  pub previous-left : scratch .previous ≡ over (s .previous) (scratch₀ .previous)
+  pub leaf-left : scratch .leaf ≡ over (each (g .vertices) (λ v. keyOf (statusAt s v) (weightAt s v) v)) (scratch₀ .leaf)
+  pub node-past : drop (g .vertices) (scratch .node) ≡ drop (g .vertices) (scratch₀ .node)
+  pub node-tree : Tree (scratch .node) (scratch .leaf) (g .vertices)
+
+-- scratch after an answer with this number: where it is free, what a search leaves; else as it was
+pub record ScratchAfter (number : ℕ) (g : Graph) (s : State) (scratch₀ scratch : ScratchColumns) : Type 0 where
+  pub free : isFree number ≡ true → SearchLeft g s scratch₀ scratch
+  pub kept : isFree number ≡ false → scratch ≡ scratch₀

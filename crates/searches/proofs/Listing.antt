@@ -6,8 +6,9 @@ use native.Mathlib.Omega.{arith}
 use lib.ListN.{length, getD, take}
 use Rattle.columns.proofs.Columns.{take-over}
 use Rattle.neighbors.specs.Lists.{lists, ListsFilled}
-use Rattle.relaxing.specs.Ready.{Listed}
-use Rattle.searches.specs.Search.{Searchable, Waiting}
+use Rattle.walks.specs.Settling.{State}
+use Rattle.relaxing.specs.Ready.{Listed, Ready}
+use Rattle.searches.specs.Search.{Searchable, Waiting, ListsBuilt}
 
 pub listed : {n : ℕ} {a b w numbers₀ ends₀ weight previous node leaf lengths₀ lengths numbers ends : List ℕ} → Searchable n a b w numbers₀ ends₀ weight previous node leaf
     → ListsFilled a b (length a) n lengths₀ numbers₀ lengths numbers ends → length numbers ≡ length numbers₀ → length ends ≡ length ends₀ → Listed n a b w numbers ends
@@ -31,3 +32,10 @@ searchable-as {a = a} {b} {w} {numbers} {ends} {weight} {previous} {node} {leaf}
 
 pub waiting-as : {n n′ stop : ℕ} {status : List ℕ} → n ≡ n′ → Waiting n status stop → Waiting n′ status stop
 waiting-as {stop = stop} {status = status} e s = subst (λ k. Waiting k status stop) e s
+
+pub built-as : {n n′ : ℕ} {a b numbers₀ numbers ends : List ℕ} → n ≡ n′ → ListsBuilt n a b numbers₀ numbers ends → ListsBuilt n′ a b numbers₀ numbers ends
+built-as {a = a} {b} {numbers₀} {numbers} {ends} e l = subst (λ k. ListsBuilt k a b numbers₀ numbers ends) e l
+
+-- the same state by another name
+pub ready-in : {n : ℕ} {s s′ : State} {node leaf : List ℕ} → s ≡ s′ → Ready n s node leaf → Ready n s′ node leaf
+ready-in {n} {node = node} {leaf = leaf} e r = subst (λ t. Ready n t node leaf) e r

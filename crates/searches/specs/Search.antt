@@ -1,9 +1,14 @@
 -- What a search needs of its columns: the functions below the queries cite it.
-use Prim.Native.Nat.{ℕ, _*_, _<_, _≤_}
+use Prim.Native.Nat.{ℕ, _+_, _*_, _<_, _≤_}
 use mathlib.Core.Path.{_≡_}
 use mathlib.Core.List.{List}
 use lib.ListN.{length, getD}
+use Rattle.columns.specs.Lists.{over}
+use Rattle.neighbors.specs.Lists.{lists}
 use Rattle.neighbors.proofs.Ends.{GraphSound}
+use Rattle.walks.specs.Graph.{Graph}
+use Rattle.walks.specs.Settling.{State}
+use Rattle.relaxing.specs.Ready.{stateOf, Ready}
 
 -- columns cut to their counts, ready for a search
 pub record Searchable (n : ℕ) (a b w numbers ends weight previous node leaf : List ℕ) : Type 0 where
@@ -23,3 +28,14 @@ pub record Waiting (n : ℕ) (status : List ℕ) (stop : ℕ) : Type 0 where
   pub fits : length status ≡ n
   pub bytes : (v : ℕ) → getD status v 0 ≤ 1
   pub no-source : getD status stop 0 ≡ 1 → ⊥
+
+-- the neighbour lists, and where each ends
+pub record ListsBuilt (n : ℕ) (a b numbers₀ numbers ends : List ℕ) : Type 0 where
+  pub numbers-are : numbers ≡ over (lists a b (length a) n) numbers₀
+  pub ends-are : (v : ℕ) → v < n → getD ends v 0 ≡ length (lists a b (length a) (v + 1))
+
+-- columns cut to their counts, after a search of the graph g that settled in the state s
+pub record Searched (g : Graph) (s : State) (numbers₀ numbers ends status weight previous node leaf : List ℕ) : Type 0 where
+  pub built : ListsBuilt (g .vertices) (g .endsA) (g .endsB) numbers₀ numbers ends
+  pub state : stateOf status weight previous ≡ s
+  pub ready : Ready (g .vertices) s node leaf

@@ -11,7 +11,7 @@ ghost use Rattle.columns.specs.Lists.{each};
 ghost use Rattle.walks.specs.Settling.{settled};
 ghost use Rattle.walks.specs.Answers.{tableWeight, tablePrevious};
 ghost use Rattle.relaxing.specs.Ready.{graphOf, weighs, stateOf, Ready, sources, endOf, sumLimit};
-ghost use Rattle.searches.specs.Search.{Searchable, Waiting};
+ghost use Rattle.searches.specs.Search.{Searchable, Waiting, ListsBuilt};
 use columns::Weight;
 
 // Builds the neighbour lists and settles from the vertices that wait.
@@ -32,6 +32,7 @@ pub fn search(
     requires { ⌜ Waiting (length (now status)) (now status) stop ⌝ }
     ensures { λ _. ⌜ ((m : List ℕ) → stateOf (now (status .exit)) (now (weight .exit)) (now (previous .exit)) ≡ settled (graphOf (length (now (status .entry))) (now («ends_a» .entry)) (now («ends_b» .entry)) m) (weighs (now (weights .entry))) (sources (now (status .entry))) (endOf (length (now (status .entry))) stop)) ⌝ }
     ensures { λ _. ⌜ Ready (length (now (status .entry))) (stateOf (now (status .exit)) (now (weight .exit)) (now (previous .exit))) (now (node .exit)) (now (leaf .exit)) ⌝ }
+    ensures { λ _. ⌜ ListsBuilt (length (now (status .entry))) (now («ends_a» .entry)) (now («ends_b» .entry)) (now (numbers .entry)) (now (numbers .exit)) (now («list_ends» .exit)) ⌝ }
 {
     neighbors::lists::fill_lists(
         ends_a,

@@ -68,6 +68,21 @@ module _ {g : Graph} {w : ℕ → ℕ} {Source : ℕ → Type 0} {σ : State} (i
   pub least : (v : ℕ) → statusAt σ v ≡ 2 → LeastWeight g w Source v (weightAt σ v)
   least v q = record { some-walk = i .found v (omega arith); no-lighter = λ x s a r. taken-no-lighter a r q }
 
+  -- a walk to a vertex that is not taken weighs no less than a taken vertex b: it leaves the taken vertices for one that waits
+  module _ (b : ℕ) (t : statusAt σ b ≡ 2) where
+    taken-to-open : {x v : ℕ} {s : List ℕ} → Walk g x s v → statusAt σ x ≡ 2 → statusAt σ v ≢ 2 → weightAt σ b ≤ weightAt σ x + sum s w
+    taken-to-open stay p f = absurd (f p)
+    taken-to-open (step {x = x} {y = y} {e = e} h j r) p f = elim (ℕ-discrete (statusAt σ y) 2) [
+      | yes q ↦ omega (arith, taken-to-open r q f, i .closed e x y h j p)
+      | no q ↦ omega (arith, i .closed e x y h j p, i .order b y t (omega (arith, i .small y, i .closed e x y h j p)))
+    ]
+
+    pub open-no-lighter : {x v : ℕ} {s : List ℕ} → Source x → Walk g x s v → statusAt σ v ≢ 2 → weightAt σ b ≤ sum s w
+    open-no-lighter {x} a r f = elim (ℕ-discrete (statusAt σ x) 2) [
+      | yes q ↦ omega (arith, taken-to-open r q f, i .source x a)
+      | no q ↦ omega (arith, i .source x a, i .order b x t (omega (arith, i .small x, i .source x a)))
+    ]
+
   -- where nothing waits, a walk from a source leads to a taken vertex
   module _ (done : (v : ℕ) → statusAt σ v ≢ 1) where
     taken-on : {x v : ℕ} {s : List ℕ} → Walk g x s v → statusAt σ x ≡ 2 → statusAt σ v ≡ 2

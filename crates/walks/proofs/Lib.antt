@@ -1,5 +1,5 @@
 -- Examples: document 01's listing and small graphs, computed. Sums: laws of lists. LowerBound, UpperBound: potentials, cancelled walks.
--- LeastWeights, Offers, FirstLeast, Turns: settling gives least weights and comes to rest. Tree, Limits: the way back, the size of sums.
+-- LeastWeights, Offers, FirstLeast, Turns, Stopping: settling gives least weights, comes to rest and stops at its end. Tree, Limits: the way back, the size of sums.
 -- TableAndPath, LeastCrossing, TwoGraphs: the claims. Neighbours, TurnCases: settling along neighbour lists and case by case, for code.
 pub mod Examples
 pub mod Sums
@@ -9,6 +9,7 @@ pub mod LeastWeights
 pub mod Offers
 pub mod FirstLeast
 pub mod Turns
+pub mod Stopping
 pub mod Tree
 pub mod Limits
 pub mod TableAndPath

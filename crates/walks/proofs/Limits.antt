@@ -57,7 +57,7 @@ bounded-settle {g} ok w {limit} m source end k = after-turns ok w (test-sources 
       taken = λ v p. absurd (⊎-elim (λ e. omega arith) (λ e. omega arith) (start-each (test-sources g source) v));
     })
     (λ k s b. record { waiting = λ v p. omega (arith, b .waiting v p); taken = λ v p. omega (arith, b .taken v p) })
-    (λ k x s s′ i t b. bounded-step m (i .inv .small) t b) k .1
+    (λ k x s s′ i f t b. bounded-step m (i .inv .small) t b) k .1
 
 -- ---- a walk that meets no vertex twice
 

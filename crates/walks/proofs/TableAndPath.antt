@@ -5,20 +5,21 @@ use mathlib.Core.Bool.{Bool, true, false, cond}
 use mathlib.Core.List.{List}
 use mathlib.Core.Option.{Option, some, none}
 use Prim.Native.Nat.{ℕ, _<_}
-use native.Mathlib.Decide.{ℕ-discrete}
+use native.Mathlib.Decide.{ℕ-discrete, decLt}
 use native.Mathlib.Omega.{arith}
-use lib.ListN.{getD}
+use lib.ListN.{length, getD, List·getD-eq-default}
 use lib.IntN.{pos, negsuc}
 use borrow.Author.Tests.{eqb-true, eqb-false, eq-eqb, ne-eqb}
 use Rattle.columns.specs.Lists.{each}
-use Rattle.walks.specs.Graph.{Graph, InRange, Joined}
+use Rattle.walks.specs.Graph.{Graph, InRange, Joined, LeastWeight}
 use Rattle.walks.specs.Settling.{State, statusAt, weightAt, previousAt, settled}
 use Rattle.walks.specs.Answers.{only, taken, weightIn, tableWeight, tablePrevious, TableColumns, table, readBack, stepInto, pathIn, path}
-use Rattle.walks.specs.Claims.{EndTaken, SettlingIsLeast, LastStep, LeadsBack, Row, IsTable, TableIsLeast, IsPath, PathAnswer, PathIsLeast}
+use Rattle.walks.specs.Claims.{EndTaken, SettlingIsLeast, LastStep, LeadsBack, Row, Unstopped, EndRow, IsTable, TableIsLeast, IsPath, PathAnswer, PathIsLeast}
 use Rattle.columns.proofs.Counting.{length-each, getD-each}
 use Rattle.walks.proofs.Sums.{sum-map}
-use Rattle.walks.proofs.LeastWeights.{least, all-taken}
+use Rattle.walks.proofs.LeastWeights.{least, open-no-lighter, all-taken}
 use Rattle.walks.proofs.Turns.{Sources, test-sources, Valid, not-absent-in, Resting, settle-valid, settled-rests, end-taken}
+use Rattle.walks.proofs.Stopping.{end-last}
 use Rattle.walks.proofs.Tree.{FromPrevious, WayBack, at-source, by-previous, Tree, tree-settle, Rooted, at-start, later, rooted-settle, read-back, read-total, read-once}
 
 -- ---- settling
@@ -79,6 +80,10 @@ module _ {g : Graph} (ok : InRange g) (w : ℕ → ℕ) {a : ℕ} (h : a < g .ve
   abbrev rows : TableColumns
   rows = table g w a end
 
+  rows-fit : length (rows .weights) ≡ g .vertices
+  unfolding table
+  rows-fit = length-each (g .vertices) (tableWeight S)
+
   weight-taken : (v : ℕ) → statusAt S v ≡ 2 → weightIn (rows .weights) v ≡ pos (weightAt S v)
   unfolding table
   weight-taken v e = column-taken (g .vertices) S (λ v. pos (weightAt S v)) (negsuc 0) v (in-range v e) e
@@ -116,25 +121,64 @@ module _ {g : Graph} (ok : InRange g) (w : ℕ → ℕ) {a : ℕ} (h : a < g .ve
     | no f ↦ inr (weight-other v l f, previous-other v l f)
   ]
 
-  unstopped : (end : Option ℕ) → (end ≡ none) ⊎ (end ≡ some a) → (s : State) → EndTaken (only a) end s → ⊥
-  unstopped none n s e = e
-  unstopped (some b) (inl n) s e = let z : _≡_ {A = ℕ} 0 1 = cc in omega arith
-  unstopped (some b) (inr n) s e = e .0 (eq-eqb b a (cc))
+  -- ---- the end
+
+  -- a row says whether its vertex was taken, and with which weight
+  row-other : (v : ℕ) → weightIn (rows .weights) v ≡ negsuc 0 → statusAt S v ≢ 2
+  row-other v e p = let q = weight-taken v p in let z : _≡_ {A = ℕ} 0 1 = cc in omega arith
+
+  row-taken : (v k : ℕ) → weightIn (rows .weights) v ≡ pos k → (statusAt S v ≡ 2) × (weightAt S v ≡ k)
+  row-taken v k e = elim (decLt v (g .vertices)) [
+    | yes l ↦ elim (ℕ-discrete (statusAt S v) 2) [
+      | yes p ↦ let q = weight-taken v p in (p, cc)
+      | no f ↦ let q = weight-other v l f in absurd (let z : _≡_ {A = ℕ} 0 1 = cc in omega arith)
+    ]
+    | no l ↦ let q = List·getD-eq-default (rows .weights) (negsuc 0) {n = v} (omega (arith, rows-fit)) in absurd (let z : _≡_ {A = ℕ} 0 1 = cc in omega arith)
+  ]
+
+  -- where no end stopped the search nothing waits
+  unstopped : (o : Option ℕ) → Unstopped a rows o → EndTaken (only a) o S → ⊥
+  unstopped none n e = e
+  unstopped (some b) (inl n) e = e .0 (eq-eqb b a n)
+  unstopped (some b) (inr n) e = row-other b n (e .1)
+
+  nothing-waits : Unstopped a rows end → (v : ℕ) → statusAt S v ≢ 1
+  nothing-waits n = ⊎-elim (λ d. d) (λ d. absurd (unstopped end n (end-taken (only a) end S d))) (settled-rests ok w (only-source h) end .0)
+
+  reached : (b : ℕ) → end ≡ some b → Joined g a b → (k : ℕ) × (weightIn (rows .weights) b ≡ pos k) × LeastWeight g w (λ x. x ≡ a) b k
+  reached b e j = elim (ℕ-discrete (statusAt S b) 2) [
+    | yes p ↦ (weightAt S b, weight-taken b p, least (valid .inv) b p)
+    | no f ↦ absurd (⊎-elim (λ d. not-joined d b f j) (λ d. f (named end e (end-taken (only a) end S d))) (settled-rests ok w (only-source h) end .0))
+  ]
+    where
+      named : (o : Option ℕ) → o ≡ some b → EndTaken (only a) o S → statusAt S b ≡ 2
+      named none q e = absurd (let z : _≡_ {A = ℕ} 0 1 = cc in omega arith)
+      named (some c) q e = let z : c ≡ b = cc in ap (statusAt S) (sym z) ∙ e .1
+
+  row-of-end : (b : ℕ) → end ≡ some b → EndRow g w a rows b
+  row-of-end b e = record {
+    reached = reached b e;
+    none-before = λ k v s p q r. omega (arith, row-taken b k p, open-no-lighter (valid .inv) b (row-taken b k p .0) refl r (row-other v q));
+    none-after = λ f k v j p q. omega (
+      arith,
+      row-taken b k p,
+      row-taken v j q,
+      end-last ok w (only-source h) end (g .vertices) b v e (λ z. f (eqb-true b a z)) (row-taken b k p .0) (row-taken v j q .0),
+    );
+  }
 
   pub table-is : IsTable g w a end rows
   unfolding table
   table-is = record {
-    weights-fit = length-each (g .vertices) (tableWeight S);
+    weights-fit = rows-fit;
     previous-fit = length-each (g .vertices) (tablePrevious S);
     source = (
       weight-taken a (source-taken .0) ∙ ap pos (valid .inv .source a refl .1),
       previous-taken a (source-taken .0) ∙ source-taken .1,
     );
     rows = row;
-    unreached = λ n v l e j. elim (ℕ-discrete (statusAt S v) 2) [
-      | yes p ↦ let q = weight-taken v p in let z : _≡_ {A = ℕ} 0 1 = cc in omega arith
-      | no f ↦ not-joined (⊎-elim (λ d. d) (λ d. absurd (unstopped end n S (end-taken (only a) end S d))) (settled-rests ok w (only-source h) end .0)) v f j
-    ];
+    unreached = λ n v l e. not-joined (nothing-waits n) v (row-other v e);
+    end-row = row-of-end;
   }
 
 pub table-is-least : TableIsLeast

@@ -131,12 +131,12 @@ module _ {g : Graph} (ok : InRange g) (w : ℕ → ℕ) {source : ℕ → Bool} 
   }
 
   pub tree-settle : (k : ℕ) → Tree g w a k (settle g w source end k)
-  tree-settle k = after-turns ok w n end (Tree g w a) start-tree (λ k s t. tree-more t) (λ k x s s′ i t h. tree-step t (i .inv .small) h) k .1
+  tree-settle k = after-turns ok w n end (Tree g w a) start-tree (λ k s t. tree-more t) (λ k x s s′ i f t h. tree-step t (i .inv .small) h) k .1
 
   pub rooted-settle : (k : ℕ) → Rooted a (settle g w source end k)
   rooted-settle k =
       after-turns ok w n end (λ k s. Rooted a s) (at-start start-source (start-previous g source a (n .inside a refl)) start-other)
-      (λ k s r. r) (λ k x s s′ i t r. rooted-step t r) k .1
+      (λ k s r. r) (λ k x s s′ i f t r. rooted-step t r) k .1
 
 -- ---- the path, read back
 

@@ -305,27 +305,27 @@ module _ {g : Graph} (ok : InRange g) (w : ℕ → ℕ) where
       ]
 
   module _ {source : ℕ → Bool} {Source : ℕ → Type 0} (n : Sources g source Source) (end : Option ℕ) where
-    -- a law of turns: what the start has, what a turn at rest keeps and a turn that takes a vertex keeps, holds after k turns
+    -- a law of turns: what the start has, what a turn at rest keeps and a turn that takes a vertex, not stopped, keeps, holds after k turns
     module _ (P : ℕ → State → Type 0) (first : P 0 (start g source)) (rests : (k : ℕ) (s : State) → P k s → P (suc k) s)
-        (moves : (k a : ℕ) (s s′ : State) → Valid g w Source s → Takes g w s a s′ → P k s → P (suc k) s′) where
+        (moves : (k a : ℕ) (s s′ : State) → Valid g w Source s → stopped source end s ≡ false → Takes g w s a s′ → P k s → P (suc k) s′) where
       pub after-turns : (k : ℕ) → Valid g w Source (settle g w source end k) × P k (settle g w source end k)
       unfolding settle next
       after-turns zero = (start-valid n w, first)
       after-turns (suc k) =
           let s : State = settle g w source end k in
           let i = after-turns k in
-          go s i (stopped source end s) (toTake (g .vertices) s) (toTake-is (g .vertices) s)
+          go s i (stopped source end s) refl (toTake (g .vertices) s) (toTake-is (g .vertices) s)
         where
-          go : (s : State) → Valid g w Source s × P k s → (b : Bool) (o : Option ℕ) → IsToTake (g .vertices) s o
+          go : (s : State) → Valid g w Source s × P k s → (b : Bool) → stopped source end s ≡ b → (o : Option ℕ) → IsToTake (g .vertices) s o
               → Valid g w Source (cond b s (takeChosen g w s o)) × P (suc k) (cond b s (takeChosen g w s o))
-          go s i true o p = (i .0, rests k s (i .1))
-          go s i false none p = (i .0, rests k s (i .1))
-          go s i false (some a) p =
+          go s i true e o p = (i .0, rests k s (i .1))
+          go s i false e none p = (i .0, rests k s (i .1))
+          go s i false e (some a) p =
               let t = take-is a s (i .0 .fits) p in
-              (record { inv = keeps (i .0 .inv) (t .0); fits = t .1 }, moves k a s (take g w a s) (i .0) (t .0) (i .1))
+              (record { inv = keeps (i .0 .inv) (t .0); fits = t .1 }, moves k a s (take g w a s) (i .0) e (t .0) (i .1))
 
     pub settle-valid : (k : ℕ) → Valid g w Source (settle g w source end k)
-    settle-valid k = after-turns (λ k s. Unit {0}) tt (λ k s p. tt) (λ k a s s′ i t p. tt) k .0
+    settle-valid k = after-turns (λ k s. Unit {0}) tt (λ k s p. tt) (λ k a s s′ i f t p. tt) k .0
 
     -- ---- enough turns
 

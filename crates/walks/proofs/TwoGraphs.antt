@@ -95,7 +95,7 @@ table-says {g} ok w {a} h v l = go (table-is ok w h none .rows v l)
 
     go : Row g w a (table g w a none) v → Holds (weightIn (table g w a none .weights) v)
     go (inl r) = subst Holds (sym (r .1)) (r .2)
-    go (inr r) = subst Holds (sym (r .0)) (refl, table-is ok w h none .unreached (inl refl) v l (r .0))
+    go (inr r) = subst Holds (sym (r .0)) (refl, table-is ok w h none .unreached tt v l (r .0))
 
 -- ---- nowhere greater
 

@@ -58,13 +58,26 @@ Row g w a t v =
     × (n : ℕ) × (n < g .vertices) × LeadsBack g w a t v n)
     ⊎ ((weightIn (t .weights) v ≡ negsuc 0) × (getD (t .previous) v 0 ≡ 0))
 
--- Engine, Table: the source's row, every row, and that without an end that stops it -1 stands only where no walk leads.
+-- Engine, Settling, last sentence: no end stopped the search: none was named, or one equal to the source, or one that was not taken.
+abbrev pub Unstopped : (a : ℕ) (t : TableColumns) → Option ℕ → Type 0
+Unstopped a t none = Unit {0}
+Unstopped a t (some b) = (b ≡ a) ⊎ (weightIn (t .weights) b ≡ negsuc 0)
+
+-- Engine, Settling, last sentence: the named end b, where a walk joins it to the source, was taken and has its least weight. With the end's weight k:
+-- no walk to a vertex that was not taken weighs less; where the end is not the source, no vertex that was taken weighs more. By weight alone, whatever the tie rule.
+pub record EndRow (g : Graph) (w : ℕ → ℕ) (a : ℕ) (t : TableColumns) (b : ℕ) : Type 0 where
+  pub reached : Joined g a b → (k : ℕ) × (weightIn (t .weights) b ≡ pos k) × LeastWeight g w (λ x. x ≡ a) b k
+  pub none-before : (k v : ℕ) (s : List ℕ) → weightIn (t .weights) b ≡ pos k → weightIn (t .weights) v ≡ negsuc 0 → Walk g a s v → k ≤ sum s w
+  pub none-after : b ≢ a → (k v j : ℕ) → weightIn (t .weights) b ≡ pos k → weightIn (t .weights) v ≡ pos j → j ≤ k
+
+-- Engine, Table: the source's row, every row, and that where no end stopped the search -1 stands only where no walk leads; the named end's row.
 pub record IsTable (g : Graph) (w : ℕ → ℕ) (a : ℕ) (end : Option ℕ) (t : TableColumns) : Type 0 where
   pub weights-fit : length (t .weights) ≡ g .vertices
   pub previous-fit : length (t .previous) ≡ g .vertices
   pub source : (weightIn (t .weights) a ≡ pos 0) × (getD (t .previous) a 0 ≡ a)
   pub rows : (v : ℕ) → v < g .vertices → Row g w a t v
-  pub unreached : (end ≡ none) ⊎ (end ≡ some a) → (v : ℕ) → v < g .vertices → weightIn (t .weights) v ≡ negsuc 0 → ¬ Joined g a v
+  pub unreached : Unstopped a t end → (v : ℕ) → v < g .vertices → weightIn (t .weights) v ≡ negsuc 0 → ¬ Joined g a v
+  pub end-row : (b : ℕ) → end ≡ some b → EndRow g w a t b
 
 -- Engine, Table: for every graph, weights, source and end.
 abbrev pub TableIsLeast : Type 0

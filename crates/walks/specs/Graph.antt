@@ -56,6 +56,10 @@ pub data Walk (g : Graph) : ℕ → List ℕ → ℕ → Type 0 where
 abbrev pub Joined : Graph → ℕ → ℕ → Type 0
 Joined g x y = (s : List ℕ) × Walk g x s y
 
+-- Questions at the door, 18: there is a walk from a left vertex to a right one.
+abbrev pub LeftJoinsRight : Graph → Type 0
+LeftJoinsRight g = (x : ℕ) × (y : ℕ) × Left g x × Right g y × Joined g x y
+
 -- Engine, on walks, sentence 2: s lists edges of the graph, all different. Its weight is `sum s w`.
 pub record EdgeSet (g : Graph) (s : List ℕ) : Type 0 where
   pub named : All (λ e. e < edges g) s

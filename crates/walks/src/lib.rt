@@ -6,7 +6,8 @@ pub fn settling_is_least()
     ensures { λ _. ⌜ SettlingIsLeast ⌝ }
 {}
 
-// The table: the source has 0 and itself, a row has the least weight and leads back to the source, or it has -1 and 0.
+// The table: the source has 0 and itself, a row has the least weight and leads back to the source, or it has -1 and 0;
+// a named end is reached if it is joined, and its weight parts the vertices that were taken from those that were not.
 pub fn table_is_least()
     ensures { λ _. ⌜ TableIsLeast ⌝ }
 {}

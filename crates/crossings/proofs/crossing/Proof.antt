@@ -10,14 +10,15 @@ use Rattle.columns.specs.Lists.{after}
 use Rattle.columns.specs.Questions.{ask}
 use Rattle.columns.proofs.Columns.{after-refused}
 use Rattle.engine_columns.specs.Records.{Engine, engine}
-use Rattle.walks.specs.Answers.{crossing, leastFromLeft}
+use Rattle.walks.specs.Answers.{crossing, fromLeft, leastFromLeft}
 use Rattle.relaxing.specs.Ready.{graphOf}
 use Rattle.query_questions.specs.Queries.{graphIn, weightsIn, scratchLong}
-use Rattle.query_questions.specs.Scratch.{scratchOf}
-use Rattle.crossing_answers.specs.Crossing.{isJoined, replyOf, crossingDoor}
+use Rattle.query_questions.specs.Scratch.{scratchOf, isFree}
+use Rattle.crossing_answers.specs.Crossing.{replyNumber, isJoined, replyOf, crossingDoor}
 use Rattle.crossing_answers.specs.Codes.{Coded, wherever}
 use Rattle.searches.proofs.Asked.{ScratchLong, scratch-of, searchable}
-use Rattle.crossings.proofs.Crossings.{CrossingAsked, crossing-of, door-passed, door-refused, reply-of, reply-passed, reply-refused, column-after, left-length, scratch-free, scratch-same}
+use Rattle.searches.proofs.Scratch.{searchable-cut, search-left, scratch-free, scratch-kept}
+use Rattle.crossings.proofs.Crossings.{CrossingAsked, crossing-of, door-passed, door-refused, reply-of, reply-passed, reply-refused, column-after, left-length, searched-as, free-number, kept-number}
 use borrow.Author.Needs.{needs}
 use Rattle.crossings.proofs.crossing.Statement.{statement}
 use Rattle.crossings.proofs.crossing.Tie as tie
@@ -86,56 +87,84 @@ slice-aggregate-run-crossing-4 c = let t : tie.Then1 = c .before .before .before
 
 slice-relend-prefix-run-crossing : tie.Need-slice-relend-prefix-run-crossing
 unfolding number-at engine-of scratch-at
-slice-relend-prefix-run-crossing c = let t : tie.Then1 = c .before .before .before .before .before .before in
+slice-relend-prefix-run-crossing c = let t : tie.Then1 = c .before .before .before .before .before in
+    let s : tie.Start = t .before .before .before .before .before .before .before .before .before .before .before .before .before .before .before .before .before .before in
+    let z = number-then t in
+    scratch-long-at s z .ends-long
+
+slice-aggregate-run-crossing-5 : tie.Need-slice-aggregate-run-crossing-5
+unfolding number-at engine-of scratch-at
+slice-aggregate-run-crossing-5 c = let t : tie.Then1 = c .before .before .before .before .before .before in
+    let s : tie.Start = t .before .before .before .before .before .before .before .before .before .before .before .before .before .before .before .before .before .before in
+    let z = number-then t in
+    sym (length-take-le (s .args .c .vertices) (s .args .list-ends .now) (scratch-long-at s z .ends-long))
+
+slice-relend-prefix-run-crossing-2 : tie.Need-slice-relend-prefix-run-crossing-2
+unfolding number-at engine-of scratch-at
+slice-relend-prefix-run-crossing-2 c = let t : tie.Then1 = c .before .before .before .before .before .before in
     let s : tie.Start = t .before .before .before .before .before .before .before .before .before .before .before .before .before .before .before .before .before .before in
     let z = number-then t in
     scratch-long-at s z .status-long
 
-slice-aggregate-run-crossing-5 : tie.Need-slice-aggregate-run-crossing-5
+slice-aggregate-run-crossing-6 : tie.Need-slice-aggregate-run-crossing-6
 unfolding number-at engine-of scratch-at
-slice-aggregate-run-crossing-5 c = let t : tie.Then1 = c .before .before .before .before .before .before .before in
+slice-aggregate-run-crossing-6 c = let t : tie.Then1 = c .before .before .before .before .before .before .before in
     let s : tie.Start = t .before .before .before .before .before .before .before .before .before .before .before .before .before .before .before .before .before .before in
     let z = number-then t in
     sym (length-take-le (s .args .c .vertices) (s .args .status .now) (scratch-long-at s z .status-long))
 
-slice-relend-prefix-run-crossing-2 : tie.Need-slice-relend-prefix-run-crossing-2
+slice-relend-prefix-run-crossing-3 : tie.Need-slice-relend-prefix-run-crossing-3
 unfolding number-at engine-of scratch-at
-slice-relend-prefix-run-crossing-2 c = let t : tie.Then1 = c .before .before .before .before .before .before .before in
+slice-relend-prefix-run-crossing-3 c = let t : tie.Then1 = c .before .before .before .before .before .before .before in
     let s : tie.Start = t .before .before .before .before .before .before .before .before .before .before .before .before .before .before .before .before .before .before in
     let z = number-then t in
     scratch-long-at s z .weight-long
 
-slice-aggregate-run-crossing-6 : tie.Need-slice-aggregate-run-crossing-6
+slice-aggregate-run-crossing-7 : tie.Need-slice-aggregate-run-crossing-7
 unfolding number-at engine-of scratch-at
-slice-aggregate-run-crossing-6 c = let t : tie.Then1 = c .before .before .before .before .before .before .before .before in
+slice-aggregate-run-crossing-7 c = let t : tie.Then1 = c .before .before .before .before .before .before .before .before in
     let s : tie.Start = t .before .before .before .before .before .before .before .before .before .before .before .before .before .before .before .before .before .before in
     let z = number-then t in
     sym (length-take-le (s .args .c .vertices) (s .args .weight .now) (scratch-long-at s z .weight-long))
 
-slice-relend-prefix-run-crossing-3 : tie.Need-slice-relend-prefix-run-crossing-3
+slice-relend-prefix-run-crossing-4 : tie.Need-slice-relend-prefix-run-crossing-4
 unfolding number-at engine-of scratch-at
-slice-relend-prefix-run-crossing-3 c = let t : tie.Then1 = c .before .before .before .before .before .before .before .before in
+slice-relend-prefix-run-crossing-4 c = let t : tie.Then1 = c .before .before .before .before .before .before .before .before in
     let s : tie.Start = t .before .before .before .before .before .before .before .before .before .before .before .before .before .before .before .before .before .before in
     let z = number-then t in
     scratch-long-at s z .previous-long
 
-slice-aggregate-run-crossing-7 : tie.Need-slice-aggregate-run-crossing-7
+slice-aggregate-run-crossing-8 : tie.Need-slice-aggregate-run-crossing-8
 unfolding number-at engine-of scratch-at
-slice-aggregate-run-crossing-7 c = let t : tie.Then1 = c .before .before .before .before .before .before .before .before .before in
+slice-aggregate-run-crossing-8 c = let t : tie.Then1 = c .before .before .before .before .before .before .before .before .before in
     let s : tie.Start = t .before .before .before .before .before .before .before .before .before .before .before .before .before .before .before .before .before .before in
     let z = number-then t in
     sym (length-take-le (s .args .c .vertices) (s .args .previous .now) (scratch-long-at s z .previous-long))
 
-slice-relend-prefix-run-crossing-4 : tie.Need-slice-relend-prefix-run-crossing-4
+slice-relend-prefix-run-crossing-5 : tie.Need-slice-relend-prefix-run-crossing-5
 unfolding number-at engine-of scratch-at
-slice-relend-prefix-run-crossing-4 c = let t : tie.Then1 = c .before .before .before .before .before .before .before .before .before .before in
+slice-relend-prefix-run-crossing-5 c = let t : tie.Then1 = c .before .before .before .before .before .before .before .before .before in
+    let s : tie.Start = t .before .before .before .before .before .before .before .before .before .before .before .before .before .before .before .before .before .before in
+    let z = number-then t in
+    scratch-long-at s z .node-long
+
+slice-aggregate-run-crossing-9 : tie.Need-slice-aggregate-run-crossing-9
+unfolding number-at engine-of scratch-at
+slice-aggregate-run-crossing-9 c = let t : tie.Then1 = c .before .before .before .before .before .before .before .before .before .before in
+    let s : tie.Start = t .before .before .before .before .before .before .before .before .before .before .before .before .before .before .before .before .before .before in
+    let z = number-then t in
+    sym (length-take-le (s .args .c .vertices) (s .args .node .now) (scratch-long-at s z .node-long))
+
+slice-relend-prefix-run-crossing-6 : tie.Need-slice-relend-prefix-run-crossing-6
+unfolding number-at engine-of scratch-at
+slice-relend-prefix-run-crossing-6 c = let t : tie.Then1 = c .before .before .before .before .before .before .before .before .before .before in
     let s : tie.Start = t .before .before .before .before .before .before .before .before .before .before .before .before .before .before .before .before .before .before in
     let z = number-then t in
     scratch-long-at s z .leaf-long
 
-slice-aggregate-run-crossing-8 : tie.Need-slice-aggregate-run-crossing-8
+slice-aggregate-run-crossing-10 : tie.Need-slice-aggregate-run-crossing-10
 unfolding number-at engine-of scratch-at
-slice-aggregate-run-crossing-8 c = let t : tie.Then1 = c .before .before .before .before .before .before .before .before .before .before .before in
+slice-aggregate-run-crossing-10 c = let t : tie.Then1 = c .before .before .before .before .before .before .before .before .before .before .before in
     let s : tie.Start = t .before .before .before .before .before .before .before .before .before .before .before .before .before .before .before .before .before .before in
     let z = number-then t in
     sym (length-take-le (s .args .c .vertices) (s .args .leaf .now) (scratch-long-at s z .leaf-long))
@@ -148,7 +177,8 @@ run-crossing-requires c κs = let t : tie.Then1 = c .before .before .before .bef
     let k = asked-at s z in
     let q = scratch-long-at s z in
     let len = length-take-le (s .args .c .vertices) (s .args .status .now) (q .status-long) in (
-      searchable (engine-of s) (s .args .numbers .now) (s .args .list-ends .now) (s .args .status .now) (s .args .weight .now) (s .args .previous .now) (s .args .node .now) (s .args .leaf .now) (k .long) (k .sound) q,
+      searchable-cut (q .ends-long) (q .node-long) len
+          (searchable (engine-of s) (s .args .numbers .now) (s .args .list-ends .now) (s .args .status .now) (s .args .weight .now) (s .args .previous .now) (s .args .node .now) (s .args .leaf .now) (k .long) (k .sound) q),
       (length-take-le (s .args .c .vertices) (s .args .boundary .now) (k .long .columns .boundary) ∙ sym len, sym len, omega (arith, k .weights-long, len)),
     )
 
@@ -162,7 +192,7 @@ same-length-2 : tie.Need-same-length-2
 same-length-2 c = c .before .before .before .before .before .before .before .before .before .before .before .before .before .before .before .numbers .given
 
 same-length-3 : tie.Need-same-length-3
-same-length-3 c = c .before .before .before .before .before .before .before .before .before .before .before .before .before .list-ends .given
+same-length-3 c = search needs
 
 same-length-4 : tie.Need-same-length-4
 same-length-4 c = search needs
@@ -174,7 +204,7 @@ same-length-6 : tie.Need-same-length-6
 same-length-6 c = search needs
 
 same-length-7 : tie.Need-same-length-7
-same-length-7 c = c .before .before .before .before .before .node .given
+same-length-7 c = search needs
 
 same-length-8 : tie.Need-same-length-8
 same-length-8 c = search needs
@@ -196,13 +226,18 @@ returns c = let t : tie.Then1 = c .before .before .before .before .before .befor
     let o = c .before .before .before .before .before .before .before .before .before .before .before .before .before .before .before .before .run-crossing .ensures in
     let f = c .before .before .before .before .before .before .before .before .before .before .before .before .before .before .before .before .run-crossing .result in
     let coded : Coded f (crossing g w) = subst (λ n. Coded f (crossing (graphOf n A B M) w)) len (o .0) in
+    let said : c .reply .result ≡ replyOf 0 (crossing g w) = c .reply .ensures ∙ reply-of f (crossing g w) coded in
+    let scratch₀ = scratchOf (s .args .numbers .now) (s .args .list-ends .now) (s .args .status .now) (s .args .weight .now) (s .args .previous .now) (s .args .node .now) (s .args .leaf .now) in
+    let ends-length = c .before .before .before .before .before .before .before .before .before .before .before .before .before .before .before .before .run-crossing .kept .1 .1 .1 .1 .1 .0 ∙ length-take-le (s .args .c .vertices) (s .args .list-ends .now) (q .ends-long) in
+    let node-length = c .before .before .before .before .before .before .before .before .before .before .before .before .before .before .before .before .run-crossing .kept .1 .1 .1 .1 .1 .1 .1 .1 .1 .0 ∙ length-take-le (s .args .c .vertices) (s .args .node .now) (q .node-long) in
     let next = door-passed (engine-of s) (scratch-at s) (length out₀) (ask (isJoined (crossing g w)) 18 0) z in (
       record {
-        answer = c .reply .ensures ∙ reply-of f (crossing g w) coded ∙ reply-passed (crossing g w) ∙ ap (λ n. replyOf n (crossing g w)) (sym next);
-        weights-left = o .1 ∙ (λ i. wherever (crossing (graphOf (len i) A B M) w) (leastFromLeft (graphOf (len i) A B M) w) out₀)
+        answer = said ∙ reply-passed (crossing g w) ∙ ap (λ n. replyOf n (crossing g w)) (sym next);
+        weights-left = o .1 .0 ∙ (λ i. wherever (crossing (graphOf (len i) A B M) w) (leastFromLeft (graphOf (len i) A B M) w) out₀)
             ∙ column-after (crossing g w) (leastFromLeft g w) out₀ (omega (arith, left-length g w, k .weights-long)) ∙ ap (λ n. after n (leastFromLeft g w) out₀) (sym next);
       },
-      scratch-free _ _ _ z,
+      scratch-free _ g (fromLeft g w) scratch₀ _ (ap (λ x. isFree (replyNumber x)) said ∙ free-number (crossing g w))
+          (search-left g (fromLeft g w) scratch₀ ends-length node-length (searched-as w len (o .1 .1))),
     )
 
 returns-2 : tie.Need-returns-2
@@ -217,7 +252,9 @@ returns-2 c = let s : tie.Start = c .before .before .before .before .before .bef
         answer = reply-refused _ (c .before .crossing-door .result) (crossing g w) (d ∙ sym next) (c .if1 .left);
         weights-left = sym (after-refused _ (leastFromLeft g w) (s .args .out-weight .now) (λ e. f (sym next ∙ e)));
       },
-      scratch-same (number-at s) (scratchOf (s .args .numbers .now) (s .args .list-ends .now) (s .args .status .now) (s .args .weight .now) (s .args .previous .now) (s .args .node .now) (s .args .leaf .now)),
+      scratch-kept _ g (fromLeft g w)
+          (scratchOf (s .args .numbers .now) (s .args .list-ends .now) (s .args .status .now) (s .args .weight .now) (s .args .previous .now) (s .args .node .now) (s .args .leaf .now))
+          (ap isFree d ∙ kept-number (engine-of s) (scratch-at s) (length (s .args .out-weight .now)) f),
     )
 
 pub crossing-spec : {M : Type 1} → statement M
@@ -240,6 +277,10 @@ crossing-spec =
     slice-aggregate-run-crossing-7
     slice-relend-prefix-run-crossing-4
     slice-aggregate-run-crossing-8
+    slice-relend-prefix-run-crossing-5
+    slice-aggregate-run-crossing-9
+    slice-relend-prefix-run-crossing-6
+    slice-aggregate-run-crossing-10
     run-crossing-requires
     reply-requires
     same-length

@@ -10,7 +10,7 @@ use Rattle.relaxing.specs.Ready.{graphOf, weighs, stateOf, sources, endOf}
 use Rattle.relaxing.proofs.Keys.{ready-as}
 use Rattle.searches.specs.Search.{Waiting}
 use Rattle.crossing_answers.specs.Codes.{Coded}
-use Rattle.searches.proofs.Listing.{searchable-as, waiting-as}
+use Rattle.searches.proofs.Listing.{searchable-as, waiting-as, built-as, ready-in}
 use Rattle.crossings.proofs.Crossings.{waiting-left, settled-left, found-is, column-is}
 use borrow.Author.Needs.{needs}
 use Rattle.crossings.proofs.run_crossing.Statement.{statement}
@@ -31,13 +31,13 @@ search-requires c κs =
 nearest-right-requires : tie.Need-nearest-right-requires
 nearest-right-requires c κs =
     let s = c .before .before .before .before .before .before .before .before .before .before .before .before .before .before .before .before .before .before .before .before .before .before .before .before .before .before .before .before .before .before .before .before .before .before .before .before .before .before .before in
-    let r = ready-as (c .before .before .before .before .before .before .before .before .before .before .before .before .before .before .before .before .before .before .before .before .before .before .before .before .before .before .begin-left .kept .0) (c .before .before .before .before .before .before .before .before .before .before .before .before .before .before .before .before .search .ensures .1) in
+    let r = ready-as (c .before .before .before .before .before .before .before .before .before .before .before .before .before .before .before .before .before .before .before .before .before .before .before .before .before .before .begin-left .kept .0) (c .before .before .before .before .before .before .before .before .before .before .before .before .before .before .before .before .search .ensures .1 .0) in
     (r .weight-fits ∙ sym (r .status-fits), s .pre .1 .0 ∙ sym (r .status-fits), λ v h. r .light v (omega (arith, r .status-fits)))
 
 write-found-requires : tie.Need-write-found-requires
 write-found-requires c κs =
     let s = c .before .before .before .before .before .before .before .before .before .before .before .before .before .before .before .before .before .before .before .before .before .before .before .before .before .before .before .before .before .before .before .before .before .before .before .before .before .before .before .before .before .before .before in
-    let r = ready-as (c .before .before .before .before .before .before .before .before .before .before .before .before .before .before .before .before .before .before .before .before .before .before .before .before .before .before .before .before .before .before .begin-left .kept .0) (c .before .before .before .before .before .before .before .before .before .before .before .before .before .before .before .before .before .before .before .before .search .ensures .1) in
+    let r = ready-as (c .before .before .before .before .before .before .before .before .before .before .before .before .before .before .before .before .before .before .before .before .before .before .before .before .before .before .before .before .before .before .begin-left .kept .0) (c .before .before .before .before .before .before .before .before .before .before .before .before .before .before .before .before .before .before .before .before .search .ensures .1 .0) in
     (r .weight-fits ∙ sym (r .status-fits), omega (arith, r .status-fits, s .pre .1 .2), λ v h. r .light v (omega (arith, r .status-fits)))
 
 same-length : tie.Need-same-length
@@ -73,13 +73,18 @@ returns c =
     let w = weighs (s .args .weights .now) in
     let k = c .before .before .before .before .before .before .before .before .before .before .before .before .before .before .before .before .before .before .before .before .before .before .before .before .before .before .before .before .before .before .before .before .begin-left .kept .0 in
     let b = c .before .before .before .before .before .before .before .before .before .before .before .before .before .before .before .before .before .before .before .before .before .before .before .before .before .before .before .before .before .before .before .before .begin-left .ensures in
-    let r = ready-as k (c .before .before .before .before .before .before .before .before .before .before .before .before .before .before .before .before .before .before .before .before .before .before .search .ensures .1) in
+    let r = ready-as k (c .before .before .before .before .before .before .before .before .before .before .before .before .before .before .before .before .before .before .before .before .before .before .search .ensures .1 .0) in
     let S : State = stateOf (c .before .before .before .before .before .before .before .before .before .before .before .before .before .before .before .before .before .before .before .before .before .before .search .last .1 .1 .1 .1 .1 .0) (c .before .before .before .before .before .before .before .before .before .before .before .before .before .before .before .before .before .before .before .before .before .before .search .last .1 .1 .1 .1 .1 .1 .0) (c .before .before .before .before .before .before .before .before .before .before .before .before .before .before .before .before .before .before .before .before .before .before .search .last .1 .1 .1 .1 .1 .1 .1 .0) in
     let state : S ≡ fromLeft g w = c .before .before .before .before .before .before .before .before .before .before .before .before .before .before .before .before .before .before .before .before .before .before .search .ensures .0 m
     ∙ (λ i. settled (graphOf (k i) (s .args .ends-a .now) (s .args .ends-b .now) m) w (sources (b i)) (endOf (k i) (s .pre .1 .1 i)))
     ∙ settled-left n (s .args .ends-a .now) (s .args .ends-b .now) m (s .pre .1 .0) w in
-    let coded : Coded (c .before .before .before .before .before .nearest-right .result) (crossing g w) = found-is g w S state _ _ (r .status-fits) (r .weight-fits) (r .light) (c .before .before .before .before .before .nearest-right .ensures (c .before .before .before .before .before .before .before .before .before .before .before .before .before .before .before .before .before .before .before .before .before .before .search .last .1 .1 .1 .1 .1 .1 .1 .0)) in
-    (coded, column-is g w S state _ _ _ _ (r .status-fits) coded (c .before .write-found .ensures (c .before .before .before .before .before .before .before .before .before .before .before .before .before .before .before .before .before .before .before .before .before .before .search .last .1 .1 .1 .1 .1 .1 .1 .0)))
+    let coded : Coded (c .before .before .before .before .before .nearest-right .result) (crossing g w) = found-is g w S state _ _ (r .status-fits) (r .weight-fits) (r .light) (c .before .before .before .before .before .nearest-right .ensures (c .before .before .before .before .before .before .before .before .before .before .before .before .before .before .before .before .before .before .before .before .before .before .search .last .1 .1 .1 .1 .1 .1 .1 .0)) in (
+      coded,
+      (
+        column-is g w S state _ _ _ _ (r .status-fits) coded (c .before .write-found .ensures (c .before .before .before .before .before .before .before .before .before .before .before .before .before .before .before .before .before .before .before .before .before .before .search .last .1 .1 .1 .1 .1 .1 .1 .0)),
+        record { built = built-as k (c .before .before .before .before .before .before .before .before .before .before .before .before .before .before .before .before .before .before .before .before .before .before .search .ensures .1 .1); state = state; ready = ready-in state r },
+      ),
+    )
 
 pub run-crossing-spec : {M : Type 1} → statement M
 run-crossing-spec =

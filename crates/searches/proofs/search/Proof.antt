@@ -66,7 +66,10 @@ same-length-7 : tie.Need-same-length-7
 same-length-7 c = search needs
 
 returns : tie.Need-returns
-returns c = search needs
+returns c =
+    let k = c .before .before .before .before .before .before .before .before .before .before .settle .ensures in
+    let f = c .before .before .before .before .before .before .before .before .before .before .before .before .before .before .before .before .before .before .before .before .before .before .before .before .before .before .before .before .before .before .before .before .before .before .before .before .before .before .fill-lists .ensures in
+    (k .0, (k .1, record { numbers-are = f .numbers-are; ends-are = f .ends-are }))
 
 pub search-spec : {M : Type 1} → statement M
 search-spec =

@@ -26,7 +26,8 @@ use Rattle.crossing_answers.specs.declared.CrossingReply.the-variants.{Crossed,
 use Rattle.query_questions.specs.Queries as Q
 use Rattle.query_questions.specs.Queries.{scratchLong}
 use Rattle.crossing_answers.specs.Crossing as C
-use Rattle.crossing_answers.specs.Crossing.{isJoined, replyOf, replyNumber, replyWeight, CrossingStep}
+use Rattle.crossing_answers.specs.Crossing.{isJoined, weightFound, replyNumber, CrossingStep}
+use Rattle.crossing_answers.proofs.Cases.{crossed-case}
 use Rattle.crossings.proofs.Crossings.{left-length}
 use Rattle.searches.proofs.Ranges.{in-range}
 use Rattle.acceptance.specs.Listed.{OwnLengths, graphIn, weightsIn, crossingLong, before18, crossingNumber}
@@ -34,13 +35,6 @@ use Rattle.acceptance.specs.Listed.{OwnLengths, graphIn, weightsIn, cros
 -- whether scratch is long enough, from its lengths
 abbrev pub scratchFits : Engine → OwnLengths → Bool
 scratchFits e o = scratchLong (e .counts .vertices) (e .counts .edges) (o .numbers) (o .listEnds) (o .status) (o .weight) (o .previous) (o .node) (o .leaf)
-
--- the number of a reply is that of its first question
-reply-number : (p q : Bool) (c : Option ℕ) → replyNumber (replyOf (ask p 6 (ask q 7 (ask (isJoined c) 18 0))) c) ≡ ask p 6 (ask q 7 (ask (isJoined c) 18 0))
-reply-number false q c = refl
-reply-number true false c = refl
-reply-number true true none = refl
-reply-number true true (some w) = refl
 
 -- a question that did not stop the call leads to the next
 passed : (p : Bool) (next : ℕ) → ask p 6 0 ≡ 0 → ask p 6 next ≡ next
@@ -90,7 +84,7 @@ module _ (t : Tally) (e : Engine) (a : Agrees t e) where
     found-same = λ i. crossing (graph-same i) (weights-same i)
 
     pub crossing-number : replyNumber r ≡ crossingNumber (lengthsOf e) o t
-    crossing-number = ap replyNumber (step .answer) ∙ reply-number (longEnough 0 e && (leb (e .counts .vertices) (length column₀) && scratchFits e o)) (sound e) (crossing (Q.graphIn e) (Q.weightsIn e)) ∙ number-is-tally's
+    crossing-number = step .answer .number-is ∙ number-is-tally's
 
     -- what an accepted crossing reports
     pub accepted-of : replyNumber r ≡ 0 → (W : ℕ) × (found ≡ some W) × (r ≡ Crossed W) × (column ≡ over (leastFromLeft (graphIn t) (weightsIn t)) column₀)
@@ -108,7 +102,7 @@ module _ (t : Tally) (e : Engine) (a : Agrees t e) where
         go (some W) q = (
           W,
           q,
-          step .answer ∙ (λ i. replyOf (zero-number i) ((found-same ∙ q) i)),
+          crossed-case r (step .answer) zero-number ∙ ap (λ c. Crossed (weightFound c)) (found-same ∙ q),
           step .weights-left ∙ (λ i. after number (leastFromLeft (graph-same i) (weights-same i)) column₀) ∙ after-accepted number (leastFromLeft (graphIn t) (weightsIn t)) column₀ zero-number,
         )
 

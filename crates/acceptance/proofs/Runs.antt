@@ -1,19 +1,18 @@
 -- Every list of calls of the real functions keeps columns and tally in agreement. Assumes nothing.
 use mathlib.Core.Path.{_≡_, refl, sym, ap, _∙_, subst}
-use mathlib.Core.Bool.{Bool, true, false, cond}
 use mathlib.Core.List.{List, [], _∷_}
 use Prim.Native.Nat.{ℕ, _≤_, _<_}
 use lib.ListN.{length}
-use lib.Dec.{eqb}
 use lib.IntN.{ℤ}
+use Rattle.answers.proofs.Said.{values-of}
 use Rattle.engine_columns.specs.declared.EngineCounts.{EngineCounts}
 use Rattle.engine_columns.specs.declared.EngineAnswer.{EngineAnswer}
-use Rattle.engine_columns.specs.declared.EngineAnswer.the-variants.{Counts, Refused}
-use Rattle.engine_columns.specs.Records.{Engine, engine, counts, kept, numberOf}
-use Rattle.engine_columns.specs.Step.{Call, Step, answered}
+use Rattle.engine_columns.specs.declared.EngineAnswer.the-variants.{Counts}
+use Rattle.engine_columns.specs.Records.{Engine, engine, counts}
+use Rattle.engine_columns.specs.Step.{Call, Step}
 use Rattle.engine_columns.specs.Open.{GraphColumns, graphColumns, openDoor, OpenStep}
 use Rattle.tally.specs.Tally.{Tally, tallyOf, lengthsOf, tallyStep}
-use Rattle.tally.proofs.Agreement.{Agrees, step-agrees, opened-agrees, number-is}
+use Rattle.tally.proofs.Agreement.{Agrees, step-agrees, opened-agrees}
 use Rattle.engine_columns.proofs.Doors.{opens-of}
 use Rattle.crossing_answers.specs.declared.CrossingReply.{CrossingReply}
 use Rattle.crossing_answers.specs.Crossing.{CrossingStep}
@@ -33,13 +32,6 @@ crossing-of e o r column₀ column (crossed κs a q s h) = (h .0, refl)
 
 -- ---- open
 
-counts-of : (n : ℕ) (c k : EngineCounts) → Counts c ≡ answered n k → c ≡ k
-counts-of n c k q = ap (kept k) q ∙ go (eqb n 0)
-  where
-    go : (b : Bool) → kept k (cond b (Counts k) (Refused n)) ≡ k
-    go true = refl
-    go false = refl
-
 pub record FreshGraph (v e : ℕ) (handed : GraphColumns) (fresh : Engine) : Type 0 where
   pub agrees : Agrees (tallyOf v e handed) fresh
   pub weights-long : e ≤ length (handed .weights)
@@ -47,8 +39,8 @@ pub record FreshGraph (v e : ℕ) (handed : GraphColumns) (fresh : Engine) : Typ
 open-says : (v e : ℕ) (handed lent left : GraphColumns) (c : EngineCounts) (le lw : List ℕ) → OpenStep v e handed lent (Counts c) left
     → FreshGraph v e handed (engine c (left .endsA) (left .endsB) (left .weights) (left .boundary) le lw)
 open-says v e handed lent left c le lw h =
-    let k : c ≡ counts v e 0 = counts-of (openDoor v e handed lent) c (counts v e 0) (h .answer) in
-    let d : openDoor v e handed lent ≡ 0 = sym (ap numberOf (h .answer) ∙ number-is (openDoor v e handed lent) (counts v e 0)) in
+    let d : openDoor v e handed lent ≡ 0 = sym (h .answer .number-is) in
+    let k : c ≡ counts v e 0 = values-of (h .answer) d in
     record {
       agrees = subst (λ (n : EngineCounts). Agrees (tallyOf v e handed) (engine n (left .endsA) (left .endsB) (left .weights) (left .boundary) le lw)) (sym k)
           (opened-agrees v e handed lent left (Counts c) le lw h refl);

@@ -2,26 +2,16 @@
 use Prim.Native.Nat.{ℕ, zero, suc}
 use mathlib.Core.Path.{_≡_}
 use Rattle.engine_columns.specs.declared.EngineAnswer.{EngineAnswer}
-use Rattle.engine_columns.specs.Records as engine
+use Rattle.engine_columns.specs.Records.{said}
 use Rattle.complete_graph.specs.declared.End.{End}
 use Rattle.complete_graph.specs.declared.End.the-variants.{None, At}
 use Rattle.c_answers.specs.declared.engine.EngineReport.{EngineReport}
 
--- the counts to go on with, 0 where the call was refused
-abbrev pub verticesOf : EngineAnswer → ℕ
-verticesOf a = engine.kept (engine.counts 0 0 0) a .vertices
-
-abbrev pub edgesOf : EngineAnswer → ℕ
-edgesOf a = engine.kept (engine.counts 0 0 0) a .edges
-
-abbrev pub entriesOf : EngineAnswer → ℕ
-entriesOf a = engine.kept (engine.counts 0 0 0) a .entries
-
 pub record ReportsEngine (a : EngineAnswer) (r : EngineReport) : Type 0 where
-  pub number : r .number ≡ engine.numberOf a
-  pub vertices : r .vertices ≡ verticesOf a
-  pub edges : r .edges ≡ edgesOf a
-  pub entries : r .entries ≡ entriesOf a
+  pub number : r .number ≡ said a .number
+  pub vertices : r .vertices ≡ said a .values .vertices
+  pub edges : r .edges ≡ said a .values .edges
+  pub entries : r .entries ≡ said a .values .entries
 
 -- ---- arguments that are enums: whether there is one, any number but 0 for yes, and the value
 

@@ -10,13 +10,13 @@ use Rattle.c_reports.specs.declared.TwoCounts.{TwoCounts}
 use Rattle.c_answers.specs.declared.errors.LongCount.{LongCount}
 
 pub record ReportsSyndrome (a : SyndromeAnswer) (r : TwoCounts) : Type 0 where
-  pub number : r .number ≡ syndromes.numberOf a
-  pub first : r .first ≡ syndromes.defectsOf a
-  pub second : r .second ≡ syndromes.erasuresOf a
+  pub number : r .number ≡ syndromes.said a .number
+  pub first : r .first ≡ syndromes.said a .values .0
+  pub second : r .second ≡ syndromes.said a .values .1
 
 pub record ReportsFound (a : ListAnswer) (r : OneCount) : Type 0 where
-  pub number : r .number ≡ syndromes.listNumberOf a
-  pub count : r .count ≡ syndromes.countOf a
+  pub number : r .number ≡ syndromes.listSaid a .number
+  pub count : r .count ≡ syndromes.listSaid a .values
 
 pub record ReportsTranslated (a : TranslatedAnswer) (r : LongCount) : Type 0 where
   pub number : r .number ≡ translated.numberOf a

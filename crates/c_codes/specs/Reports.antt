@@ -5,7 +5,7 @@ use Rattle.example_codes.specs.CreateCode as created
 use Rattle.code_questions.specs.declared.Count.{Count}
 use Rattle.code_questions.specs.Answers as count
 use Rattle.weights.specs.declared.WeightOfP.{WeightOfP}
-use Rattle.weights.specs.Answers as weighed
+use Rattle.weights.specs.Answers.{said}
 use Rattle.verdicts.specs.declared.Verdict.{Verdict}
 use Rattle.verdicts.specs.Sanity.{refusalNumber, verdictNumber, firstValue, secondValue}
 use Rattle.code_access.specs.declared.ListCount.{ListCount}
@@ -29,8 +29,8 @@ pub record ReportsCount (a : Count) (r : OneCount) : Type 0 where
   pub count : r .count ≡ count.valueOf a
 
 pub record ReportsWeighed (a : WeightOfP) (r : WeighedReport) : Type 0 where
-  pub number : r .number ≡ weighed.numberOf a
-  pub weight : r .weight ≡ weighed.valueOf a
+  pub number : r .number ≡ said a .number
+  pub weight : r .weight ≡ said a .values
 
 pub record ReportsVerdict (a : Verdict) (r : VerdictReport) : Type 0 where
   pub number : r .number ≡ refusalNumber a

@@ -1,11 +1,12 @@
 ghost use Rattle.c_reports.specs.Reports.{Reported, ReportsDone};
 ghost use Rattle.c_codes.specs.Reports.{ReportsWeighed};
-ghost use Rattle.weights.specs.Answers.{weighed};
+ghost use Rattle.answers.specs.Said.{Answered};
+ghost use Rattle.columns.specs.Places.{zeroFloat};
+ghost use Rattle.weights.specs.Answers.{said};
 ghost use Rattle.set_probabilities.specs.Calls.{SetEach};
 ghost use Rattle.weights.specs.Calls.{weightDoor, ComputedWeights};
 ghost use Rattle.edge_weights.specs.Logarithm.{edgeWeight};
 ghost use Rattle.edge_weights.specs.Probabilities.{isProbability, isErasureProbability};
-ghost use mathlib.Core.Path.{_≡_};
 use super::reports::WeighedReport;
 use super::reports::weighed_report;
 use c_reports::done_number;
@@ -14,7 +15,7 @@ use columns::Weight;
 // The weight of an edge with probability p.
 #[no_mangle]
 pub extern "C" fn moldingcress_weight_of_p(p: f64) -> WeighedReport
-    ensures { λ q. ⌜ Reported ReportsWeighed (λ r. r ≡ weighed (weightDoor p) (edgeWeight p)) q ⌝ }
+    ensures { λ q. ⌜ Reported ReportsWeighed (λ r. Answered (said r) (weightDoor p) (edgeWeight p) zeroFloat) q ⌝ }
 {
     weighed_report(weights::weight_of_p(p))
 }

@@ -29,23 +29,16 @@ use Rattle.code_graphs.proofs.Sound.{built}
 use Rattle.crossing_answers.specs.declared.CrossingReply.{CrossingReply}
 use Rattle.crossing_answers.specs.declared.CrossingReply.the-variants.{Crossed, Refused}
 use Rattle.query_questions.specs.Queries.{graphIn, weightsIn, scratchLong}
-use Rattle.crossing_answers.specs.Crossing.{isJoined, replyOf, crossingDoor, crossingNumber, CrossingStep}
+use Rattle.crossing_answers.specs.Crossing.{isJoined, weightFound, said, crossingDoor, crossingNumber, CrossingStep}
+use Rattle.answers.specs.Said.{Answered}
 use Rattle.code_listing.specs.Listing.{weightsOf, crossingOf}
-use Rattle.code_listing.specs.Steps.{HoldsWeights, ScratchRoom}
+use Rattle.code_listing.specs.Steps.{HoldsWeights, ScratchRoom, Replied}
 
 -- a column is its own first places and the rest
 whole : {A : Type 0} (n : ℕ) (column vs : List A) → take n column ≡ vs → n ≤ length column → column ≡ over vs column
 whole n column vs e l =
     let size : length vs ≡ n = ap length (sym e) ∙ length-take n column ∙ omega arith in
     sym (take-append-drop n column) ∙ (λ i. e i ++ drop (sym size i) column)
-
--- both questions are met
-asked : (b : Bool) (o : Option ℕ) (q : ℕ) → b ≡ true → q ≡ ask b 6 (ask b 7 (ask (isJoined o) 18 0)) → replyOf q o ≡ replyOf 0 o
-asked b o q e f = ap (λ (n : ℕ). replyOf n o) (f ∙ ap (λ (t : Bool). ask t 6 (ask t 7 (ask (isJoined o) 18 0))) e) ∙ go o
-  where
-    go : (o : Option ℕ) → replyOf (ask (isJoined o) 18 0) o ≡ replyOf 0 o
-    go none = refl
-    go (some w) = refl
 
 module _ (kind d rounds : ℕ) (p : _) (max v e : ℕ) (a b w m : List ℕ) (s : HoldsWeights kind d rounds p max v e a b w m) where
   abbrev the-engine : List ℕ → List ℕ → Engine
@@ -114,8 +107,11 @@ module _ (kind d rounds : ℕ) (p : _) (max v e : ℕ) (a b w m : List ℕ) (s :
   same-crossing le lw = λ i. crossing (same-graph le lw i) (λ k. getD (s .in-w i) k 0)
 
   pub replied : (le lw : List ℕ) (out n1 n2 n3 n4 n5 n6 n7 : ℕ) (r : CrossingReply) → ScratchRoom out n1 n2 n3 n4 n5 n6 n7
-      → r ≡ replyOf (crossingNumber (the-engine le lw) (scratchLong v e n1 n2 n3 n4 n5 n6 n7) out) (crossing (graphIn (the-engine le lw)) (weightsIn (the-engine le lw)))
-      → r ≡ replyOf 0 (crossingOf kind d rounds p max)
+      → Answered (said r) (crossingNumber (the-engine le lw) (scratchLong v e n1 n2 n3 n4 n5 n6 n7) out) (weightFound (crossing (graphIn (the-engine le lw)) (weightsIn (the-engine le lw)))) 0
+      → Replied kind d rounds p max r
   replied le lw out n1 n2 n3 n4 n5 n6 n7 r room q =
       let o : Option ℕ = crossing (graphIn (the-engine le lw)) (weightsIn (the-engine le lw)) in
-      q ∙ asked true o _ refl (λ i. ask (both-and (engine-long le lw) (scratch-long out n1 n2 n3 n4 n5 n6 n7 room) i) 6 (ask (engine-sound le lw i) 7 (ask (isJoined o) 18 0))) ∙ ap (replyOf 0) (same-crossing le lw)
+      let number : crossingNumber (the-engine le lw) (scratchLong v e n1 n2 n3 n4 n5 n6 n7) out ≡ ask (isJoined o) 18 0 =
+      λ i. ask (both-and (engine-long le lw) (scratch-long out n1 n2 n3 n4 n5 n6 n7 room) i) 6 (ask (engine-sound le lw i) 7 (ask (isJoined o) 18 0)) in
+      subst (λ (c : Option ℕ). Answered (said r) (ask (isJoined c) 18 0) (weightFound c) 0) (same-crossing le lw)
+      (subst (λ (n : ℕ). Answered (said r) n (weightFound o) 0) number q)

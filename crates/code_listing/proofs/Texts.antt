@@ -3,6 +3,7 @@ use mathlib.Core.Path.{_≡_, refl, sym, ap, _∙_, subst}
 use mathlib.Core.List.{List, [], _∷_, _++_}
 use mathlib.Core.Option.{Option, some, none}
 use Prim.Native.Nat.{ℕ, _<_}
+use native.Mathlib.Omega.{arith}
 use lib.ListN.{getD, take}
 use lib.Seq.{getD-take}
 use lib.Ieee.{Float}
@@ -15,13 +16,16 @@ use Rattle.texts.specs.Text.{ended, vertexLine, edgeLine, graphLine, crossingLi
 use Rattle.texts.specs.Steps.{Put}
 use Rattle.crossing_answers.specs.declared.CrossingReply.{CrossingReply}
 use Rattle.crossing_answers.specs.declared.CrossingReply.the-variants.{Crossed, Refused}
-use Rattle.crossing_answers.specs.Crossing.{replyOf}
+use Rattle.columns.specs.Questions.{ask}
+use Rattle.answers.specs.Said.{Answered}
+use Rattle.crossing_answers.specs.Crossing.{isJoined, weightFound, said}
+use Rattle.crossing_answers.proofs.Cases.{crossed-case, refused-case}
 use Rattle.example_codes.specs.declared.Created.{Created}
 use Rattle.example_codes.specs.declared.Created.the-variants as made
 use Rattle.example_codes.specs.Columns.{CodeColumns}
 use Rattle.weighted_codes.specs.NewCode.{NewCode}
 use Rattle.code_listing.specs.Listing.{weightsOf, crossingOf, withCrossing, listingOf, codeText}
-use Rattle.code_listing.specs.Steps.{HoldsCode, HoldsWeights, replyText, MadeHolds, madeText}
+use Rattle.code_listing.specs.Steps.{HoldsCode, HoldsWeights, Replied, replyText, MadeHolds, madeText}
 use Rattle.code_listing.proofs.Room.{CodeRoom}
 use Rattle.code_listing.proofs.Holds.{refused-text, holds-code, accepted-text}
 
@@ -48,13 +52,14 @@ module _ (kind d rounds : ℕ) (p : Float) (max v e : ℕ) (a b w m : List ℕ) 
   unfolding listing
   same-listing weight = λ i. graphLine kind d rounds (s .vertices i) (s .edges i) ++ (same-vertices i ++ (same-edges i ++ crossingLine weight))
 
-  by-crossing : (o : Option ℕ) → replyText kind d rounds v e m a b w (replyOf 0 o) ≡ withCrossing kind d rounds (weightsOf kind d rounds p max) o
-  by-crossing (some weight) = same-listing weight
-  by-crossing none = refl
+  by-crossing : (o : Option ℕ) (r : CrossingReply) → Answered (said r) (ask (isJoined o) 18 0) (weightFound o) 0
+      → replyText kind d rounds v e m a b w r ≡ withCrossing kind d rounds (weightsOf kind d rounds p max) o
+  by-crossing (some weight) r q = ap (replyText kind d rounds v e m a b w) (crossed-case r q refl) ∙ same-listing weight
+  by-crossing none r q = ap (replyText kind d rounds v e m a b w) (refused-case r q (λ h. absurd (omega arith)))
 
-  pub reply-is : (r : CrossingReply) → r ≡ replyOf 0 (crossingOf kind d rounds p max) → replyText kind d rounds v e m a b w r ≡ listingOf kind d rounds p max
+  pub reply-is : (r : CrossingReply) → Replied kind d rounds p max r → replyText kind d rounds v e m a b w r ≡ listingOf kind d rounds p max
   unfolding listingOf
-  reply-is r q = ap (replyText kind d rounds v e m a b w) q ∙ by-crossing (crossingOf kind d rounds p max)
+  reply-is r q = by-crossing (crossingOf kind d rounds p max) r q
 
 -- ---- by what was answered
 
@@ -68,7 +73,7 @@ module _ (kind d rounds v e : ℕ) (m a b w : List ℕ) (reply : CrossingReply) 
   pub crossed-reply : (weight : ℕ) → Put t₀ 0 (listing kind d rounds v e m a b w weight) t r → reply ≡ Crossed weight → Put t₀ 0 (replyText kind d rounds v e m a b w reply) t r
   crossed-reply weight p q = renamed (ap (replyText kind d rounds v e m a b w) (sym q)) p
 
-  pub listed-reply : (p : Float) (max : ℕ) → HoldsWeights kind d rounds p max v e a b w m → reply ≡ replyOf 0 (crossingOf kind d rounds p max)
+  pub listed-reply : (p : Float) (max : ℕ) → HoldsWeights kind d rounds p max v e a b w m → Replied kind d rounds p max reply
       → Put t₀ 0 (replyText kind d rounds v e m a b w reply) t r → Put t₀ 0 (listingOf kind d rounds p max) t r
   listed-reply p max s q x = renamed (reply-is kind d rounds p max v e a b w m s reply q) x
 

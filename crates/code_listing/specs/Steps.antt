@@ -10,12 +10,13 @@ use Rattle.layers.specs.Codes.{edgesOf, verticesOf}
 use Rattle.layers.specs.Counts.{vertexNum, edgeNum}
 use Rattle.layers.specs.Accepts.{Buildable}
 use Rattle.weights.specs.Calls.{halfWeights}
-use Rattle.columns.specs.Questions.{weightsSound}
+use Rattle.columns.specs.Questions.{ask, weightsSound}
 use Rattle.example_codes.specs.declared.Created.{Created}
 use Rattle.example_codes.specs.declared.Created.the-variants as made
 use Rattle.crossing_answers.specs.declared.CrossingReply.{CrossingReply}
 use Rattle.crossing_answers.specs.declared.CrossingReply.the-variants.{Crossed, Refused}
-use Rattle.crossing_answers.specs.Crossing.{replyOf}
+use Rattle.crossing_answers.specs.Crossing.{isJoined, weightFound, said}
+use Rattle.answers.specs.Said.{Answered}
 use Rattle.texts.specs.Text.{refusalLine, listing}
 use Rattle.code_listing.specs.Listing.{weightsOf, crossingOf, listingOf}
 use Rattle.weighted_codes.specs.Probabilities.{probabilities, diagonalOf}
@@ -60,7 +61,7 @@ pub record HoldsWeights (kind d rounds : ℕ) (p : Float) (max v e : ℕ) (a b w
 
 -- what the crossing query answers
 abbrev pub Replied : (kind d rounds : ℕ) (p : Float) (max : ℕ) → CrossingReply → Type 0
-Replied kind d rounds p max r = r ≡ replyOf 0 (crossingOf kind d rounds p max)
+Replied kind d rounds p max r = Answered (said r) (ask (isJoined (crossingOf kind d rounds p max)) 18 0) (weightFound (crossingOf kind d rounds p max)) 0
 
 -- the text for what the crossing query answers
 abbrev pub replyText : (kind d rounds v e : ℕ) (boundary a b weights : List ℕ) → CrossingReply → List ℕ

@@ -9,6 +9,7 @@ use lib.Dec.{leb}
 use lib.IntN.{ℤ}
 use Rattle.columns.specs.Lists.{after}
 use Rattle.columns.specs.Questions.{ask}
+use Rattle.answers.specs.Said.{Said, accepts, refuses, Answered}
 use Rattle.engine_columns.specs.Records.{Engine}
 use Rattle.engine_columns.specs.Door.{longEnough, sound}
 use Rattle.walks.specs.Answers.{crossing, fromLeft, leastFromLeft}
@@ -17,26 +18,26 @@ use Rattle.crossing_answers.specs.declared.CrossingReply.the-variants.{C
 use Rattle.query_questions.specs.Queries.{graphIn, weightsIn}
 use Rattle.query_questions.specs.Scratch.{ScratchColumns, ScratchAfter}
 
--- document 01's number for each case: 0 where the call was accepted
-abbrev pub replyNumber : CrossingReply → ℕ
-replyNumber (Crossed weight) = 0
-replyNumber (Refused number) = number
+-- document 01's number and value for each case: the crossing weight is 0 at a refusal
+abbrev pub said : CrossingReply → Said ℕ
+said (Crossed weight) = accepts weight
+said (Refused number) = refuses number 0
 
--- document 01's value for each case, the crossing weight: 0 where the call was refused
+abbrev pub replyNumber : CrossingReply → ℕ
+replyNumber r = said r .number
+
 abbrev pub replyWeight : CrossingReply → ℕ
-replyWeight (Crossed weight) = weight
-replyWeight (Refused number) = 0
+replyWeight r = said r .values
 
 -- 18, from the crossing weight if there is one
 abbrev pub isJoined : Option ℕ → Bool
 isJoined none = false
 isJoined (some weight) = true
 
--- the case for each number and weight; no refusal has the number 0
-abbrev pub replyOf : ℕ → Option ℕ → CrossingReply
-replyOf zero (some weight) = Crossed weight
-replyOf zero none = Refused 18
-replyOf (suc n) weight = Refused (suc n)
+-- the crossing weight, 0 if there is none
+abbrev pub weightFound : Option ℕ → ℕ
+weightFound none = 0
+weightFound (some weight) = weight
 
 -- 6 and 7 of a crossing, and the question after them; `scratch` says whether scratch is long enough
 abbrev pub crossingDoor : Engine → (scratch : Bool) (weights next : ℕ) → ℕ
@@ -48,7 +49,7 @@ crossingNumber e scratch weights = crossingDoor e scratch weights (ask (isJoined
 
 -- the answer, and the weight column
 pub record CrossingStep (e : Engine) (scratch : Bool) (r : CrossingReply) (weights₀ weights : List ℤ) : Type 0 where
-  pub answer : r ≡ replyOf (crossingNumber e scratch (length weights₀)) (crossing (graphIn e) (weightsIn e))
+  pub answer : Answered (said r) (crossingNumber e scratch (length weights₀)) (weightFound (crossing (graphIn e) (weightsIn e))) 0
   pub weights-left : weights ≡ after (crossingNumber e scratch (length weights₀)) (leastFromLeft (graphIn e) (weightsIn e)) weights₀
 
 -- scratch: what the search from the left leaves, after success and after 18; a call that 6 or 7 refuses leaves it as it was

@@ -17,6 +17,8 @@ use Rattle.columns.proofs.Counting.{length-each, getD-each}
 use Rattle.columns.proofs.Columns.{sets-over}
 use Rattle.columns.proofs.Tests.{and-both}
 use Rattle.engine_columns.specs.Records.{Engine}
+use Rattle.answers.specs.Said.{Answered}
+use Rattle.answers.proofs.Said.{accepts-of, refuses-of}
 use Rattle.engine_columns.specs.Door.{longEnough, sound}
 use Rattle.engine_columns.proofs.Doors.{Long, long-of, Sound, sound-of, met-of, next-of}
 use Rattle.walks.specs.Lists.{bit, delta}
@@ -27,7 +29,7 @@ use Rattle.relaxing.specs.Ready.{graphOf, sources, endOf, sumLimit}
 use Rattle.crossing_answers.specs.declared.CrossingReply.{CrossingReply}
 use Rattle.crossing_answers.specs.declared.CrossingReply.the-variants.{Crossed, Refused}
 use Rattle.searches.specs.Search.{Waiting, Searched}
-use Rattle.crossing_answers.specs.Crossing.{replyNumber, isJoined, replyOf, crossingDoor}
+use Rattle.crossing_answers.specs.Crossing.{isJoined, weightFound, said, crossingDoor}
 use Rattle.crossing_answers.specs.Codes.{Coded, wherever, codeOf}
 use Rattle.query_questions.specs.Scratch.{isFree}
 
@@ -39,9 +41,9 @@ coded-of s (some v) h = (refl, h v)
 
 -- ---- what becomes of a code
 
-pub reply-of : (r : ℕ) (c : Option ℕ) → Coded r c → cond (eqb r 2147483648) (Refused 18) (Crossed r) ≡ replyOf 0 c
-reply-of r none e = ap (λ b. cond b (Refused 18) (Crossed r)) (eq-eqb r 2147483648 e)
-reply-of r (some w) (e, h) = ap (λ b. cond b (Refused 18) (Crossed r)) (ne-eqb r 2147483648 (λ q. omega arith)) ∙ ap Crossed e
+pub reply-of : (r : ℕ) (c : Option ℕ) → Coded r c → Answered (said (cond (eqb r 2147483648) (Refused 18) (Crossed r))) (ask (isJoined c) 18 0) (weightFound c) 0
+reply-of r none e = rw (eq-eqb r 2147483648 e) (refuses-of refl (λ q. absurd (omega arith)))
+reply-of r (some w) (e, h) = rw (ne-eqb r 2147483648 (λ q. omega arith), e) (accepts-of refl)
 
 pub column-of : (r : ℕ) (c : Option ℕ) (column weights₀ : List ℤ) → Coded r c → cond (eqb r 2147483648) weights₀ (sets weights₀ 0 column) ≡ wherever c column weights₀
 column-of r none column weights₀ e = ap (λ b. cond b weights₀ (sets weights₀ 0 column)) (eq-eqb r 2147483648 e)
@@ -50,10 +52,6 @@ column-of r (some w) column weights₀ (e, h) = ap (λ b. cond b weights₀ (set
 pub column-after : (c : Option ℕ) (column weights₀ : List ℤ) → length column ≤ length weights₀ → wherever c column weights₀ ≡ after (ask (isJoined c) 18 0) column weights₀
 column-after none column weights₀ h = refl
 column-after (some w) column weights₀ h = sets-over weights₀ column h
-
-pub reply-passed : (c : Option ℕ) → replyOf 0 c ≡ replyOf (ask (isJoined c) 18 0) c
-reply-passed none = refl
-reply-passed (some w) = refl
 
 -- ---- the sources
 
@@ -123,10 +121,6 @@ door-refused e scratch weights next f = go (longEnough 0 e && (leb (e .counts .v
     go true false f = refl
     go false q f = refl
 
-pub reply-refused : (n m : ℕ) (c : Option ℕ) → m ≡ n → (m ≡ 0 → ⊥) → Refused m ≡ replyOf n c
-reply-refused n zero c e f = absurd (f refl)
-reply-refused n (suc m) c e f = ap (λ k. replyOf k c) e
-
 pub record CrossingAsked (e : Engine) (scratch : Bool) (weights : ℕ) : Type 0 where
   pub long : Long 0 e
   pub weights-long : e .counts .vertices ≤ weights
@@ -183,7 +177,7 @@ searched-as {a = a} {b} {m} {numbers₀} {numbers} {ends} {status} {weight} {pre
     subst (λ k. Searched (graphOf k a b m) (fromLeft (graphOf k a b m) w) numbers₀ numbers ends status weight previous node leaf) e h
 
 -- scratch is free after success and after 18
-pub free-number : (c : Option ℕ) → isFree (replyNumber (replyOf 0 c)) ≡ true
+pub free-number : (c : Option ℕ) → isFree (ask (isJoined c) 18 0) ≡ true
 free-number none = refl
 free-number (some w) = refl
 

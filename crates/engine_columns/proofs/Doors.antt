@@ -11,13 +11,14 @@ use Rattle.columns.specs.Limits.{weightLimit}
 use Rattle.columns.specs.Lists.{after}
 use Rattle.columns.specs.Questions.{ask, allBelow, allWithin, weightsSound, boundariesSound}
 use Rattle.columns.proofs.Tests.{and-both, both-and, below-at, below-first}
+use Rattle.answers.proofs.Said.{accepts-of, refuses-of}
 use Rattle.neighbors.specs.Sound.{graphSound, logSound}
 use Rattle.engine_columns.specs.declared.EngineCounts.{EngineCounts}
 use Rattle.engine_columns.specs.declared.EngineAnswer.{EngineAnswer}
 use Rattle.engine_columns.specs.declared.EngineAnswer.the-variants.{Counts, Refused}
 use Rattle.engine_columns.specs.Records.{Engine, engine, counts}
 use Rattle.engine_columns.specs.Door.{columnsLong, longEnough, columnsSound, sound}
-use Rattle.engine_columns.specs.Step.{Call, loadErasures, loadWeights, reset, door, changed, answered, Step}
+use Rattle.engine_columns.specs.Step.{Call, loadErasures, loadWeights, reset, door, changed, Step}
 use Rattle.engine_columns.specs.Open.{GraphColumns, openDoor, OpenStep}
 
 -- a question that did not stop the call
@@ -103,23 +104,17 @@ sound-from e s = both-and (columns-sound-from _ _ _ _ _ _ (s .columns)) (both-an
 
 -- ---- a step from its parts: accepted, and refused
 
-pub answered-zero : (n : ℕ) (c : EngineCounts) → n ≡ 0 → answered n c ≡ Counts c
-answered-zero n c e = ap (λ (k : ℕ). answered k c) e
-
-pub answered-no : (n : ℕ) (c : EngineCounts) → (n ≡ 0 → ⊥) → answered n c ≡ Refused n
-answered-no n c f = simp (ne-eqb n 0 f)
-
 pub accepted : (call : Call) (before last : Engine) (r : EngineAnswer) → door call before ≡ 0
     → r ≡ Counts (changed call before .counts) → last ≡ changed call before → Step call before r last
 accepted call before last r z q p = record {
-  answer = q ∙ sym (answered-zero (door call before) (changed call before .counts) z);
+  answer = rw q (accepts-of z);
   left = p ∙ ap (λ (n : ℕ). cond (eqb n 0) (changed call before) before) (sym z);
 }
 
 pub refused : (call : Call) (before last : Engine) (r : EngineAnswer) (n : ℕ) → n ≡ door call before → (n ≡ 0 → ⊥)
     → r ≡ Refused n → last ≡ before → Step call before r last
 refused call before last r n d h q p = record {
-  answer = q ∙ sym (answered-no n (changed call before .counts) h) ∙ ap (λ (k : ℕ). answered k (changed call before .counts)) d;
+  answer = rw q (refuses-of d h);
   left = p
       ∙ ap (λ (b : Bool). cond b (changed call before) before) (sym (ne-eqb n 0 h))
       ∙ ap (λ (k : ℕ). cond (eqb k 0) (changed call before) before) d;

@@ -1,16 +1,15 @@
 -- What open answers and leaves.
 use Prim.Native.Nat.{ℕ}
 use mathlib.Core.Path.{_≡_}
-use mathlib.Core.Bool.{_&&_, cond}
+use mathlib.Core.Bool.{_&&_}
 use mathlib.Core.List.{List}
 use lib.ListN.{take}
-use lib.Dec.{eqb}
 use Rattle.columns.specs.Lists.{after}
 use Rattle.columns.specs.Questions.{ask}
+use Rattle.answers.specs.Said.{Answered}
 use Rattle.engine_columns.specs.declared.EngineAnswer.{EngineAnswer}
-use Rattle.engine_columns.specs.Records.{counts}
+use Rattle.engine_columns.specs.Records.{counts, noCounts, said}
 use Rattle.engine_columns.specs.Door.{columnsLong, columnsSound}
-use Rattle.engine_columns.specs.Step.{answered}
 
 -- the columns of a graph without its log
 pub record GraphColumns : Type 0 where
@@ -30,7 +29,7 @@ openDoor v e handed lent =
 
 -- the answer, and every column: an accepted open copies, and the log is empty
 pub record OpenStep (v e : ℕ) (handed lent : GraphColumns) (r : EngineAnswer) (opened : GraphColumns) : Type 0 where
-  pub answer : r ≡ answered (openDoor v e handed lent) (counts v e 0)
+  pub answer : Answered (said r) (openDoor v e handed lent) (counts v e 0) noCounts
   pub endsA-left : opened .endsA ≡ after (openDoor v e handed lent) (take e (handed .endsA)) (lent .endsA)
   pub endsB-left : opened .endsB ≡ after (openDoor v e handed lent) (take e (handed .endsB)) (lent .endsB)
   pub weights-left : opened .weights ≡ after (openDoor v e handed lent) (take e (handed .weights)) (lent .weights)

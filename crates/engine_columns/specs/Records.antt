@@ -1,6 +1,7 @@
 -- The engine graph of document 01's "Records": the columns that a caller lends, with their counts.
 use Prim.Native.Nat.{ℕ}
 use mathlib.Core.List.{List}
+use Rattle.answers.specs.Said.{Said, accepts, refuses}
 use Rattle.engine_columns.specs.declared.EngineCounts.{EngineCounts}
 use Rattle.engine_columns.specs.declared.EngineAnswer.{EngineAnswer}
 use Rattle.engine_columns.specs.declared.EngineAnswer.the-variants.{Counts, Refused}
@@ -22,10 +23,13 @@ engine c a b w m e l =
 abbrev pub counts : ℕ → ℕ → ℕ → EngineCounts
 counts v e n = record { vertices = v; edges = e; entries = n }
 
--- document 01's number for each case of an answer: 0 where the call was accepted
-abbrev pub numberOf : EngineAnswer → ℕ
-numberOf (Counts c) = 0
-numberOf (Refused n) = n
+abbrev pub noCounts : EngineCounts
+noCounts = counts 0 0 0
+
+-- document 01's number and values for each case of an answer: the counts to go on with are 0 at a refusal
+abbrev pub said : EngineAnswer → Said EngineCounts
+said (Counts c) = accepts c
+said (Refused number) = refuses number noCounts
 
 -- the counts after an answer: an accepted call hands them back, a refused one leaves them
 abbrev pub kept : EngineCounts → EngineAnswer → EngineCounts

@@ -7,10 +7,9 @@ use lib.ListN.{length}
 use lib.Dec.{eqb}
 use Rattle.columns.specs.Limits.{weightLimit}
 use Rattle.columns.specs.Questions.{ask, allBelow, allWithin}
-use Rattle.engine_columns.specs.declared.EngineCounts.{EngineCounts}
+use Rattle.answers.specs.Said.{Answered}
 use Rattle.engine_columns.specs.declared.EngineAnswer.{EngineAnswer}
-use Rattle.engine_columns.specs.declared.EngineAnswer.the-variants.{Counts, Refused}
-use Rattle.engine_columns.specs.Records.{Engine, engine, counts}
+use Rattle.engine_columns.specs.Records.{Engine, engine, counts, noCounts, said}
 use Rattle.edge_log.specs.Load.{loaded, earlier, named, undone, erased, given}
 use Rattle.engine_columns.specs.Door.{longEnough, sound}
 
@@ -51,11 +50,7 @@ changed reset e =
     engine (counts (e .counts .vertices) (e .counts .edges) 0) (e .endsA) (e .endsB)
     (undone (e .logEdges) (e .logWeights) (e .counts .entries) (e .weights)) (e .boundary) (e .logEdges) (e .logWeights)
 
--- the answer for a number: the counts to go on with, or the refusal
-abbrev pub answered : ℕ → EngineCounts → EngineAnswer
-answered n c = cond (eqb n 0) (Counts c) (Refused n)
-
 -- the answer, and every column left, refusals included
 pub record Step (call : Call) (before : Engine) (r : EngineAnswer) (after : Engine) : Type 0 where
-  pub answer : r ≡ answered (door call before) (changed call before .counts)
+  pub answer : Answered (said r) (door call before) (changed call before .counts) noCounts
   pub left : after ≡ cond (eqb (door call before) 0) (changed call before) before

@@ -11,6 +11,7 @@ use lib.IntN.{ℤ, negsuc}
 use Rattle.columns.specs.Lists.{over, after}
 use Rattle.columns.specs.Questions.{ask}
 use Rattle.columns.proofs.Columns.{over-in}
+use Rattle.answers.proofs.Said.{values-of}
 use Rattle.engine_columns.specs.Records.{Engine}
 use Rattle.engine_columns.specs.Door.{sound}
 use Rattle.walks.specs.Graph.{Graph, LeftJoinsRight}
@@ -20,7 +21,7 @@ use Rattle.walks.proofs.LeastCrossing.{crossing-is-least}
 use Rattle.query_questions.specs.Queries.{graphIn, weightsIn}
 use Rattle.query_questions.specs.Scratch.{ScratchColumns}
 use Rattle.crossing_answers.specs.declared.CrossingReply.{CrossingReply}
-use Rattle.crossing_answers.specs.Crossing.{replyNumber, replyWeight, isJoined, replyOf, CrossingStep}
+use Rattle.crossing_answers.specs.Crossing.{replyNumber, isJoined, weightFound, crossingNumber, CrossingStep}
 use Rattle.query_claims.specs.Called.{crossed}
 use Rattle.query_claims.specs.Met.{scratchFits, CrossingMet}
 use Rattle.query_claims.specs.Claims.{CrossingSays, CrossingCallIsLeast}
@@ -54,8 +55,7 @@ module _ (e : Engine) (r : CrossingReply) (weights₀ weights : List ℤ) (scrat
 
     passed : (o : Option ℕ) → crossing g w ≡ o → CrossingAnswer g w o → Says
     passed none c f =
-        let x = step .answer ∙ (λ i. replyOf (ask (p i) 6 (ask (q i) 7 (ask (isJoined (c i)) 18 0))) (c i)) in
-        let n : replyNumber r ≡ 18 = ap replyNumber x in
+        let n : replyNumber r ≡ 18 = step .answer .number-is ∙ (λ i. ask (p i) 6 (ask (q i) 7 (ask (isJoined (c i)) 18 0))) in
         let no : LeftJoinsRight g → ⊥ = λ (x, y, l, k, j). f x y l k j in
         record {
           not-joined = ((λ z. (met, no)), λ z. n);
@@ -64,25 +64,25 @@ module _ (e : Engine) (r : CrossingReply) (weights₀ weights : List ℤ) (scrat
           column = λ z. absurd (omega (arith, z, n));
         }
     passed (some W) c f =
-        let x = step .answer ∙ (λ i. replyOf (ask (p i) 6 (ask (q i) 7 (ask (isJoined (c i)) 18 0))) (c i)) in
-        let n : replyNumber r ≡ 0 = ap replyNumber x in
+        let met-all : crossingNumber e (scratchFits e scratch₀) (length weights₀) ≡ 0 = λ i. ask (p i) 6 (ask (q i) 7 (ask (isJoined (c i)) 18 0)) in
+        let n : replyNumber r ≡ 0 = step .answer .number-is ∙ met-all in
         let there : LeftJoinsRight g = (let (x, y, s, l, k, t, z) = f .walk .a-walk in (x, y, l, k, (s, t))) in
         let left : weights ≡ over (leastFromLeft g w) weights₀ =
         step .weights-left ∙ (λ i. after (ask (p i) 6 (ask (q i) 7 (ask (isJoined (c i)) 18 0))) (leastFromLeft g w) weights₀) in
         record {
           not-joined = ((λ z. absurd (omega (arith, z, n))), λ z. absurd (z .1 there));
           joined = ((λ z. (met, there)), λ z. n);
-          least = λ z. subst (IsCrossing g w) (sym (ap replyWeight x)) f;
+          least = λ z. subst (IsCrossing g w) (sym (values-of (step .answer) met-all ∙ ap weightFound c)) f;
           column = λ z v h. subst (LeftWeight g w v)
               (sym (ap (λ (l : List ℤ). weightIn l v) left ∙ over-in (leastFromLeft g w) weights₀ (negsuc 0) v (omega (arith, facts .1, h)))) (facts .2 v h);
         }
 
   by-case : (p q : Bool) → longAll e weights₀ scratch₀ ≡ p → sound e ≡ q → Says
   by-case false q h k =
-      refused 6 (ap replyNumber (step .answer ∙ (λ i. replyOf (ask (h i) 6 (ask (sound e) 7 (ask (isJoined (crossing g w)) 18 0))) (crossing g w)))) (λ z. omega arith) (λ z. omega arith)
+      refused 6 (step .answer .number-is ∙ (λ i. ask (h i) 6 (ask (sound e) 7 (ask (isJoined (crossing g w)) 18 0)))) (λ z. omega arith) (λ z. omega arith)
       (λ m. let c = crossing-long e weights₀ scratch₀ m in let z : _≡_ {A = ℕ} 0 1 = cc in omega arith)
   by-case true false h k =
-      refused 7 (ap replyNumber (step .answer ∙ (λ i. replyOf (ask (h i) 6 (ask (k i) 7 (ask (isJoined (crossing g w)) 18 0))) (crossing g w)))) (λ z. omega arith) (λ z. omega arith)
+      refused 7 (step .answer .number-is ∙ (λ i. ask (h i) 6 (ask (k i) 7 (ask (isJoined (crossing g w)) 18 0)))) (λ z. omega arith) (λ z. omega arith)
       (λ m. let c = m .graph-sound in let z : _≡_ {A = ℕ} 0 1 = cc in omega arith)
   by-case true true h k = passed h k (crossing g w) refl (facts h k .0)
 

@@ -9,7 +9,8 @@ use lib.Ieee.{Float}
 use Rattle.columns.specs.Limits.{edgeLimit}
 use Rattle.columns.specs.Lists.{after}
 use Rattle.columns.specs.Questions.{ask}
-use Rattle.columns.specs.Answers.{done}
+use Rattle.answers.specs.Said.{Answered}
+use Rattle.answers.specs.Done.{said}
 use Rattle.columns.specs.declared.Done.{Done}
 
 -- questions 6, 7 and 9; `met` is question 9 of the one number
@@ -18,5 +19,5 @@ setDoor met edges column = ask (leb edges (length column)) 6 (ask (leb edges edg
 
 -- the call: its answer, and what stands in the column of p or pe, `before` it and afterwards
 pub record SetEach (met : Bool) (edges : ℕ) (value : Float) (before column : List Float) (answer : Done) : Type 0 where
-  pub answers : answer ≡ done (setDoor met edges before)
+  pub answers : Answered (said answer) (setDoor met edges before) tt tt
   pub writes : column ≡ after (setDoor met edges before) (replicate edges value) before

@@ -28,7 +28,7 @@ use Rattle.syndromes.specs.declared.ListAnswer.the-variants as list
 use Rattle.syndromes.specs.Records.{CodeGraph, graphLong, codeSound, SyndromeColumns, syndromeLong}
 use Rattle.marked_lists.specs.Marked.{marked}
 use Rattle.flips.specs.Flip.{flipEach}
-use Rattle.syndromes.specs.Answers.{counts, count}
+use Rattle.answers.proofs.Said.{accepts-of, refuses-of}
 use Rattle.syndromes.specs.Errors.{SyndromeLeft, errorsDoor}
 use Rattle.syndromes.specs.Syndrome.{endsIn, isDefectOf, syndromeOf, syndromeDoor, FoundSyndrome}
 use Rattle.flips.specs.Steps.{Fits}
@@ -147,7 +147,7 @@ module _ (number v e : ℕ) (defects erasures : List ℕ) (before : SyndromeColu
   left-refused {n} e f =
       let g : number ≡ 0 → ⊥ = λ z. f (e ∙ z) in
       record {
-        answers = ap syndrome.Refused e ∙ simp (ne-eqb number 0 g);
+        answers = refuses-of e f;
         defect-is = sym (after-refused number defects (before .defect) g);
         erasure-is = sym (after-refused number erasures (before .erasure) g);
         defects-listed = sym (after-refused number (marked v defects) (before .defectList) g);
@@ -166,7 +166,7 @@ module _ (number v e : ℕ) (defects erasures : List ℕ) (before : SyndromeColu
       let cd : d ≡ length (marked v defects) = nd ∙ ap length md in
       let cs : s ≡ length (marked e erasures) = ns ∙ ap length ms in
       record {
-        answers = (λ i. syndrome.Counts (cd i) (cs i)) ∙ ap (λ (k : ℕ). counts k (length (marked v defects)) (length (marked e erasures))) (sym z);
+        answers = rw (cd, cs) (accepts-of z);
         defect-is = pd ∙ sym (after-accepted number defects (before .defect) z);
         erasure-is = ps ∙ sym (after-accepted number erasures (before .erasure) z);
         defects-listed = xd ∙ ap (λ (l : List ℕ). over l (before .defectList)) md ∙ sym (after-accepted number (marked v defects) (before .defectList) z);
@@ -219,13 +219,13 @@ module _ (g : CodeGraph) (ks defectList : List ℕ) where
   syndrome-refused {n} e f =
       let h : syndromeDoor g ks defectList ≡ 0 → ⊥ = λ z. f (e ∙ z) in
       record {
-        answers = ap list.Refused e ∙ simp (ne-eqb (syndromeDoor g ks defectList) 0 h);
+        answers = refuses-of e f;
         listed = sym (after-refused (syndromeDoor g ks defectList) (syndromeOf g ks) defectList h);
       }
 
   pub syndrome-accepted : {last : List ℕ} {n : ℕ} → syndromeDoor g ks defectList ≡ 0 → n ≡ length (syndromeOf g ks) → last ≡ over (syndromeOf g ks) defectList
       → FoundSyndrome g ks defectList (list.Count n) last
   syndrome-accepted z p q = record {
-    answers = ap list.Count p ∙ ap (λ (k : ℕ). count k (length (syndromeOf g ks))) (sym z);
+    answers = rw p (accepts-of z);
     listed = q ∙ sym (after-accepted (syndromeDoor g ks defectList) (syndromeOf g ks) defectList z);
   }

@@ -9,7 +9,6 @@ use lib.ListN.{length, getD, take, length-append, length-take, List·getD-append
 use lib.Seq.{take-append-le, length-take-le, getD-take, getD-append-add, ext-getD}
 use lib.Dec.{eqb}
 use lib.Ieee.{Float, lt}
-use borrow.Author.Tests.{ne-eqb}
 use Rattle.columns.specs.Lists.{each, when, joined}
 use Rattle.columns.specs.Questions.{marksSound}
 use Rattle.columns.specs.Places.{zeroFloat}
@@ -22,7 +21,7 @@ use Rattle.neighbors.specs.Lists.{chosen}
 use Rattle.syndromes.specs.declared.SyndromeAnswer.{SyndromeAnswer}
 use Rattle.syndromes.specs.Records.{CodeGraph, SyndromeColumns}
 use Rattle.flips.specs.Flip.{flipEach}
-use Rattle.syndromes.specs.Answers.{numberOf, counts}
+use Rattle.syndromes.specs.Answers.{said}
 use Rattle.syndromes.specs.Errors.{SyndromeLeft}
 use Rattle.sampled_edges.specs.Draws.{drawNumber, isErased, errorProbability, hasError, sampledErasures, sampledErrors}
 use Rattle.syndromes.specs.Sampling.{samplingDoor, GeneratedRandomErrors}
@@ -33,16 +32,8 @@ use Rattle.syndromes.proofs.Inner.{flipEach-inner}
 use Rattle.marked_lists.proofs.Marks.{length-when, chosen-below, chosen-same}
 use Rattle.syndromes.proofs.Draws.{length-sampledErasures}
 
--- ---- an answer's number is the question's
-
-pub number-is : (q d s : ℕ) → numberOf (counts q d s) ≡ q
-number-is q d s = elim (ℕ-discrete q 0) [
-  | yes e ↦ ap (λ (k : ℕ). numberOf (counts k d s)) e ∙ sym e
-  | no f ↦ simp (ne-eqb q 0 f)
-]
-
-pub accepted-number : {q v e : ℕ} {ds es : List ℕ} {before last : SyndromeColumns} {r : SyndromeAnswer} → SyndromeLeft q v e ds es before r last → numberOf r ≡ 0 → q ≡ 0
-accepted-number {q} {v} {e} {ds} {es} {before} {last} {r} s z = sym (number-is q _ _) ∙ ap numberOf (sym (s .answers)) ∙ z
+pub accepted-number : {q v e : ℕ} {ds es : List ℕ} {before last : SyndromeColumns} {r : SyndromeAnswer} → SyndromeLeft q v e ds es before r last → said r .number ≡ 0 → q ≡ 0
+accepted-number {q} {v} {e} {ds} {es} {before} {last} {r} s z = sym (s .answers .number-is) ∙ z
 
 -- ---- two samplings with one seed
 
@@ -70,7 +61,7 @@ take-each k n f h =
 
 -- the erasure column of an accepted sampling, before edge k
 marks-of : (seed k : ℕ) (g : CodeGraph) (p pe : List Float) (before last : SyndromeColumns) (r : SyndromeAnswer)
-    → GeneratedRandomErrors seed g p pe before r last → numberOf r ≡ 0 → k ≤ g .edges → take k (last .erasure) ≡ sampledErasures (seedFromU64 seed) pe k
+    → GeneratedRandomErrors seed g p pe before r last → said r .number ≡ 0 → k ≤ g .edges → take k (last .erasure) ≡ sampledErasures (seedFromU64 seed) pe k
 unfolding sampledErasures
 marks-of seed k g p pe before last r s z h =
     let marks = sampledErasures (seedFromU64 seed) pe (g .edges) in

@@ -1,7 +1,6 @@
 -- What the calls answer: document 01's number and values for each case.
 use Prim.Native.Nat.{ℕ}
-use mathlib.Core.Bool.{cond}
-use lib.Dec.{eqb}
+use Rattle.answers.specs.Said.{Said, accepts, refuses}
 use Rattle.syndromes.specs.declared.SyndromeAnswer.{SyndromeAnswer}
 use Rattle.syndromes.specs.declared.SyndromeAnswer.the-variants as syndrome
 use Rattle.syndromes.specs.declared.ListAnswer.{ListAnswer}
@@ -9,33 +8,13 @@ use Rattle.syndromes.specs.declared.ListAnswer.the-variants as list
 
 -- ---- two counts: defects and erasures
 
--- the number, 0 where the call was accepted
-abbrev pub numberOf : SyndromeAnswer → ℕ
-numberOf (syndrome.Counts defects erasures) = 0
-numberOf (syndrome.Refused number) = number
-
--- how many defects, and how many erasures; 0 where the call was refused
-abbrev pub defectsOf : SyndromeAnswer → ℕ
-defectsOf (syndrome.Counts defects erasures) = defects
-defectsOf (syndrome.Refused number) = 0
-
-abbrev pub erasuresOf : SyndromeAnswer → ℕ
-erasuresOf (syndrome.Counts defects erasures) = erasures
-erasuresOf (syndrome.Refused number) = 0
-
--- the answer for a question's number, 0 where every question is met
-abbrev pub counts : (number defects erasures : ℕ) → SyndromeAnswer
-counts number defects erasures = cond (eqb number 0) (syndrome.Counts defects erasures) (syndrome.Refused number)
+-- the number, how many defects, and how many erasures; both are 0 at a refusal
+abbrev pub said : SyndromeAnswer → Said (ℕ × ℕ)
+said (syndrome.Counts defects erasures) = accepts (defects, erasures)
+said (syndrome.Refused number) = refuses number (0, 0)
 
 -- ---- one count
 
-abbrev pub listNumberOf : ListAnswer → ℕ
-listNumberOf (list.Count count) = 0
-listNumberOf (list.Refused number) = number
-
-abbrev pub countOf : ListAnswer → ℕ
-countOf (list.Count count) = count
-countOf (list.Refused number) = 0
-
-abbrev pub count : (number count : ℕ) → ListAnswer
-count number n = cond (eqb number 0) (list.Count n) (list.Refused number)
+abbrev pub listSaid : ListAnswer → Said ℕ
+listSaid (list.Count count) = accepts count
+listSaid (list.Refused number) = refuses number 0

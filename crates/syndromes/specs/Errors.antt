@@ -10,12 +10,13 @@ use Rattle.syndromes.specs.declared.SyndromeAnswer.{SyndromeAnswer}
 use Rattle.syndromes.specs.Records.{CodeGraph, graphLong, codeSound, SyndromeColumns, syndromeLong}
 use Rattle.marked_lists.specs.Marked.{marked}
 use Rattle.flips.specs.Flip.{flipEach}
-use Rattle.syndromes.specs.Answers.{counts}
+use Rattle.answers.specs.Said.{Answered}
+use Rattle.syndromes.specs.Answers.{said}
 
 -- what a call that generates errors answers and leaves: `number` is the question's, 0 where all are met;
 -- then the defect and erasure bytes are those given, and both lists name the bytes 1, ascending
 pub record SyndromeLeft (number v e : ℕ) (defects erasures : List ℕ) (before : SyndromeColumns) (answer : SyndromeAnswer) (last : SyndromeColumns) : Type 0 where
-  pub answers : answer ≡ counts number (length (marked v defects)) (length (marked e erasures))
+  pub answers : Answered (said answer) number (length (marked v defects), length (marked e erasures)) (0, 0)
   pub defect-is : last .defect ≡ after number defects (before .defect)
   pub erasure-is : last .erasure ≡ after number erasures (before .erasure)
   pub defects-listed : last .defectList ≡ after number (marked v defects) (before .defectList)

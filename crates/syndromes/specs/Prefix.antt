@@ -7,7 +7,7 @@ use lib.Ieee.{Float}
 use Rattle.columns.specs.Places.{zeroFloat}
 use Rattle.syndromes.specs.declared.SyndromeAnswer.{SyndromeAnswer}
 use Rattle.syndromes.specs.Records.{CodeGraph, SyndromeColumns}
-use Rattle.syndromes.specs.Answers.{numberOf}
+use Rattle.syndromes.specs.Answers.{said}
 use Rattle.syndromes.specs.Sampling.{GeneratedRandomErrors}
 
 -- the edges before number k carry the same p and pe
@@ -19,5 +19,5 @@ pub record SameBefore (k : ℕ) (p₁ pe₁ p₂ pe₂ : List Float) : Type 0 wh
 abbrev pub SameMarksBefore : Type 0
 SameMarksBefore =
     (seed k : ℕ) (g₁ g₂ : CodeGraph) (p₁ pe₁ p₂ pe₂ : List Float) (before₁ last₁ before₂ last₂ : SyndromeColumns) (r₁ r₂ : SyndromeAnswer)
-    → GeneratedRandomErrors seed g₁ p₁ pe₁ before₁ r₁ last₁ → GeneratedRandomErrors seed g₂ p₂ pe₂ before₂ r₂ last₂ → numberOf r₁ ≡ 0 → numberOf r₂ ≡ 0
+    → GeneratedRandomErrors seed g₁ p₁ pe₁ before₁ r₁ last₁ → GeneratedRandomErrors seed g₂ p₂ pe₂ before₂ r₂ last₂ → said r₁ .number ≡ 0 → said r₂ .number ≡ 0
     → k ≤ g₁ .edges → k ≤ g₂ .edges → SameBefore k p₁ pe₁ p₂ pe₂ → take k (last₁ .erasure) ≡ take k (last₂ .erasure)

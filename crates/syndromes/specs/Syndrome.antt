@@ -11,7 +11,8 @@ use Rattle.columns.specs.Questions.{ask, allBelow}
 use Rattle.neighbors.specs.Lists.{chosen}
 use Rattle.syndromes.specs.declared.ListAnswer.{ListAnswer}
 use Rattle.syndromes.specs.Records.{CodeGraph, graphLong, codeSound}
-use Rattle.syndromes.specs.Answers.{count}
+use Rattle.answers.specs.Said.{Answered}
+use Rattle.syndromes.specs.Answers.{listSaid}
 
 -- 1 where x is vertex v, else 0
 abbrev pub hit : (v x : ℕ) → ℕ
@@ -38,5 +39,5 @@ syndromeDoor g edges defectList =
     (ask (allBelow (g .edges) edges) 13 0))
 
 pub record FoundSyndrome (g : CodeGraph) (edges defectList₀ : List ℕ) (answer : ListAnswer) (defectList : List ℕ) : Type 0 where
-  pub answers : answer ≡ count (syndromeDoor g edges defectList₀) (length (syndromeOf g edges))
+  pub answers : Answered (listSaid answer) (syndromeDoor g edges defectList₀) (length (syndromeOf g edges)) 0
   pub listed : defectList ≡ after (syndromeDoor g edges defectList₀) (syndromeOf g edges) defectList₀

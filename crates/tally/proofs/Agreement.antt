@@ -17,11 +17,10 @@ use Rattle.neighbors.specs.Sound.{graphSound}
 use Rattle.neighbors.proofs.Ends.{GraphSound, graph-says, says-graph}
 use Rattle.engine_columns.specs.declared.EngineCounts.{EngineCounts}
 use Rattle.engine_columns.specs.declared.EngineAnswer.{EngineAnswer}
-use Rattle.engine_columns.specs.declared.EngineAnswer.the-variants.{Counts, Refused}
-use Rattle.engine_columns.specs.Records.{Engine, engine, counts, numberOf}
+use Rattle.engine_columns.specs.Records.{Engine, engine, counts, said}
 use Rattle.edge_log.specs.Load.{loaded, earlier, named, undone, erased, given}
 use Rattle.engine_columns.specs.Door.{columnsLong, longEnough, columnsSound, sound}
-use Rattle.engine_columns.specs.Step.{Call, loadErasures, loadWeights, reset, door, changed, loadedBy, answered, Step}
+use Rattle.engine_columns.specs.Step.{Call, loadErasures, loadWeights, reset, door, changed, loadedBy, Step}
 use Rattle.engine_columns.specs.Open.{GraphColumns, graphColumns, openDoor, OpenStep}
 use Rattle.tally.specs.Tally.{Lengths, lengthsOf, Tally, tallyOf, tallyLong, tallyDoor, withWeights, tallied, Fed, accepts, tallyStep, tallyAfter, tallyNumbers}
 use Rattle.edge_log.proofs.Loads.{loaded-length, named-length, earlier-length, undone-length, undo-load, take-loaded, within-loaded, named-at, earlier-at}
@@ -156,18 +155,11 @@ accepted-agrees (loadWeights es xs) t e a z =
     (λ i h. within-at weightLimit xs (w .fit) i (rw (← w .many) h))
 accepted-agrees reset t e a z = reset-agrees t e a
 
-pub number-is : (n : ℕ) (c : EngineCounts) → numberOf (answered n c) ≡ n
-number-is n c = go (eqb n 0) refl
-  where
-    go : (b : Bool) → eqb n 0 ≡ b → numberOf (cond b (Counts c) (Refused n)) ≡ n
-    go true e = sym (eqb-true n 0 e)
-    go false e = refl
-
 -- one call
 pub step-agrees : (call : Call) (t : Tally) (e e₁ : Engine) (r : EngineAnswer) → Agrees t e → Step call e r e₁
-    → (numberOf r ≡ tallyDoor call (lengthsOf e) t) × Agrees (tallyStep (record { call = call; lent = lengthsOf e }) t) e₁
+    → (said r .number ≡ tallyDoor call (lengthsOf e) t) × Agrees (tallyStep (record { call = call; lent = lengthsOf e }) t) e₁
 step-agrees call t e e₁ r a s = (
-  ap numberOf (s .answer) ∙ number-is (door call e) (changed call e .counts) ∙ door-same call t e a,
+  s .answer .number-is ∙ door-same call t e a,
   rw (s .left, ← door-same call t e a) (go (eqb (door call e) 0) refl),
 )
   where
@@ -203,10 +195,10 @@ copied-graph v e a b a′ b′ la lb s =
       apart = λ j k h l o. s .apart j k h l (rw (ga j (omega arith), gb j (omega arith), ga k l, gb k l) at o);
     }
 
-pub opened-agrees : (v e : ℕ) (h l o : GraphColumns) (r : EngineAnswer) (le lw : List ℕ) → OpenStep v e h l r o → numberOf r ≡ 0
+pub opened-agrees : (v e : ℕ) (h l o : GraphColumns) (r : EngineAnswer) (le lw : List ℕ) → OpenStep v e h l r o → said r .number ≡ 0
     → Agrees (tallyOf v e h) (engine (counts v e 0) (o .endsA) (o .endsB) (o .weights) (o .boundary) le lw)
 opened-agrees v e h l o r le lw s z =
-    let d : openDoor v e h l ≡ 0 = sym (ap numberOf (s .answer) ∙ number-is (openDoor v e h l) (counts v e 0)) ∙ z in
+    let d : openDoor v e h l ≡ 0 = sym (s .answer .number-is) ∙ z in
     let p : Opens v e h l = opens-of v e h l d in
     let f = p .from in
     let g = p .to in

@@ -14,7 +14,7 @@ use lib.Ieee.{Float, nan, inf, fin, binary64, add, sub, mul, div, lt, le, eq, of
 use borrow.Author.Tests.{le-leb, leb-true}
 use Rattle.columns.specs.Limits.{edgeLimit, halfWeightLimit}
 use Rattle.columns.specs.Questions.{ask, all}
-use Rattle.columns.specs.Answers.{numberOf, done}
+use Rattle.answers.specs.Done.{said}
 use Rattle.columns.specs.Places.{zeroFloat}
 use Rattle.columns.specs.declared.Done.{Done}
 use Rattle.columns.specs.declared.Done.the-variants.{Accepted}
@@ -63,10 +63,6 @@ all-met edges p column max e =
       above = met ten 9 _ after9;
     }
 
-accepted-door : (q : ℕ) → done q ≡ Accepted → q ≡ 0
-accepted-door zero e = refl
-accepted-door (suc q) e = ap numberOf e
-
 -- an accepted call's column: the half weight of each edge, and what stood there past the edges
 pub record Written (edges : ℕ) (p : List Float) (before : List ℕ) (max : ℕ) (column : List ℕ) : Type 0 where
   pub first : (k : ℕ) → k < edges → getD column k 0 ≡ halfWeight max (edgeWeight (getD p k zeroFloat)) (largestWeight (take edges p))
@@ -76,7 +72,7 @@ pub written : {edges : ℕ} {p : List Float} {before : List ℕ} {max : ℕ} {co
     → Met edges p before max × Written edges p before max column
 written {edges} {p} {before} {max} {column} {answer} w a =
     let q = computeDoor edges p before max in
-    let zero : q ≡ 0 = accepted-door q (sym (w .answers) ∙ a) in
+    let zero : q ≡ 0 = sym (w .answers .number-is) ∙ ap (λ (r : Done). said r .number) a in
     let m = all-met edges p before max zero in
     let ps = take edges p in
     let one : Float → ℕ = λ x. halfWeight max (edgeWeight x) (largestWeight ps) in

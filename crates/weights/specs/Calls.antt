@@ -10,7 +10,8 @@ use Rattle.columns.specs.Limits.{edgeLimit, halfWeightLimit}
 use Rattle.columns.specs.Lists.{after}
 use Rattle.columns.specs.Questions.{ask, all}
 use Rattle.columns.specs.Places.{zeroFloat}
-use Rattle.columns.specs.Answers.{done}
+use Rattle.answers.specs.Said.{Answered}
+use Rattle.answers.specs.Done.{said}
 use Rattle.columns.specs.declared.Done.{Done}
 use Rattle.edge_weights.specs.Probabilities.{isProbability}
 use Rattle.edge_weights.specs.Logarithm.{edgeWeight}
@@ -64,5 +65,5 @@ computeDoor edges p column max =
 
 -- the call: its answer, and what stands in the half-weight column, `before` it and afterwards
 pub record ComputedWeights (edges : ℕ) (p : List Float) (before : List ℕ) (max : ℕ) (column : List ℕ) (answer : Done) : Type 0 where
-  pub answers : answer ≡ done (computeDoor edges p before max)
+  pub answers : Answered (said answer) (computeDoor edges p before max) tt tt
   pub writes : column ≡ after (computeDoor edges p before max) (halfWeights max (take edges p)) before

@@ -25,7 +25,8 @@ ghost use Rattle.columns.specs.Places.{zeroFloat};
 ghost use Rattle.edge_weights.specs.Probabilities.{isProbability};
 ghost use Rattle.edge_weights.specs.Logarithm.{edgeWeight};
 ghost use Rattle.edge_weights.specs.Rounding.{halfWeight};
-ghost use Rattle.weights.specs.Answers.{weighed};
+ghost use Rattle.answers.specs.Said.{Answered};
+ghost use Rattle.weights.specs.Answers.{said};
 ghost use Rattle.weights.specs.Calls.{weightDoor, larger, largestWeight, isLargestHalfWeight, ComputedWeights};
 
 // What `weight_of_p` answers.
@@ -36,7 +37,7 @@ pub enum WeightOfP {
 
 // The weight of an edge with probability p.
 pub fn weight_of_p(p: f64) -> WeightOfP
-    ensures { λ r. ⌜ r ≡ weighed (weightDoor p) (edgeWeight p) ⌝ }
+    ensures { λ r. ⌜ Answered (said r) (weightDoor p) (edgeWeight p) zeroFloat ⌝ }
 {
     if is_probability(p) {
         WeightOfP::Weighs(edge_weight(p))

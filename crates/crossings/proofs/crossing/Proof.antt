@@ -9,16 +9,18 @@ use lib.Seq.{length-take-le}
 use Rattle.columns.specs.Lists.{after}
 use Rattle.columns.specs.Questions.{ask}
 use Rattle.columns.proofs.Columns.{after-refused}
+use Rattle.answers.specs.Said.{Answered}
+use Rattle.answers.proofs.Said.{refuses-of}
 use Rattle.engine_columns.specs.Records.{Engine, engine}
 use Rattle.walks.specs.Answers.{crossing, fromLeft, leastFromLeft}
 use Rattle.relaxing.specs.Ready.{graphOf}
 use Rattle.query_questions.specs.Queries.{graphIn, weightsIn, scratchLong}
 use Rattle.query_questions.specs.Scratch.{scratchOf, isFree}
-use Rattle.crossing_answers.specs.Crossing.{replyNumber, isJoined, replyOf, crossingDoor}
+use Rattle.crossing_answers.specs.Crossing.{isJoined, weightFound, said, crossingDoor}
 use Rattle.crossing_answers.specs.Codes.{Coded, wherever}
 use Rattle.searches.proofs.Asked.{ScratchLong, scratch-of, searchable}
 use Rattle.searches.proofs.Scratch.{searchable-cut, search-left, scratch-free, scratch-kept}
-use Rattle.crossings.proofs.Crossings.{CrossingAsked, crossing-of, door-passed, door-refused, reply-of, reply-passed, reply-refused, column-after, left-length, searched-as, free-number, kept-number}
+use Rattle.crossings.proofs.Crossings.{CrossingAsked, crossing-of, door-passed, door-refused, reply-of, column-after, left-length, searched-as, free-number, kept-number}
 use borrow.Author.Needs.{needs}
 use Rattle.crossings.proofs.crossing.Statement.{statement}
 use Rattle.crossings.proofs.crossing.Tie as tie
@@ -226,17 +228,17 @@ returns c = let t : tie.Then1 = c .before .before .before .before .before .befor
     let o = c .before .before .before .before .before .before .before .before .before .before .before .before .before .before .before .before .run-crossing .ensures in
     let f = c .before .before .before .before .before .before .before .before .before .before .before .before .before .before .before .before .run-crossing .result in
     let coded : Coded f (crossing g w) = subst (λ n. Coded f (crossing (graphOf n A B M) w)) len (o .0) in
-    let said : c .reply .result ≡ replyOf 0 (crossing g w) = c .reply .ensures ∙ reply-of f (crossing g w) coded in
+    let replied : Answered (said (c .reply .result)) (ask (isJoined (crossing g w)) 18 0) (weightFound (crossing g w)) 0 = rw (c .reply .ensures) (reply-of f (crossing g w) coded) in
     let scratch₀ = scratchOf (s .args .numbers .now) (s .args .list-ends .now) (s .args .status .now) (s .args .weight .now) (s .args .previous .now) (s .args .node .now) (s .args .leaf .now) in
     let ends-length = c .before .before .before .before .before .before .before .before .before .before .before .before .before .before .before .before .run-crossing .kept .1 .1 .1 .1 .1 .0 ∙ length-take-le (s .args .c .vertices) (s .args .list-ends .now) (q .ends-long) in
     let node-length = c .before .before .before .before .before .before .before .before .before .before .before .before .before .before .before .before .run-crossing .kept .1 .1 .1 .1 .1 .1 .1 .1 .1 .0 ∙ length-take-le (s .args .c .vertices) (s .args .node .now) (q .node-long) in
     let next = door-passed (engine-of s) (scratch-at s) (length out₀) (ask (isJoined (crossing g w)) 18 0) z in (
       record {
-        answer = said ∙ reply-passed (crossing g w) ∙ ap (λ n. replyOf n (crossing g w)) (sym next);
+        answer = rw next replied;
         weights-left = o .1 .0 ∙ (λ i. wherever (crossing (graphOf (len i) A B M) w) (leastFromLeft (graphOf (len i) A B M) w) out₀)
             ∙ column-after (crossing g w) (leastFromLeft g w) out₀ (omega (arith, left-length g w, k .weights-long)) ∙ ap (λ n. after n (leastFromLeft g w) out₀) (sym next);
       },
-      scratch-free _ g (fromLeft g w) scratch₀ _ (ap (λ x. isFree (replyNumber x)) said ∙ free-number (crossing g w))
+      scratch-free _ g (fromLeft g w) scratch₀ _ (ap isFree (replied .number-is) ∙ free-number (crossing g w))
           (search-left g (fromLeft g w) scratch₀ ends-length node-length (searched-as w len (o .1 .1))),
     )
 
@@ -249,7 +251,7 @@ returns-2 c = let s : tie.Start = c .before .before .before .before .before .bef
     let w = weightsIn (engine-of s) in
     let next = door-refused (engine-of s) (scratch-at s) (length (s .args .out-weight .now)) (ask (isJoined (crossing g w)) 18 0) f in (
       record {
-        answer = reply-refused _ (c .before .crossing-door .result) (crossing g w) (d ∙ sym next) (c .if1 .left);
+        answer = refuses-of (d ∙ sym next) (c .if1 .left);
         weights-left = sym (after-refused _ (leastFromLeft g w) (s .args .out-weight .now) (λ e. f (sym next ∙ e)));
       },
       scratch-kept _ g (fromLeft g w)

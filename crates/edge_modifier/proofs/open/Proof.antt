@@ -2,10 +2,9 @@
 use mathlib.Core.Path.{_≡_, refl, sym, ap, _∙_}
 use lib.ListN.{take}
 use Rattle.columns.proofs.Columns.{copy-after, after-refused}
-use Rattle.engine_columns.specs.declared.EngineAnswer.the-variants.{Refused}
-use Rattle.engine_columns.specs.Records.{counts}
+use Rattle.answers.proofs.Said.{accepts-of, refuses-of}
 use Rattle.engine_columns.specs.Open.{graphColumns, openDoor}
-use Rattle.engine_columns.proofs.Doors.{opens-of, answered-zero, answered-no}
+use Rattle.engine_columns.proofs.Doors.{opens-of}
 use borrow.Author.Needs.{needs}
 use Rattle.edge_modifier.proofs.open.Statement.{statement}
 use Rattle.edge_modifier.proofs.open.Tie as tie
@@ -47,7 +46,7 @@ returns c =
     let z : openDoor v e h l ≡ 0 = sym (c .before .before .before .before .before .before .before .before .before .before .before .before .before .before .before .before .before .open-door .ensures) ∙ c .before .before .before .before .before .before .before .before .before .before .before .before .before .before .before .before .if1 .taken in
     let o = opens-of v e h l z in
     record {
-      answer = sym (answered-zero (openDoor v e h l) (counts v e 0) z);
+      answer = accepts-of z;
       endsA-left = c .before .before .before .before .before .before .before .before .before .before .before .before .before .before .copy-u32 .ensures ∙ copy-after e (openDoor v e h l) (a .ends-a .now) (a .in-a .now) z (o .from .endsA) (o .to .endsA);
       endsB-left = c .before .before .before .before .before .before .before .before .before .before .copy-u322 .ensures ∙ copy-after e (openDoor v e h l) (a .ends-b .now) (a .in-b .now) z (o .from .endsB) (o .to .endsB);
       weights-left = c .before .before .before .before .before .before .copy-u323 .ensures ∙ copy-after e (openDoor v e h l) (a .weights .now) (a .in-weights .now) z (o .from .weights) (o .to .weights);
@@ -76,7 +75,7 @@ returns-2 c =
     let d = c .before .open-door .ensures in
     let f : openDoor v e h l ≡ 0 → ⊥ = λ q. c .if1 .left (d ∙ q) in
     record {
-      answer = ap Refused d ∙ sym (answered-no (openDoor v e h l) (counts v e 0) f);
+      answer = refuses-of d (c .if1 .left);
       endsA-left = sym (after-refused (openDoor v e h l) (take e (a .in-a .now)) (a .ends-a .now) f);
       endsB-left = sym (after-refused (openDoor v e h l) (take e (a .in-b .now)) (a .ends-b .now) f);
       weights-left = sym (after-refused (openDoor v e h l) (take e (a .in-weights .now)) (a .weights .now) f);

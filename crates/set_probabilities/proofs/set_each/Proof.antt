@@ -7,6 +7,8 @@ use lib.ListN.{length, replicate, length-replicate}
 use borrow.Author.Tests.{leb-true}
 use borrow.Author.Needs.{needs}
 use Rattle.columns.specs.Answers.{done}
+use Rattle.answers.proofs.Said.{accepts-of}
+use Rattle.answers.proofs.Done.{said-of}
 use Rattle.columns.proofs.Columns.{after-accepted, after-refused, sets-over}
 use Rattle.set_probabilities.specs.Calls.{setDoor}
 use Rattle.columns.proofs.Doors.{met, asks}
@@ -45,7 +47,7 @@ returns c =
     let s = c .before .before .before .before .before .before .before .before .args in
     let is = number (c .before .before) in
     record {
-      answers = c .done-of .ensures ∙ ap done is;
+      answers = said-of _ _ (c .done-of .ensures ∙ ap done is);
       writes = sym (after-refused (setDoor (s .met) (s .edge-num) (s .column .now)) (replicate (s .edge-num) (s .value)) (s .column .now) (λ e. c .before .if1 .taken (is ∙ e)));
     }
 
@@ -63,7 +65,7 @@ returns-2 c =
     let zero = sym (number (c .before .before .before .before .before)) ∙ c .before .before .before .before .if1 .left in
     let long : s .edge-num ≤ length now = leb-true (s .edge-num) (length now) (met (leb (s .edge-num) (length now)) 5 _ zero) in
     record {
-      answers = ap done (sym zero);
+      answers = accepts-of zero;
       writes = c .before .before .fill-f64 .ensures ∙ sets-over now vs (omega (arith, length-replicate (s .edge-num) (s .value))) ∙ sym (after-accepted _ vs now zero);
     }
 

@@ -10,6 +10,8 @@ use borrow.Author.Tests.{leb-true}
 use borrow.Author.Needs.{needs}
 use Rattle.columns.specs.Places.{zeroFloat}
 use Rattle.columns.specs.Answers.{done}
+use Rattle.answers.proofs.Said.{accepts-of}
+use Rattle.answers.proofs.Done.{said-of}
 use Rattle.columns.specs.Questions.{ask}
 use Rattle.columns.specs.Lists.{over, after}
 use Rattle.columns.proofs.Columns.{after-accepted, after-refused}
@@ -98,7 +100,7 @@ returns c =
     let is = number (c .before .before) in
     let q = computeDoor (s .edge-num) (s .p .now) (s .half-weight .now) (s .max-half-weight) in
     record {
-      answers = c .done-of .ensures ∙ ap done is;
+      answers = said-of _ _ (c .done-of .ensures ∙ ap done is);
       writes = sym (after-refused q (halfWeights (s .max-half-weight) (take (s .edge-num) (s .p .now))) (s .half-weight .now) (λ e. c .before .if1 .taken (is ∙ e)));
     }
 
@@ -118,7 +120,7 @@ returns-2 c =
     let q = computeDoor (s .edge-num) (s .p .now) now (s .max-half-weight) in
     let zero = sym (number (c .before .before .before .before .before)) ∙ c .before .before .before .before .if1 .left in
     record {
-      answers = ap done (sym zero);
+      answers = accepts-of zero;
       writes = stored q (s .max-half-weight) ps _ now _ (c .before .before .store-half-weights .ensures) (c .before .before .before .before .before .before .before .before .before .before .before .largest-weight .ensures) zero;
     }
 

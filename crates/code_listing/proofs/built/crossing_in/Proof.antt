@@ -40,7 +40,7 @@ same-length-8 c = c .before .leaf .given
 returns : tie.Need-returns
 returns c =
     let s = c .before .before .before .before .before .before .before .before .before .before .before .before .before .before .before .before .before .before .before .before .before .before .before .before .before .before .before .before .before .before .before .before .before .before .before .before .before .args in
-    replied (s .kind) (s .d) (s .rounds) (s .probability) (s .max-half-weight) (s .v) (s .e) (s .ends-a .now) (s .ends-b .now) (s .weights .now) (s .boundary .now) (c .before .before .before .before .before .before .before .before .before .before .before .before .before .before .before .before .before .before .before .before .before .before .before .before .before .before .before .before .before .before .before .before .before .before .before .before .before .pre .0) _ _ _ _ _ _ _ _ _ _ _ (c .before .before .before .before .before .before .before .before .before .before .before .before .before .before .before .before .before .before .before .before .before .before .before .before .before .before .before .before .before .before .before .before .before .before .before .before .before .pre .1) (c .before .before .before .before .before .before .before .before .before .before .before .before .before .before .before .crossing .ensures .0 .answer)
+    replied (s .kind) (s .d) (s .rounds) (s .probability) (s .max-half-weight) (s .v) (s .e) (s .ends-a .now) (s .ends-b .now) (s .weights .now) (s .boundary .now) (c .before .before .before .before .before .before .before .before .before .before .before .before .before .before .before .before .before .before .before .before .before .before .before .before .before .before .before .before .before .before .before .before .before .before .before .before .before .pre .0) _ _ _ _ _ _ _ _ _ _ (c .before .before .before .before .before .before .before .before .before .before .before .before .before .before .before .crossing .result) (c .before .before .before .before .before .before .before .before .before .before .before .before .before .before .before .before .before .before .before .before .before .before .before .before .before .before .before .before .before .before .before .before .before .before .before .before .before .pre .1) (c .before .before .before .before .before .before .before .before .before .before .before .before .before .before .before .crossing .ensures .0 .answer)
 
 pub crossing-in-spec : {M : Type 1} → statement M
 crossing-in-spec =

@@ -10,6 +10,8 @@ use lib.Dec.{leb}
 use borrow.Author.Tests.{leb-true}
 use Rattle.columns.specs.Questions.{ask, vertexCountSound, edgeCountSound}
 use Rattle.columns.specs.Answers.{done}
+use Rattle.answers.proofs.Said.{accepts-of}
+use Rattle.answers.proofs.Done.{said-of}
 use Rattle.columns.specs.declared.Done.{Done}
 use Rattle.columns.specs.declared.Done.the-variants.{Accepted}
 use Rattle.columns.proofs.Columns.{after-accepted, after-refused, sets-over}
@@ -25,7 +27,7 @@ module _ (v e : ℕ) (defect erasure : List ℕ) where
   clear-refused {r} {n} q f h =
       let g : clearDoor v e defect erasure ≡ 0 → ⊥ = λ z. f (q ∙ z) in
       record {
-        answers = h ∙ ap done q;
+        answers = said-of _ _ (h ∙ ap done q);
         defect-is = sym (after-refused (clearDoor v e defect erasure) (replicate v 0) defect g);
         erasure-is = sym (after-refused (clearDoor v e defect erasure) (replicate e 1) erasure g);
       }
@@ -38,7 +40,7 @@ module _ (v e : ℕ) (defect erasure : List ℕ) where
       let lv : v ≤ length defect = leb-true _ _ x in
       let le : e ≤ length erasure = leb-true _ _ y in
       record {
-        answers = ap done (sym z);
+        answers = accepts-of z;
         defect-is = p ∙ sets-over defect (replicate v 0) (omega (arith, length-replicate {A = ℕ} v 0)) ∙ sym (after-accepted _ (replicate v 0) defect z);
         erasure-is = q ∙ sets-over erasure (replicate e 1) (omega (arith, length-replicate {A = ℕ} e 1)) ∙ sym (after-accepted _ (replicate e 1) erasure z);
       }

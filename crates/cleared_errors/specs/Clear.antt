@@ -7,7 +7,8 @@ use lib.ListN.{length, replicate}
 use lib.Dec.{leb}
 use Rattle.columns.specs.Lists.{after}
 use Rattle.columns.specs.Questions.{ask, vertexCountSound, edgeCountSound}
-use Rattle.columns.specs.Answers.{done}
+use Rattle.answers.specs.Said.{Answered}
+use Rattle.answers.specs.Done.{said}
 use Rattle.columns.specs.declared.Done.{Done}
 
 -- questions 6 and 7
@@ -17,6 +18,6 @@ clearDoor v e defect erasure =
 
 -- every defect byte 0, every erasure byte 1
 pub record ClearedErrors (v e : ℕ) (defect₀ erasure₀ : List ℕ) (answer : Done) (defect erasure : List ℕ) : Type 0 where
-  pub answers : answer ≡ done (clearDoor v e defect₀ erasure₀)
+  pub answers : Answered (said answer) (clearDoor v e defect₀ erasure₀) tt tt
   pub defect-is : defect ≡ after (clearDoor v e defect₀ erasure₀) (replicate v 0) defect₀
   pub erasure-is : erasure ≡ after (clearDoor v e defect₀ erasure₀) (replicate e 1) erasure₀

@@ -7,7 +7,7 @@ use native.Mathlib.Omega.{arith}
 use native.Mathlib.Decide.{ℕ-discrete}
 use lib.ListN.{length, getD}
 use Rattle.columns.specs.Lists.{each, over}
-use Rattle.columns.specs.Answers.{done}
+use Rattle.answers.proofs.Said.{zero-of}
 use Rattle.columns.specs.declared.Done.the-variants.{Accepted}
 use Rattle.columns.proofs.Columns.{over-in, after-accepted}
 use Rattle.columns.proofs.Counting.{length-each, getD-each}
@@ -46,10 +46,6 @@ listed-marks n list column =
     chosen-same n _ _ (λ k h.
     ap isSet (over-in (each n f) column 0 k (omega (arith, length-each n f)) ∙ getD-each n f 0 k h) ∙ set-mark (names list k))
 
-accepted-zero : (q : ℕ) → Accepted ≡ done q → q ≡ 0
-accepted-zero zero e = refl
-accepted-zero (suc q) e = absurd (let z : _≡_ {A = ℕ} 0 1 = cc in omega arith)
-
 counted-zero : (q count n : ℕ) → Count count ≡ counted q n → (q ≡ 0) × (count ≡ n)
 counted-zero zero count n e = (refl, cc)
 counted-zero (suc q) count n e =
@@ -76,7 +72,7 @@ got n q count list before column room out s z o c =
 pub set-then-get : {sound : Bool} {n : ℕ} {list before column room out : List ℕ} {count : ℕ}
     → SetMarks sound n list before column Accepted → GotMarks sound n column room out (Count count) → ListsNames n list room out count
 set-then-get {sound} {n} {list} {before} {column} {room} {out} {count} s g =
-    let zs = accepted-zero (setDoor sound n list before) (s .answers) in
+    let zs = zero-of (s .answers) in
     let zg = counted-zero (getDoor sound n column room) count (length (listed n column)) (g .answers) in
     got n (getDoor sound n column room) count list before column room out
     (s .left ∙ after-accepted (setDoor sound n list before) (marks n list) before zs) (zg .0)
@@ -89,7 +85,7 @@ pub set-then-get-syndrome : {v e : ℕ} {lists before column room out : Syndrome
 set-then-get-syndrome {v} {e} {lists} {before} {column} {room} {out} {defects} {erasures} s g =
     let q = getSyndromeDoor v e column room in
     let p = setSyndromeDoor v e lists before in
-    let zs = accepted-zero p (s .answers) in
+    let zs = zero-of (s .answers) in
     let zg = both-zero q defects erasures (length (listed v (column .defects))) (length (listed e (column .erasures))) (g .answers) in (
       got v q defects (lists .defects) (before .defects) (column .defects) (room .defects) (out .defects)
           (s .defects-left ∙ after-accepted p (marks v (lists .defects)) (before .defects) zs) (zg .0)

@@ -7,7 +7,8 @@ use lib.Dec.{leb}
 use lib.ListN.{length, take}
 use Rattle.columns.specs.Lists.{after}
 use Rattle.columns.specs.Questions.{ask, allBelow, vertexCountSound, edgeCountSound, boundariesSound, marksSound, halfWeightsSound}
-use Rattle.columns.specs.Answers.{done}
+use Rattle.answers.specs.Said.{Answered}
+use Rattle.answers.specs.Done.{said}
 use Rattle.columns.specs.declared.Done.{Done}
 use Rattle.neighbors.specs.Sound.{graphSound}
 use Rattle.code_room.specs.Room.{threeLong}
@@ -67,7 +68,7 @@ abbrev pub setDoor : (sound : Bool) (n : ℕ) (list column : List ℕ) → ℕ
 setDoor sound n list column = ask (leb n (length column)) 6 (ask sound 7 (ask (allBelow n list) 13 0))
 
 pub record SetMarks (sound : Bool) (n : ℕ) (list before column : List ℕ) (answer : Done) : Type 0 where
-  pub answers : answer ≡ done (setDoor sound n list before)
+  pub answers : Answered (said answer) (setDoor sound n list before) tt tt
   pub left : column ≡ after (setDoor sound n list before) (marks n list) before
 
 -- ---- set_syndrome: both, each question of both before the next
@@ -90,7 +91,7 @@ setSyndromeDoor v e lists column =
     (ask (allBelow v (lists .defects) && allBelow e (lists .erasures)) 13 0))
 
 pub record SetSyndrome (v e : ℕ) (lists before column : Syndrome) (answer : Done) : Type 0 where
-  pub answers : answer ≡ done (setSyndromeDoor v e lists before)
+  pub answers : Answered (said answer) (setSyndromeDoor v e lists before) tt tt
   pub defects-left : column .defects ≡ after (setSyndromeDoor v e lists before) (marks v (lists .defects)) (before .defects)
   pub erasures-left : column .erasures ≡ after (setSyndromeDoor v e lists before) (marks e (lists .erasures)) (before .erasures)
 

@@ -7,7 +7,8 @@ use lib.ListN.{length, take}
 use lib.Ieee.{Float}
 use Rattle.columns.specs.Lists.{after}
 use Rattle.columns.specs.Questions.{ask, vertexCountSound}
-use Rattle.columns.specs.Answers.{done}
+use Rattle.answers.specs.Said.{Answered}
+use Rattle.answers.specs.Done.{said}
 use Rattle.columns.specs.declared.Done.{Done}
 use Rattle.code_room.specs.Room.{threeLong}
 
@@ -29,7 +30,7 @@ positionsDoor v from to = ask (positionsLong v from && positionsLong v to) 6 (as
 
 -- the call: its answer, and the columns that it copies into, before it and afterwards
 pub record GotPositions (v : ℕ) (from before column : Positions) (answer : Done) : Type 0 where
-  pub answers : answer ≡ done (positionsDoor v from before)
+  pub answers : Answered (said answer) (positionsDoor v from before) tt tt
   pub i-left : column .i ≡ after (positionsDoor v from before) (take v (from .i)) (before .i)
   pub j-left : column .j ≡ after (positionsDoor v from before) (take v (from .j)) (before .j)
   pub t-left : column .t ≡ after (positionsDoor v from before) (take v (from .t)) (before .t)

@@ -7,7 +7,8 @@ use lib.ListN.{length}
 use lib.Dec.{leb, ltb}
 use lib.IntN.{ℤ}
 use Rattle.columns.specs.Lists.{after}
-use Rattle.columns.specs.Answers.{done}
+use Rattle.answers.specs.Said.{Answered}
+use Rattle.answers.specs.Done.{said}
 use Rattle.columns.specs.declared.Done.{Done}
 use Rattle.engine_columns.specs.Records.{Engine}
 use Rattle.walks.specs.Answers.{table}
@@ -22,6 +23,6 @@ tableDoor e scratch source end weights previous =
 
 -- the answer, and both columns of the table
 pub record TableStep (e : Engine) (scratch : Bool) (source : ℕ) (end : End) (r : Done) (weights₀ : List ℤ) (previous₀ : List ℕ) (weights : List ℤ) (previous : List ℕ) : Type 0 where
-  pub answer : r ≡ done (tableDoor e scratch source end (length weights₀) (length previous₀))
+  pub answer : Answered (said r) (tableDoor e scratch source end (length weights₀) (length previous₀)) tt tt
   pub weights-left : weights ≡ after (tableDoor e scratch source end (length weights₀) (length previous₀)) (table (graphIn e) (weightsIn e) source (endIn end) .weights) weights₀
   pub previous-left : previous ≡ after (tableDoor e scratch source end (length weights₀) (length previous₀)) (table (graphIn e) (weightsIn e) source (endIn end) .previous) previous₀

@@ -8,7 +8,8 @@ use lib.ListN.{length}
 use lib.Dec.{leb}
 use lib.IntN.{ℤ}
 use Rattle.columns.specs.Lists.{each, after}
-use Rattle.columns.specs.Answers.{done}
+use Rattle.answers.specs.Said.{Answered}
+use Rattle.answers.specs.Done.{said}
 use Rattle.columns.specs.declared.Done.{Done}
 use Rattle.columns.specs.declared.Done.the-variants.{Accepted, Refused}
 use Rattle.engine_columns.specs.Records.{Engine}
@@ -37,7 +38,7 @@ boundariesDoor e scratch weights vertices least before =
 
 -- the answer, and both columns
 pub record BoundariesStep (e : Engine) (scratch : Bool) (least before : ℕ) (r : Done) (weights₀ : List ℤ) (vertices₀ : List ℕ) (weights : List ℤ) (vertices : List ℕ) : Type 0 where
-  pub answer : r ≡ done (boundariesDoor e scratch (length weights₀) (length vertices₀) least before)
+  pub answer : Answered (said r) (boundariesDoor e scratch (length weights₀) (length vertices₀) least before) tt tt
   pub weights-left : weights
       ≡ after (boundariesDoor e scratch (length weights₀) (length vertices₀) least before) (each (e .counts .vertices) (boundaryWeight (graphIn e) (weightsIn e))) weights₀
   pub vertices-left : vertices

@@ -1,16 +1,16 @@
 -- An accepted `fill_boundaries` and an accepted `fill_row` over its column. Assumes nothing.
-use mathlib.Core.Path.{_≡_, refl, sym, ap, _∙_, subst}
+use mathlib.Core.Path.{_≡_, sym, ap, _∙_, subst}
 use mathlib.Core.Logic.{_⊎_, inl, inr}
 use mathlib.Core.Bool.{Bool, true, false, cond, _||_}
 use mathlib.Core.List.{List}
 use mathlib.Core.Option.{none}
-use Prim.Native.Nat.{ℕ, zero, suc, _<_}
+use Prim.Native.Nat.{ℕ, _<_}
 use native.Mathlib.Omega.{arith}
 use lib.ListN.{length, getD}
 use lib.Dec.{eqb}
 use lib.IntN.{ℤ, pos, negsuc}
 use Rattle.columns.specs.Lists.{each, after}
-use Rattle.columns.specs.Answers.{done, numberOf}
+use Rattle.answers.proofs.Said.{zero-of}
 use Rattle.columns.specs.declared.Done.the-variants.{Accepted}
 use Rattle.columns.proofs.Columns.{after-accepted, over-in}
 use Rattle.columns.proofs.Counting.{length-each, getD-each}
@@ -31,10 +31,6 @@ use Rattle.prebuilt_claims.specs.Called as called
 use Rattle.prebuilt_claims.specs.Claims.{PrebuiltRows}
 use Rattle.prebuilt_claims.proofs.Scans.{weight-column, vertex-column, entry-is}
 
-accepted-zero : (n : ℕ) → Accepted ≡ done n → n ≡ 0
-accepted-zero zero e = refl
-accepted-zero (suc n) e = sym (ap numberOf e)
-
 module _ {A : Type 0} where
   -- a place of a column that an accepted call has filled
   at-place : (q n : ℕ) (f : ℕ → A) (column₀ column : List A) (d : A) → q ≡ 0 → column ≡ after q (each n f) column₀ → (v : ℕ) → v < n → getD column v d ≡ f v
@@ -47,7 +43,7 @@ module _ (e : Engine) (scratch : Bool) (least before : ℕ) (weights₀ : List �
   door = ours.boundariesDoor e scratch (length weights₀) (length vertices₀) least before
 
   met : door ≡ 0
-  met = accepted-zero door (s .answer)
+  met = zero-of (s .answer)
 
   weight-at : (v : ℕ) → v < e .counts .vertices → weightIn weights v ≡ weightEntry (boundaryWeight (graphIn e) (weightsIn e) v)
   weight-at v h =
@@ -71,7 +67,7 @@ module _ (e : Engine) (scratch : Bool) (v : ℕ) (near : List ℤ) (before : ℕ
   number = rowDoor e scratch v (length near) (length out₀) before
 
   none-asked : number ≡ 0
-  none-asked = accepted-zero number (s .answer)
+  none-asked = zero-of (s .answer)
 
   row-at : (u : ℕ) → u < e .counts .vertices → weightIn out u ≡ edgeEntry (edgeWeight (graphIn e) (weightsIn e) v u)
   row-at u h =
@@ -108,7 +104,7 @@ module _ (e : Engine) (scratch : Bool) (v : ℕ) (near : List ℤ) (before : ℕ
   least-at u k h p =
       let g = graphIn e in
       let w = weightsIn e in
-      let z : question ≡ 0 = accepted-zero question (s .answer) in
+      let z : question ≡ 0 = zero-of (s .answer) in
       let q = row-asked e scratch v (length near) (length out₀) before z in
       let x = at-place question (e .counts .vertices) (rowEntry (g .boundary) near v (table g w v none .weights)) out₀ out (negsuc 0) z (s .out-left) u h in
       let y = kept (virtual g v || (virtual g u || eqb u v)) (inTheMiddle (weightIn near v) (weightIn near u) (weightIn (table g w v none .weights) u)) (weightIn (table g w v none .weights) u) k (sym x ∙ p) in

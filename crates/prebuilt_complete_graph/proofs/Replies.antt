@@ -6,7 +6,7 @@ use mathlib.Core.Option.{Option, some, none}
 use Prim.Native.Nat.{ℕ, zero, suc}
 use native.Mathlib.Omega.{arith}
 use lib.IntN.{ℤ}
-use Rattle.columns.specs.Answers.{done, numberOf}
+use Rattle.answers.specs.Done.{said}
 use Rattle.columns.specs.declared.Done.{Done}
 use Rattle.columns.specs.declared.Done.the-variants.{Accepted, Refused}
 use Rattle.walks.specs.Graph.{Graph}
@@ -15,11 +15,7 @@ use Rattle.prebuilt_complete_graph.specs.Nearest.{boundaryFound, boundar
 use Rattle.prebuilt_complete_graph.specs.declared.nearest.BoundaryAnswer.{BoundaryAnswer}
 use Rattle.prebuilt_complete_graph.specs.declared.nearest.BoundaryAnswer.the-variants as Answer
 
-pub number-done : (n : ℕ) → numberOf (done n) ≡ n
-number-done zero = refl
-number-done (suc n) = refl
-
-pub kept-of : (d : Done) (s₀ s : ScratchColumns) → numberOf d ≢ 0 → ScratchKept d s₀ s → s ≡ s₀
+pub kept-of : (d : Done) (s₀ s : ScratchColumns) → said d .number ≢ 0 → ScratchKept d s₀ s → s ≡ s₀
 kept-of Accepted s₀ s f k = absurd (f refl)
 kept-of (Refused n) s₀ s f k = k
 

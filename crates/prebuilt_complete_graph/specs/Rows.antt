@@ -8,7 +8,8 @@ use lib.ListN.{length}
 use lib.Dec.{leb, ltb}
 use lib.IntN.{ℤ}
 use Rattle.columns.specs.Lists.{each, after}
-use Rattle.columns.specs.Answers.{done}
+use Rattle.answers.specs.Said.{Answered}
+use Rattle.answers.specs.Done.{said}
 use Rattle.columns.specs.declared.Done.{Done}
 use Rattle.columns.specs.declared.Done.the-variants.{Accepted, Refused}
 use Rattle.engine_columns.specs.Records.{Engine}
@@ -28,7 +29,7 @@ rowDoor e scratch v nearest out before =
 
 -- the answer, and the row's column
 pub record RowStep (e : Engine) (scratch : Bool) (v : ℕ) (nearest : List ℤ) (before : ℕ) (r : Done) (out₀ out : List ℤ) : Type 0 where
-  pub answer : r ≡ done (rowDoor e scratch v (length nearest) (length out₀) before)
+  pub answer : Answered (said r) (rowDoor e scratch v (length nearest) (length out₀) before) tt tt
   pub out-left : out ≡ after (rowDoor e scratch v (length nearest) (length out₀) before) (row (graphIn e) (weightsIn e) nearest v) out₀
 
 -- a refused call leaves a scratch column as it was

@@ -2,7 +2,7 @@
 ghost use mathlib.Core.Path.{_≡_};
 ghost use Prim.Native.Nat.{_<_, _≤_};
 ghost use lib.ListN.{length};
-ghost use Rattle.columns.specs.Answers.{numberOf};
+ghost use Rattle.answers.specs.Done.{said};
 ghost use Rattle.engine_columns.specs.Records.{engine};
 ghost use Rattle.complete_graph.specs.declared.End.the-variants.{None};
 ghost use Rattle.query_questions.specs.Queries.{scratchLong, graphIn, weightsIn};
@@ -43,7 +43,7 @@ fn boundary_answer(boundary: &[u8], least: &[i32], v: u32) -> BoundaryAnswer
 
 // The number of an answer.
 fn number(done: Done) -> u32
-    ensures { λ r. ⌜ r ≡ numberOf done ⌝ }
+    ensures { λ r. ⌜ r ≡ said done .number ⌝ }
 {
     match done {
         Done::Accepted => 0,

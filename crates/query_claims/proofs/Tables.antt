@@ -1,8 +1,8 @@
 -- A table query's columns are the table of the graph and the weights lent, and that is a table of least weights. Assumes nothing.
-use mathlib.Core.Path.{_≡_, refl, sym, ap, _∙_, subst}
-use Prim.Native.Nat.{ℕ, zero, suc}
+use mathlib.Core.Path.{_≡_, sym, ap, _∙_, subst}
+use Prim.Native.Nat.{ℕ}
 use lib.ListN.{take}
-use Rattle.columns.specs.Answers.{numberOf, done}
+use Rattle.answers.specs.Done.{said}
 use Rattle.columns.specs.declared.Done.{Done}
 use Rattle.columns.proofs.Columns.{take-over, after-accepted}
 use Rattle.engine_columns.specs.Records.{Engine}
@@ -20,17 +20,13 @@ use Rattle.query_claims.specs.Met.{scratchFits}
 use Rattle.query_claims.specs.Claims.{TableSays, AllEdgesIsLeast}
 use Rattle.query_claims.proofs.Questions.{tableNumber, table-met, table-number, columns-in-range}
 
-number-of : (n : ℕ) → numberOf (done n) ≡ n
-number-of zero = refl
-number-of (suc n) = refl
-
 module _ (e : Engine) (source : ℕ) (o : End) (r : Done) (columns₀ columns : TableColumns) (scratch₀ : ScratchColumns)
     (step : TableStep e (scratchFits e scratch₀) source o r (columns₀ .weights) (columns₀ .previous) (columns .weights) (columns .previous)) where
   abbrev number : ℕ
   number = tableNumber e source o columns₀ scratch₀
 
-  is-number : numberOf r ≡ number
-  is-number = ap numberOf (step .answer) ∙ number-of number
+  is-number : said r .number ≡ number
+  is-number = step .answer .number-is
 
   -- the first places of the columns left
   abbrev first : TableColumns

@@ -6,7 +6,7 @@ use mathlib.Core.List.{List}
 use mathlib.Core.Option.{Option}
 use lib.ListN.{take}
 use lib.IntN.{ℤ}
-use Rattle.columns.specs.Answers.{numberOf}
+use Rattle.answers.specs.Done.{said}
 use Rattle.columns.specs.declared.Done.{Done}
 use Rattle.engine_columns.specs.Records.{Engine}
 use Rattle.walks.specs.Graph.{Joined, LeftJoinsRight}
@@ -25,8 +25,8 @@ use Rattle.query_claims.specs.Met.{TableMet, PathMet, CrossingMet}
 -- Engine, Settling and Table; questions at the door, 6, 7 and 13: accepted exactly where these are met. The columns' first places then are the table of the graph and the
 -- weights lent: least weights and a tree of previous vertices, -1 and 0 elsewhere, and what a named end means for the rows.
 pub record TableSays (e : Engine) (source : ℕ) (end : Option ℕ) (r : Done) (columns₀ columns : TableColumns) (scratch₀ : ScratchColumns) : Type 0 where
-  pub accepted : numberOf r ≡ 0 ↔ TableMet e source end columns₀ scratch₀
-  pub is-table : numberOf r ≡ 0
+  pub accepted : said r .number ≡ 0 ↔ TableMet e source end columns₀ scratch₀
+  pub is-table : said r .number ≡ 0
       → IsTable (graphIn e) (weightsIn e) source end (record { weights = take (e .counts .vertices) (columns .weights); previous = take (e .counts .vertices) (columns .previous) })
 
 -- Engine, Path; questions at the door, 17: exactly where the earlier questions are met and no walk joins a and b; a path exactly where they are met and some walk does.

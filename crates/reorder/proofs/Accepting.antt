@@ -13,6 +13,8 @@ use Rattle.columns.specs.Limits.{vertexLimit}
 use Rattle.columns.specs.Lists.{over, after}
 use Rattle.columns.specs.Questions.{ask, allBelow, marksSound}
 use Rattle.columns.specs.Answers.{done}
+use Rattle.answers.proofs.Said.{accepts-of}
+use Rattle.answers.proofs.Done.{said-of}
 use Rattle.columns.specs.declared.Done.{Done}
 use Rattle.columns.specs.declared.Done.the-variants as done-is
 use Rattle.columns.proofs.Columns.{after-accepted, after-refused}
@@ -65,13 +67,13 @@ module _ (order column : List ℕ) where
 
   pub built-refused : {r : Done} {n : ℕ} → n ≡ buildDoor order column → (n ≡ 0 → ⊥) → r ≡ done n → BuiltOldToNew order column r column
   built-refused e f q = record {
-    answers = q ∙ ap done e;
+    answers = said-of _ _ (q ∙ ap done e);
     column-is = sym (after-refused (buildDoor order column) (oldToNew order) column (λ z. f (e ∙ z)));
   }
 
   pub built-accepted : {last : List ℕ} → buildDoor order column ≡ 0 → last ≡ over (oldToNew order) column → BuiltOldToNew order column done-is.Accepted last
   built-accepted z q = record {
-    answers = ap done (sym z);
+    answers = accepts-of z;
     column-is = q ∙ sym (after-accepted (buildDoor order column) (oldToNew order) column z);
   }
 
@@ -216,7 +218,7 @@ module _ (v e : ℕ) (order : List ℕ) (b : CodeColumns) where
       let door = reorderDoor v e order b in
       let g : door ≡ 0 → ⊥ = λ z. f (q ∙ z) in
       record {
-        answers = h ∙ ap done q;
+        answers = said-of _ _ (h ∙ ap done q);
         endsA-is = sym (after-refused door (renamed order (take e (b .endsA))) (b .endsA) g);
         endsB-is = sym (after-refused door (renamed order (take e (b .endsB))) (b .endsB) g);
         boundary-is = sym (after-refused door (moved order 0 (b .boundary)) (b .boundary) g);
@@ -239,7 +241,7 @@ module _ (v e : ℕ) (order : List ℕ) (b : CodeColumns) where
   reordered-accepted last z many pa pb pm pd pi pj pt pl pn ps =
       let door = reorderDoor v e order b in
       record {
-        answers = ap done (sym z);
+        answers = accepts-of z;
         endsA-is = pa ∙ sym (after-accepted door (renamed order (take e (b .endsA))) (b .endsA) z);
         endsB-is = pb ∙ sym (after-accepted door (renamed order (take e (b .endsB))) (b .endsB) z);
         boundary-is = pm ∙ sym (after-accepted door (moved order 0 (b .boundary)) (b .boundary) z);

@@ -12,7 +12,7 @@ use lib.Dec.{eqb}
 use borrow.Author.Tests.{eq-eqb, ne-eqb}
 use Rattle.columns.specs.Lists.{joined, when, over}
 use Rattle.columns.specs.Questions.{allWithin, boundariesSound, marksSound}
-use Rattle.columns.specs.Answers as answers
+use Rattle.answers.specs.Done.{said}
 use Rattle.columns.specs.declared.Done.{Done}
 use Rattle.columns.proofs.Columns.{getD-any, after-accepted, over-in, length-over}
 use Rattle.columns.proofs.Tests.{both-and, within-first, at-within}
@@ -30,19 +30,14 @@ use Rattle.orders.specs.Steps.{IsOrder}
 use Rattle.orders.proofs.Permutation.{order-below, new-below, old-of-new, new-of-old, new-differ}
 use Rattle.reorder.proofs.Accepting.{ReorderMet, reorder-met}
 
--- a Done's number is the question's
-number-is : (q : ℕ) → answers.numberOf (answers.done q) ≡ q
-number-is zero = refl
-number-is (suc n) = refl
-
 -- what stands at a place of a mapped list
 map-at : {A : Type 0} (f : ℕ → A) (l : List ℕ) (d : A) (i : ℕ) → i < length l → getD (map f l) i d ≡ f (getD l i 0)
 map-at f l d i h = getD-any (map f l) i d (f 0) (omega (arith, length-map l f)) ∙ List·getD-map f l i 0
 
 -- an accepted reordering
-module _ (v e : ℕ) (order : List ℕ) (before last : CodeColumns) (answer : Done) (call : ReorderedVertices v e order before answer last) (accepted : answers.numberOf answer ≡ 0) where
+module _ (v e : ℕ) (order : List ℕ) (before last : CodeColumns) (answer : Done) (call : ReorderedVertices v e order before answer last) (accepted : said answer .number ≡ 0) where
   door-is : reorderDoor v e order before ≡ 0
-  door-is = sym (number-is (reorderDoor v e order before)) ∙ ap answers.numberOf (sym (call .answers)) ∙ accepted
+  door-is = sym (call .answers .number-is) ∙ accepted
 
   k : ReorderMet v e order before
   k = reorder-met v e order before door-is

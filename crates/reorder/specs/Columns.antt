@@ -9,7 +9,8 @@ use lib.Ieee.{Float}
 use Rattle.columns.specs.Lists.{joined, after}
 use Rattle.columns.specs.Questions.{ask, allBelow, marksSound}
 use Rattle.columns.specs.Places.{zeroFloat}
-use Rattle.columns.specs.Answers.{done}
+use Rattle.answers.specs.Said.{Answered}
+use Rattle.answers.specs.Done.{said}
 use Rattle.columns.specs.declared.Done.{Done}
 use Rattle.neighbors.specs.Steps.{sumTo}
 use Rattle.syndromes.specs.Records.{codeGraph, codeSound}
@@ -88,7 +89,7 @@ reorderDoor v e order c =
 
 -- the answer, and every column; after an accepted call the scratch starts with the old neighbour lists
 pub record ReorderedVertices (v e : ℕ) (order : List ℕ) (before : CodeColumns) (answer : Done) (last : CodeColumns) : Type 0 where
-  pub answers : answer ≡ done (reorderDoor v e order before)
+  pub answers : Answered (said answer) (reorderDoor v e order before) tt tt
   pub endsA-is : last .endsA ≡ after (reorderDoor v e order before) (renamed order (take e (before .endsA))) (before .endsA)
   pub endsB-is : last .endsB ≡ after (reorderDoor v e order before) (renamed order (take e (before .endsB))) (before .endsB)
   pub boundary-is : last .boundary ≡ after (reorderDoor v e order before) (moved order 0 (before .boundary)) (before .boundary)

@@ -8,7 +8,8 @@ use lib.Dec.{leb, eqb}
 use Rattle.columns.specs.Limits.{vertexLimit}
 use Rattle.columns.specs.Lists.{after}
 use Rattle.columns.specs.Questions.{ask, allBelow}
-use Rattle.columns.specs.Answers.{done}
+use Rattle.answers.specs.Said.{Answered}
+use Rattle.answers.specs.Done.{said}
 use Rattle.columns.specs.declared.Done.{Done}
 use Rattle.reorder.specs.declared.TranslatedAnswer.{TranslatedAnswer}
 use Rattle.reorder.specs.declared.TranslatedAnswer.the-variants.{Count, Refused}
@@ -25,7 +26,7 @@ buildDoor order column =
     (ask (noneTwice order) 14 0)))
 
 pub record BuiltOldToNew (order column₀ : List ℕ) (answer : Done) (column : List ℕ) : Type 0 where
-  pub answers : answer ≡ done (buildDoor order column₀)
+  pub answers : Answered (said answer) (buildDoor order column₀) tt tt
   pub column-is : column ≡ after (buildDoor order column₀) (oldToNew order) column₀
 
 -- ---- translated_defect_to_reordered

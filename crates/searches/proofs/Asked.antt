@@ -1,9 +1,9 @@
 -- What an accepted query says of its columns. Assumes nothing.
-use mathlib.Core.Path.{_≡_, refl, sym, ap, _∙_, subst}
+use mathlib.Core.Path.{_≡_, sym, _∙_, subst}
 use mathlib.Core.Logic.{_≢_}
 use mathlib.Core.Bool.{Bool, true, false, _&&_}
 use mathlib.Core.List.{List}
-use Prim.Native.Nat.{ℕ, zero, suc, _+_, _*_, _<_, _≤_}
+use Prim.Native.Nat.{ℕ, _+_, _*_, _<_, _≤_}
 use native.Mathlib.Omega.{arith}
 use lib.ListN.{length, getD, take, length-take}
 use lib.Seq.{getD-take, length-take-le}
@@ -12,8 +12,6 @@ use borrow.Author.Tests.{leb-true, ltb-true}
 use Rattle.columns.specs.Limits.{weightLimit}
 use Rattle.columns.specs.Lists.{over, after}
 use Rattle.columns.specs.Questions.{ask}
-use Rattle.columns.specs.Answers.{done}
-use Rattle.columns.specs.declared.Done.the-variants.{Accepted, Refused}
 use Rattle.columns.proofs.Tests.{and-both, within-at}
 use Rattle.neighbors.proofs.Ends.{GraphSound, graph-says}
 use Rattle.engine_columns.specs.Records.{Engine}
@@ -120,10 +118,3 @@ module _ (e : Engine) (numbers ends status weight previous node leaf : List ℕ)
         node-fits = omega (arith, s .node-long, cut-length);
         leaf-fits = length-take-le v leaf (s .leaf-long) ∙ sym cut-length;
       }
-
-pub done-zero : (n : ℕ) → n ≡ 0 → Accepted ≡ done n
-done-zero n e = ap done (sym e)
-
-pub done-no : (n m : ℕ) → m ≡ n → (m ≡ 0 → ⊥) → Refused m ≡ done n
-done-no n zero e f = absurd (f refl)
-done-no n (suc m) e f = ap done e

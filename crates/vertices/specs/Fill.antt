@@ -8,7 +8,8 @@ use lib.ListN.{length, replicate}
 use lib.Ieee.{Float}
 use Rattle.columns.specs.Lists.{after}
 use Rattle.columns.specs.Questions.{ask}
-use Rattle.columns.specs.Answers.{done}
+use Rattle.answers.specs.Said.{Answered}
+use Rattle.answers.specs.Done.{said}
 use Rattle.columns.specs.Places.{zeroFloat}
 use Rattle.columns.specs.declared.Done.{Done}
 use Rattle.code_room.specs.Room.{edgeColumnsLong}
@@ -41,7 +42,7 @@ fillDoor v e a b c = ask (vertexColumnsLong v c && edgeColumnsLong e a b (c .num
 
 -- the call: its answer, and what stands in the columns that it writes, before it and afterwards
 pub record FilledVertices (v e : ℕ) (a b : List ℕ) (before column : Vertices) (answer : Done) : Type 0 where
-  pub answers : answer ≡ done (fillDoor v e a b before)
+  pub answers : Answered (said answer) (fillDoor v e a b before) tt tt
   pub i-left : column .i ≡ after (fillDoor v e a b before) (replicate v zeroFloat) (before .i)
   pub j-left : column .j ≡ after (fillDoor v e a b before) (replicate v zeroFloat) (before .j)
   pub t-left : column .t ≡ after (fillDoor v e a b before) (replicate v zeroFloat) (before .t)

@@ -1,6 +1,8 @@
 -- `code_access::set_named` meets its contract. Assumes nothing.
 use mathlib.Core.Path.{_≡_, refl, sym, ap, _∙_}
 use Rattle.columns.specs.Answers.{done}
+use Rattle.answers.proofs.Said.{accepts-of}
+use Rattle.answers.proofs.Done.{said-of}
 use Rattle.columns.proofs.Columns.{after-accepted, after-refused}
 use Rattle.marks.specs.Marks.{marks}
 use Rattle.code_access.specs.Calls.{setDoor}
@@ -42,7 +44,7 @@ returns c =
     let vs = marks (s .n) (s .list .now) in
     let z : q ≡ 0 = sym (number (c .before .before .before .before .before)) ∙ c .before .before .before .before .if1 .taken in
     record {
-      answers = ap done (sym z);
+      answers = accepts-of z;
       left = c .before .before .set-marks .ensures ∙ sym (after-accepted q vs (s .column .now) z);
     }
 
@@ -56,7 +58,7 @@ returns-2 c =
     let vs = marks (s .n) (s .list .now) in
     let d = number (c .before .before) in
     record {
-      answers = c .done-of .ensures ∙ ap done d;
+      answers = said-of _ _ (c .done-of .ensures ∙ ap done d);
       left = sym (after-refused q vs (s .column .now) (λ e. c .before .if1 .left (d ∙ e)));
     }
 

@@ -1,6 +1,8 @@
 -- `code_access::set_syndrome` meets its contract. Assumes nothing.
 use mathlib.Core.Path.{_≡_, refl, sym, ap, _∙_}
 use Rattle.columns.specs.Answers.{done}
+use Rattle.answers.proofs.Said.{accepts-of}
+use Rattle.answers.proofs.Done.{said-of}
 use Rattle.columns.proofs.Columns.{after-accepted, after-refused}
 use Rattle.marks.specs.Marks.{marks}
 use Rattle.code_access.specs.Calls.{syndrome, setSyndromeDoor}
@@ -48,7 +50,7 @@ returns c =
     let q = setSyndromeDoor v e lists bytes in
     let z : q ≡ 0 = sym (c .before .before .before .before .before .before .before .before .before .set-syndrome-door .ensures) ∙ c .before .before .before .before .before .before .before .before .if1 .taken in
     record {
-      answers = ap done (sym z);
+      answers = accepts-of z;
       defects-left = c .before .before .before .before .before .before .set-marks .ensures ∙ sym (after-accepted q (marks v (lists .defects)) (s .defect .now) z);
       erasures-left = c .before .before .set-marks2 .ensures ∙ sym (after-accepted q (marks e (lists .erasures)) (s .erasure .now) z);
     }
@@ -73,7 +75,7 @@ returns-2 c =
     let d = c .before .before .set-syndrome-door .ensures in
     let g : q ≡ 0 → ⊥ = λ x. c .before .if1 .left (d ∙ x) in
     record {
-      answers = c .done-of .ensures ∙ ap done d;
+      answers = said-of _ _ (c .done-of .ensures ∙ ap done d);
       defects-left = sym (after-refused q (marks v (lists .defects)) (s .defect .now) g);
       erasures-left = sym (after-refused q (marks e (lists .erasures)) (s .erasure .now) g);
     }

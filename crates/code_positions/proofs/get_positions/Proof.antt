@@ -2,6 +2,8 @@
 use mathlib.Core.Path.{_≡_, refl, sym, ap, _∙_}
 use lib.ListN.{take}
 use Rattle.columns.specs.Answers.{done}
+use Rattle.answers.proofs.Said.{accepts-of}
+use Rattle.answers.proofs.Done.{said-of}
 use Rattle.columns.proofs.Columns.{copy-after, after-refused}
 use Rattle.code_positions.specs.Positions.{positions, positionsDoor}
 use Rattle.code_positions.proofs.Long.{positions-long}
@@ -40,7 +42,7 @@ returns c =
     let z : q ≡ 0 = sym (c .before .before .before .before .before .before .before .before .before .before .before .before .before .positions-door .ensures) ∙ c .before .before .before .before .before .before .before .before .before .before .before .before .if1 .taken in
     let l = positions-long v from to z in
     record {
-      answers = ap done (sym z);
+      answers = accepts-of z;
       i-left = c .before .before .before .before .before .before .before .before .before .before .copy-f64 .ensures ∙ copy-after v q (to .i) (from .i) z (l .0 .0) (l .1 .0);
       j-left = c .before .before .before .before .before .before .copy-f642 .ensures ∙ copy-after v q (to .j) (from .j) z (l .0 .1) (l .1 .1);
       t-left = c .before .before .copy-f643 .ensures ∙ copy-after v q (to .t) (from .t) z (l .0 .2) (l .1 .2);
@@ -68,7 +70,7 @@ returns-2 c =
     let d = c .before .before .positions-door .ensures in
     let f : q ≡ 0 → ⊥ = λ e. c .before .if1 .left (d ∙ e) in
     record {
-      answers = c .done-of .ensures ∙ ap done d;
+      answers = said-of _ _ (c .done-of .ensures ∙ ap done d);
       i-left = sym (after-refused q (take v (from .i)) (to .i) f);
       j-left = sym (after-refused q (take v (from .j)) (to .j) f);
       t-left = sym (after-refused q (take v (from .t)) (to .t) f);

@@ -15,7 +15,8 @@ use Rattle.query_questions.specs.Queries.{graphIn, weightsIn, scratchLong}
 use Rattle.complete_graph.specs.Ends.{endIn, stopOf}
 use Rattle.complete_graph.specs.Steps.{tableDoor}
 use Rattle.complete_graph.proofs.Tables.{TableAsked, table-of, table-number}
-use Rattle.searches.proofs.Asked.{ScratchLong, scratch-of, searchable, cut-length, done-zero, done-no}
+use Rattle.answers.proofs.Said.{accepts-of, refuses-of}
+use Rattle.searches.proofs.Asked.{ScratchLong, scratch-of, searchable, cut-length}
 use Rattle.complete_graph.proofs.Sources.{table-same, stop-other, table-weights-length, table-previous-length}
 use borrow.Author.Needs.{needs}
 use Rattle.complete_graph.proofs.all_edges_with_terminate.Statement.{statement}
@@ -220,7 +221,7 @@ returns c =
     let t-is : table g w src (endOf n (c .before .before .before .before .before .before .before .before .before .before .before .before .before .before .before .before .before .before .before .before .before .before .before .before .before .before .before .before .before .before .stop-of .result)) ≡ table g w src (endIn (s .args .end)) = ap (λ x. table g w src (endOf n x)) (c .before .before .before .before .before .before .before .before .before .before .before .before .before .before .before .before .before .before .before .before .before .before .before .before .before .before .before .before .before .before .stop-of .ensures) ∙ table-same g w src (s .args .end) (k .end-in) in
     let o = c .before .before .before .before .before .before .before .before .before .before .before .before .before .before .before .before .before .run-table .ensures in (
       record {
-        answer = done-zero (number-at s) z;
+        answer = accepts-of z;
         weights-left = o .0 (take n (s .args .boundary .now)) ∙ (λ i. sets (s .args .out-weight .now) 0 (table (graphOf (len i) (take (s .args .c .edges) (s .args .ends-a .now)) (take (s .args .c .edges) (s .args .ends-b .now)) (take n (s .args .boundary .now))) w src (endOf (len i) (c .before .before .before .before .before .before .before .before .before .before .before .before .before .before .before .before .before .before .before .before .before .before .before .before .before .before .before .before .before .before .stop-of .result)) .weights))
             ∙ ap (λ x. sets (s .args .out-weight .now) 0 (x .weights)) t-is ∙ sets-over (s .args .out-weight .now) (table g w src (endIn (s .args .end)) .weights) (omega (arith, table-weights-length g w src (endIn (s .args .end)), k .weights-long))
             ∙ sym (after-accepted (number-at s) (table g w src (endIn (s .args .end)) .weights) (s .args .out-weight .now) z);
@@ -238,7 +239,7 @@ returns-2 c =
     let d : c .before .query-door .result ≡ number-at s = table-number (engine-of s) (scratch-at s) (s .args .source .0) (s .args .end) _ _ (c .before .query-door .ensures) (c .before .before .before .before .before .before .both2 .ensures) (c .before .before .before .before .before .before .before .both .ensures) (c .before .before .before .before .before .before .before .before .before .at-most .ensures) (c .before .before .before .before .before .before .before .before .at-most2 .ensures) (c .before .before .before .before .before .before .before .before .before .before .scratch-long .ensures) (c .before .before .both3 .ensures) (c .before .before .before .end-in-range .ensures) in
     let f : number-at s ≡ 0 → ⊥ = λ e. c .if1 .left (d ∙ e) in (
       record {
-        answer = done-no (number-at s) (c .before .query-door .result) d (c .if1 .left);
+        answer = refuses-of d (c .if1 .left);
         weights-left = sym (after-refused (number-at s) (table (graphIn (engine-of s)) (weightsIn (engine-of s)) (s .args .source .0) (endIn (s .args .end)) .weights) (s .args .out-weight .now) f);
         previous-left = sym (after-refused (number-at s) (table (graphIn (engine-of s)) (weightsIn (engine-of s)) (s .args .source .0) (endIn (s .args .end)) .previous) (s .args .out-previous .now) f);
       },

@@ -10,7 +10,7 @@ use Rattle.columns.proofs.Counting.{length-each}
 use Rattle.columns.proofs.Columns.{sets-over, after-accepted, after-refused}
 use Rattle.engine_columns.specs.Records.{Engine, engine}
 use Rattle.query_questions.specs.Queries.{graphIn, weightsIn, scratchLong, queryDoor}
-use Rattle.searches.proofs.Asked.{done-zero, done-no}
+use Rattle.answers.proofs.Said.{accepts-of, refuses-of}
 use Rattle.prebuilt_boundaries.specs.Boundaries.{boundaryWeight, boundaryVertex, boundariesDoor}
 use Rattle.prebuilt_boundaries.specs.Steps.{Fillable}
 use Rattle.prebuilt_boundaries.proofs.Asked.{fillable}
@@ -114,7 +114,7 @@ returns c = let t : tie.Then1 = c .before .before .before .before .before .befor
     let k = fillable-at s z in
     let o = c .before .before .before .before .before .before .before .before .before .before .before .before .before .before .before .before .before .before .before .before .fill-all .ensures in (
       record {
-        answer = done-zero (number-at s) z;
+        answer = accepts-of z;
         weights-left = o .0 ∙ sets-over (s .args .out-weight .now) (each (s .args .c .vertices) (boundaryWeight (graphIn (engine-of s)) (weightsIn (engine-of s)))) (omega (arith, length-each (s .args .c .vertices) (boundaryWeight (graphIn (engine-of s)) (weightsIn (engine-of s))), k .weights-fit)) ∙ sym (after-accepted (number-at s) (each (s .args .c .vertices) (boundaryWeight (graphIn (engine-of s)) (weightsIn (engine-of s)))) (s .args .out-weight .now) z);
         vertices-left = o .1 ∙ sets-over (s .args .out-vertex .now) (each (s .args .c .vertices) (boundaryVertex (graphIn (engine-of s)) (weightsIn (engine-of s)))) (omega (arith, length-each (s .args .c .vertices) (boundaryVertex (graphIn (engine-of s)) (weightsIn (engine-of s))), k .vertices-fit)) ∙ sym (after-accepted (number-at s) (each (s .args .c .vertices) (boundaryVertex (graphIn (engine-of s)) (weightsIn (engine-of s)))) (s .args .out-vertex .now) z);
       },
@@ -127,7 +127,7 @@ returns-2 c = let s : tie.Start = c .before .before .before .before .before .bef
     let d : c .before .query-door .result ≡ number-at s = (c .before .query-door .ensures ∙ (λ i. queryDoor (engine-of (c .before .before .before .before .before .before .before .before .before .before .before .before .before .before .before .before .before .before .before .before .before .before .before .before .before .before .before)) ((c .before .before .both4 .ensures ∙ (λ j. c .before .before .before .before .before .at-most3 .ensures j && (c .before .before .before .both3 .ensures ∙ (λ k. c .before .before .before .before .at-most4 .ensures k && (c .before .before .before .before .before .before .both2 .ensures ∙ (λ l. c .before .before .before .before .before .before .before .before .before .at-most .ensures l && (c .before .before .before .before .before .before .before .both .ensures ∙ (λ m. c .before .before .before .before .before .before .before .before .at-most2 .ensures m && c .before .before .before .before .before .before .before .before .before .before .scratch-long .ensures m)) l)) k)) j)) i) true 0)) in
     let f : number-at s ≡ 0 → ⊥ = λ e. c .if1 .left (d ∙ e) in (
       record {
-        answer = done-no (number-at s) (c .before .query-door .result) d (c .if1 .left);
+        answer = refuses-of d (c .if1 .left);
         weights-left = sym (after-refused (number-at s) (each (s .args .c .vertices) (boundaryWeight (graphIn (engine-of s)) (weightsIn (engine-of s)))) (s .args .out-weight .now) f);
         vertices-left = sym (after-refused (number-at s) (each (s .args .c .vertices) (boundaryVertex (graphIn (engine-of s)) (weightsIn (engine-of s)))) (s .args .out-vertex .now) f);
       },

@@ -15,7 +15,7 @@ use Rattle.walks.specs.Answers.{table}
 use Rattle.complete_graph.specs.declared.End.the-variants.{None}
 use Rattle.query_questions.specs.Queries.{graphIn, weightsIn, scratchLong}
 use Rattle.complete_graph.specs.Steps.{tableDoor}
-use Rattle.searches.proofs.Asked.{done-zero, done-no}
+use Rattle.answers.proofs.Said.{accepts-of, refuses-of}
 use Rattle.complete_graph.proofs.Sources.{table-weights-length}
 use Rattle.prebuilt_complete_graph.specs.Rows.{row, rowDoor}
 use Rattle.prebuilt_entries.specs.Entries.{rowEntry}
@@ -135,7 +135,7 @@ returns c =
     let lb = length-take-le (s .args .c .vertices) (s .args .boundary .now) (k .long .columns .boundary) in
     let bytes : List ℕ = take (s .args .c .vertices) (s .args .boundary .now) in (
       record {
-        answer = done-zero (number-at s) z;
+        answer = accepts-of z;
         out-left = c .before .write-row .ensures ∙ (λ i. sets (w i) 0 (each (lb i) (rowEntry bytes (s .args .nearest .now) (s .args .vertex .0) (w i))))
             ∙ row-over bytes (s .args .nearest .now) (s .args .vertex .0) (table (graphIn (engine-of s)) (weightsIn (engine-of s)) (s .args .vertex .0) none .weights) (s .args .out .now) (s .args .c .vertices) lt (k .out-long)
             ∙ sym (after-accepted (number-at s) (row (graphIn (engine-of s)) (weightsIn (engine-of s)) (s .args .nearest .now) (s .args .vertex .0)) (s .args .out .now) z);
@@ -150,7 +150,7 @@ returns-2 c =
     let d : c .before .query-door .result ≡ number-at s = row-number (engine-of s) (scratch-at s) (s .args .vertex .0) _ _ _ (c .before .query-door .ensures) (c .before .before .before .before .both3 .ensures) (c .before .before .before .before .before .both2 .ensures) (c .before .before .before .before .before .before .both .ensures) (c .before .before .before .before .before .before .before .before .before .at-most .ensures) (c .before .before .before .before .before .before .before .before .at-most2 .ensures) (c .before .before .before .before .before .before .before .at-most3 .ensures) (c .before .before .before .before .before .before .before .before .before .before .scratch-long .ensures) in
     let f : number-at s ≡ 0 → ⊥ = λ e. c .if1 .left (d ∙ e) in (
       record {
-        answer = done-no (number-at s) (c .before .query-door .result) d (c .if1 .left);
+        answer = refuses-of d (c .if1 .left);
         out-left = sym (after-refused (number-at s) (row (graphIn (engine-of s)) (weightsIn (engine-of s)) (s .args .nearest .now) (s .args .vertex .0)) (s .args .out .now) f);
       },
       (refl, refl),

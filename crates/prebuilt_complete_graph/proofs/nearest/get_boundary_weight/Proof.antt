@@ -9,7 +9,6 @@ use lib.ListN.{length, getD, take}
 use lib.Seq.{length-take-le}
 use lib.IntN.{ℤ}
 use Rattle.columns.specs.Lists.{over, after}
-use Rattle.columns.specs.Answers.{numberOf}
 use Rattle.columns.proofs.Columns.{after-accepted, after-refused}
 use Rattle.neighbors.proofs.Ends.{GraphSound, graph-says}
 use Rattle.engine_columns.specs.Records.{Engine, engine}
@@ -22,7 +21,7 @@ use Rattle.complete_graph.proofs.Sources.{table-weights-length}
 use Rattle.prebuilt_entries.specs.Nearest.{boundaryIn}
 use Rattle.prebuilt_entries.proofs.Amounts.{cut-fits}
 use Rattle.prebuilt_complete_graph.specs.Nearest.{boundaryFound, boundaryReply}
-use Rattle.prebuilt_complete_graph.proofs.Replies.{number-done, kept-of, reply-no, boundary-free}
+use Rattle.prebuilt_complete_graph.proofs.Replies.{kept-of, reply-no, boundary-free}
 use borrow.Author.Needs.{needs}
 use Rattle.prebuilt_complete_graph.proofs.nearest.get_boundary_weight.Statement.{statement}
 use Rattle.prebuilt_complete_graph.proofs.nearest.get_boundary_weight.Tie as tie
@@ -45,7 +44,7 @@ number-then : (c : tie.Then1) → number-at (c .before .before .before .before .
 unfolding number-at engine-of scratch-at
 number-then c =
     let s : tie.Start = c .before .before .before .before .before .before .before .before .before .before .before .before .before .before .before .before .before .before .before .before .before .before .before .before .before .before .before .before .before .before .before .before .before .before .before .before .before .before .before .before .before .before .before in
-    sym (c .before .number .ensures ∙ ap numberOf (c .before .before .before .before .before .before .before .before .before .before .before .before .before .before .before .before .before .before .before .all-edges .ensures .0 .answer) ∙ number-done (number-at s)) ∙ c .if1 .taken
+    sym (c .before .number .ensures ∙ c .before .before .before .before .before .before .before .before .before .before .before .before .before .before .before .before .before .before .before .all-edges .ensures .0 .answer .number-is) ∙ c .if1 .taken
 
 all-edges-requires : tie.Need-all-edges-requires
 all-edges-requires c κs = tt
@@ -171,7 +170,7 @@ returns-2 : tie.Need-returns-2
 unfolding number-at engine-of scratch-at
 returns-2 c =
     let s : tie.Start = c .before .before .before .before .before .before .before .before .before .before .before .before .before .before .before .before .before .before .before .before .before .before .before .before .before .before .before .before .before .before .before .before .before .before .before .before .before .before .before .before .before .before .before in
-    let d : c .before .number .result ≡ number-at s = c .before .number .ensures ∙ ap numberOf (c .before .before .before .before .before .before .before .before .before .before .before .before .before .before .before .before .before .before .before .all-edges .ensures .0 .answer) ∙ number-done (number-at s) in
+    let d : c .before .number .result ≡ number-at s = c .before .number .ensures ∙ c .before .before .before .before .before .before .before .before .before .before .before .before .before .before .before .before .before .before .before .all-edges .ensures .0 .answer .number-is in
     let f : number-at s ≡ 0 → ⊥ = λ e. c .if1 .left (d ∙ e) in (
       reply-no (number-at s) (c .before .number .result) (graphIn (engine-of s)) (weightsIn (engine-of s)) (s .args .vertex .0) d (c .if1 .left),
       (

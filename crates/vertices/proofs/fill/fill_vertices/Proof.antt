@@ -2,6 +2,8 @@
 use mathlib.Core.Path.{_≡_, refl, sym, ap, _∙_}
 use lib.ListN.{replicate}
 use Rattle.columns.specs.Answers.{done}
+use Rattle.answers.proofs.Said.{accepts-of}
+use Rattle.answers.proofs.Done.{said-of}
 use Rattle.columns.specs.Places.{zeroFloat}
 use Rattle.columns.proofs.Columns.{after-accepted, after-refused}
 use Rattle.neighbors.specs.Lists.{lists, degrees}
@@ -76,7 +78,7 @@ returns c =
     let m = fill-met v e a b col z in
     let w = c .before .before .before .before .write-lists .ensures in
     record {
-      answers = ap done (sym z);
+      answers = accepts-of z;
       i-left = c .before .before .before .before .before .before .before .before .before .before .before .before .before .before .before .before .before .before .before .before .before .before .before .before .before .fill-f64 .ensures ∙ fill-after v q (s .pos-i .now) zeroFloat z (m .i);
       j-left = c .before .before .before .before .before .before .before .before .before .before .before .before .before .before .before .before .before .before .before .before .before .fill-f642 .ensures ∙ fill-after v q (s .pos-j .now) zeroFloat z (m .j);
       t-left = c .before .before .before .before .before .before .before .before .before .before .before .before .before .before .before .before .before .fill-f643 .ensures ∙ fill-after v q (s .pos-t .now) zeroFloat z (m .t);
@@ -122,7 +124,7 @@ returns-2 c =
     let d = c .before .before .fill-door .ensures in
     let f : q ≡ 0 → ⊥ = λ x. c .before .if1 .left (d ∙ x) in
     record {
-      answers = c .done-of .ensures ∙ ap done d;
+      answers = said-of _ _ (c .done-of .ensures ∙ ap done d);
       i-left = sym (after-refused q (replicate v zeroFloat) (s .pos-i .now) f);
       j-left = sym (after-refused q (replicate v zeroFloat) (s .pos-j .now) f);
       t-left = sym (after-refused q (replicate v zeroFloat) (s .pos-t .now) f);

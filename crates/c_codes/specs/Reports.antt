@@ -11,7 +11,7 @@ use Rattle.verdicts.specs.Sanity.{refusalNumber, verdictNumber, firstValue, sec
 use Rattle.code_access.specs.declared.ListCount.{ListCount}
 use Rattle.code_access.specs.declared.SyndromeCounts.{SyndromeCounts}
 use Rattle.vertex_marks.specs.declared.Truth.{Truth}
-use Rattle.code_access.specs.Answers.{listNumber, listCount, syndromeNumber, defectCount, erasureCount}
+use Rattle.code_access.specs.Answers.{listSaid, syndromeSaid}
 use Rattle.vertex_marks.specs.Marked.{truthNumber, truthValue}
 use Rattle.c_reports.specs.declared.OneCount.{OneCount}
 use Rattle.c_reports.specs.declared.TwoCounts.{TwoCounts}
@@ -39,13 +39,13 @@ pub record ReportsVerdict (a : Verdict) (r : VerdictReport) : Type 0 where
   pub second : r .second ≡ secondValue a
 
 pub record ReportsList (a : ListCount) (r : OneCount) : Type 0 where
-  pub number : r .number ≡ listNumber a
-  pub count : r .count ≡ listCount a
+  pub number : r .number ≡ listSaid a .number
+  pub count : r .count ≡ listSaid a .values
 
 pub record ReportsCounts (a : SyndromeCounts) (r : TwoCounts) : Type 0 where
-  pub number : r .number ≡ syndromeNumber a
-  pub first : r .first ≡ defectCount a
-  pub second : r .second ≡ erasureCount a
+  pub number : r .number ≡ syndromeSaid a .number
+  pub first : r .first ≡ syndromeSaid a .values .0
+  pub second : r .second ≡ syndromeSaid a .values .1
 
 pub record ReportsTruth (a : Truth) (r : TruthReport) : Type 0 where
   pub number : r .number ≡ truthNumber a

@@ -7,19 +7,16 @@ use native.Mathlib.Omega.{arith}
 use native.Mathlib.Decide.{ℕ-discrete}
 use lib.ListN.{length, getD}
 use Rattle.columns.specs.Lists.{each, over}
-use Rattle.answers.proofs.Said.{zero-of}
+use Rattle.answers.proofs.Said.{zero-of, values-of}
 use Rattle.columns.specs.declared.Done.the-variants.{Accepted}
 use Rattle.columns.proofs.Columns.{over-in, after-accepted}
 use Rattle.columns.proofs.Counting.{length-each, getD-each}
 use Rattle.neighbors.specs.Lists.{chosen}
-use Rattle.code_access.specs.declared.ListCount.the-variants.{Count, Refused}
+use Rattle.code_access.specs.declared.ListCount.the-variants.{Count}
 use Rattle.code_access.specs.declared.SyndromeCounts.the-variants.{Counts}
-use Rattle.code_access.specs.declared.SyndromeCounts.the-variants as syndrome
-use Rattle.code_access.specs.Answers.{counted, bothCounted}
 use Rattle.marks.specs.Marks.{isSet, listed, names, marks}
 use Rattle.code_access.specs.Calls.{setDoor, SetMarks, getDoor, GotMarks, Syndrome, setSyndromeDoor, SetSyndrome, getSyndromeDoor, GotSyndrome}
 use Rattle.marks.proofs.Listing.{Passes, chosen-at, chosen-has, chosen-ascends, chosen-same}
-use Rattle.code_room.proofs.Doors.{answer-no}
 
 -- the numbers below n that a list names, each once, ascending
 pub record SortedNames (n : ℕ) (list xs : List ℕ) : Type 0 where
@@ -46,18 +43,6 @@ listed-marks n list column =
     chosen-same n _ _ (λ k h.
     ap isSet (over-in (each n f) column 0 k (omega (arith, length-each n f)) ∙ getD-each n f 0 k h) ∙ set-mark (names list k))
 
-counted-zero : (q count n : ℕ) → Count count ≡ counted q n → (q ≡ 0) × (count ≡ n)
-counted-zero zero count n e = (refl, cc)
-counted-zero (suc q) count n e =
-    let r : Count count ≡ Refused (suc q) = e ∙ answer-no (suc q) (Count n) Refused (λ z. omega arith) in
-    absurd (let z : _≡_ {A = ℕ} 0 1 = cc in omega arith)
-
-both-zero : (q d e m n : ℕ) → Counts d e ≡ bothCounted q m n → (q ≡ 0) × ((d ≡ m) × (e ≡ n))
-both-zero zero d e m n p = (refl, (cc, cc))
-both-zero (suc q) d e m n p =
-    let r : Counts d e ≡ syndrome.Refused (suc q) = p ∙ answer-no (suc q) (Counts m n) syndrome.Refused (λ z. omega arith) in
-    absurd (let z : _≡_ {A = ℕ} 0 1 = cc in omega arith)
-
 -- what a getter hands back where a setter's list was named
 pub record ListsNames (n : ℕ) (list room out : List ℕ) (count : ℕ) : Type 0 where
   pub left : out ≡ over (chosen n (names list)) room
@@ -73,10 +58,10 @@ pub set-then-get : {sound : Bool} {n : ℕ} {list before column room out : List 
     → SetMarks sound n list before column Accepted → GotMarks sound n column room out (Count count) → ListsNames n list room out count
 set-then-get {sound} {n} {list} {before} {column} {room} {out} {count} s g =
     let zs = zero-of (s .answers) in
-    let zg = counted-zero (getDoor sound n column room) count (length (listed n column)) (g .answers) in
+    let zg = zero-of (g .answers) in
     got n (getDoor sound n column room) count list before column room out
-    (s .left ∙ after-accepted (setDoor sound n list before) (marks n list) before zs) (zg .0)
-    (g .left ∙ after-accepted (getDoor sound n column room) (listed n column) room (zg .0)) (zg .1)
+    (s .left ∙ after-accepted (setDoor sound n list before) (marks n list) before zs) zg
+    (g .left ∙ after-accepted (getDoor sound n column room) (listed n column) room zg) (values-of (g .answers) zg)
 
 -- get_syndrome after set_syndrome
 pub set-then-get-syndrome : {v e : ℕ} {lists before column room out : Syndrome} {defects erasures : ℕ}
@@ -86,11 +71,12 @@ set-then-get-syndrome {v} {e} {lists} {before} {column} {room} {out} {defects} {
     let q = getSyndromeDoor v e column room in
     let p = setSyndromeDoor v e lists before in
     let zs = zero-of (s .answers) in
-    let zg = both-zero q defects erasures (length (listed v (column .defects))) (length (listed e (column .erasures))) (g .answers) in (
+    let zg = zero-of (g .answers) in
+    let counts = values-of (g .answers) zg in (
       got v q defects (lists .defects) (before .defects) (column .defects) (room .defects) (out .defects)
-          (s .defects-left ∙ after-accepted p (marks v (lists .defects)) (before .defects) zs) (zg .0)
-          (g .defects-left ∙ after-accepted q (listed v (column .defects)) (room .defects) (zg .0)) (zg .1 .0),
+          (s .defects-left ∙ after-accepted p (marks v (lists .defects)) (before .defects) zs) zg
+          (g .defects-left ∙ after-accepted q (listed v (column .defects)) (room .defects) zg) (ap (λ (c : ℕ × ℕ). c .0) counts),
       got e q erasures (lists .erasures) (before .erasures) (column .erasures) (room .erasures) (out .erasures)
-          (s .erasures-left ∙ after-accepted p (marks e (lists .erasures)) (before .erasures) zs) (zg .0)
-          (g .erasures-left ∙ after-accepted q (listed e (column .erasures)) (room .erasures) (zg .0)) (zg .1 .1),
+          (s .erasures-left ∙ after-accepted p (marks e (lists .erasures)) (before .erasures) zs) zg
+          (g .erasures-left ∙ after-accepted q (listed e (column .erasures)) (room .erasures) zg) (ap (λ (c : ℕ × ℕ). c .1) counts),
     )

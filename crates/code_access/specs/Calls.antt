@@ -16,7 +16,7 @@ use Rattle.marks.specs.Marks.{listed, marks}
 use Rattle.whole_weights.specs.Weights.{weights}
 use Rattle.code_access.specs.declared.ListCount.{ListCount}
 use Rattle.code_access.specs.declared.SyndromeCounts.{SyndromeCounts}
-use Rattle.code_access.specs.Answers.{counted, bothCounted}
+use Rattle.code_access.specs.Answers.{listSaid, syndromeSaid}
 
 -- ---- get_initializer
 
@@ -56,7 +56,7 @@ initializerDoor v e c to = ask (initializerLong v e c to) 6 (ask (codeSound v e 
 
 -- the call: its answer, and what stands in the columns that it writes, before it and afterwards
 pub record GotInitializer (v e : ℕ) (c : Code) (before column : Initializer) (answer : ListCount) : Type 0 where
-  pub answers : answer ≡ counted (initializerDoor v e c before) (length (listed v (c .boundary)))
+  pub answers : Answered (listSaid answer) (initializerDoor v e c before) (length (listed v (c .boundary))) 0
   pub endsA-left : column .endsA ≡ after (initializerDoor v e c before) (take e (c .endsA)) (before .endsA)
   pub endsB-left : column .endsB ≡ after (initializerDoor v e c before) (take e (c .endsB)) (before .endsB)
   pub weight-left : column .weight ≡ after (initializerDoor v e c before) (weights e (c .halfWeight)) (before .weight)
@@ -101,7 +101,7 @@ abbrev pub getDoor : (sound : Bool) (n : ℕ) (column list : List ℕ) → ℕ
 getDoor sound n column list = ask (leb n (length column) && leb n (length list)) 6 (ask (sound && marksSound n column) 7 0)
 
 pub record GotMarks (sound : Bool) (n : ℕ) (column before list : List ℕ) (answer : ListCount) : Type 0 where
-  pub answers : answer ≡ counted (getDoor sound n column before) (length (listed n column))
+  pub answers : Answered (listSaid answer) (getDoor sound n column before) (length (listed n column)) 0
   pub left : list ≡ after (getDoor sound n column before) (listed n column) before
 
 -- ---- get_syndrome: both, each question of both before the next
@@ -112,6 +112,6 @@ getSyndromeDoor v e column lists =
     (ask (countsSound v e && (marksSound v (column .defects) && marksSound e (column .erasures))) 7 0)
 
 pub record GotSyndrome (v e : ℕ) (column before lists : Syndrome) (answer : SyndromeCounts) : Type 0 where
-  pub answers : answer ≡ bothCounted (getSyndromeDoor v e column before) (length (listed v (column .defects))) (length (listed e (column .erasures)))
+  pub answers : Answered (syndromeSaid answer) (getSyndromeDoor v e column before) (length (listed v (column .defects)), length (listed e (column .erasures))) (0, 0)
   pub defects-left : lists .defects ≡ after (getSyndromeDoor v e column before) (listed v (column .defects)) (before .defects)
   pub erasures-left : lists .erasures ≡ after (getSyndromeDoor v e column before) (listed e (column .erasures)) (before .erasures)

@@ -2,11 +2,10 @@
 use mathlib.Core.Path.{_≡_, refl, sym, ap, _∙_}
 use lib.ListN.{length, take}
 use Rattle.columns.proofs.Columns.{copy-after, after-accepted, after-refused}
-use Rattle.code_access.specs.declared.ListCount.the-variants.{Count, Refused}
 use Rattle.marks.specs.Marks.{listed}
 use Rattle.whole_weights.specs.Weights.{weights}
 use Rattle.code_access.specs.Calls.{code, initializer, initializerDoor}
-use Rattle.code_room.proofs.Doors.{answer-zero, answer-no}
+use Rattle.answers.proofs.Said.{accepts-of, refuses-of}
 use Rattle.code_access.proofs.Doors.{initializer-met}
 use borrow.Author.Needs.{needs}
 use Rattle.code_access.proofs.get_initializer.Statement.{statement}
@@ -66,7 +65,7 @@ returns c =
     let vs = listed v (s .boundary .now) in
     let p = c .before .before .list-set .ensures in
     record {
-      answers = ap Count (p .0) ∙ sym (answer-zero q (Count (length vs)) Refused z);
+      answers = rw (p .0) (accepts-of z);
       endsA-left = c .before .before .before .before .before .before .before .before .before .before .before .before .before .before .copy-u32 .ensures ∙ copy-after e q (s .to-a .now) (s .ends-a .now) z (m .a) (m .to-a);
       endsB-left = c .before .before .before .before .before .before .before .before .before .before .copy-u322 .ensures ∙ copy-after e q (s .to-b .now) (s .ends-b .now) z (m .b) (m .to-b);
       weight-left = c .before .before .before .before .before .before .store-weights .ensures ∙ sym (after-accepted q (weights e (s .half-weight .now)) (s .to-weight .now) z);
@@ -97,7 +96,7 @@ returns-2 c =
     let d = c .before .initializer-door .ensures in
     let g : q ≡ 0 → ⊥ = λ x. c .if1 .left (d ∙ x) in
     record {
-      answers = ap Refused d ∙ sym (answer-no q (Count (length vs)) Refused g);
+      answers = refuses-of d (c .if1 .left);
       endsA-left = sym (after-refused q (take e (s .ends-a .now)) (s .to-a .now) g);
       endsB-left = sym (after-refused q (take e (s .ends-b .now)) (s .to-b .now) g);
       weight-left = sym (after-refused q (weights e (s .half-weight .now)) (s .to-weight .now) g);

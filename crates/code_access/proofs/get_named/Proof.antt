@@ -2,10 +2,9 @@
 use mathlib.Core.Path.{_≡_, refl, sym, ap, _∙_}
 use lib.ListN.{length}
 use Rattle.columns.proofs.Columns.{after-accepted, after-refused}
-use Rattle.code_access.specs.declared.ListCount.the-variants.{Count, Refused}
 use Rattle.marks.specs.Marks.{listed}
 use Rattle.code_access.specs.Calls.{getDoor}
-use Rattle.code_room.proofs.Doors.{answer-zero, answer-no}
+use Rattle.answers.proofs.Said.{accepts-of, refuses-of}
 use Rattle.code_access.proofs.Doors.{get-met}
 use Rattle.code_access.proofs.get_named.Statement.{statement}
 use Rattle.code_access.proofs.get_named.Tie as tie
@@ -51,7 +50,7 @@ returns c =
     let z : q ≡ 0 = sym (number (c .before .before .before .before .before)) ∙ c .before .before .before .before .if1 .taken in
     let p = c .before .before .list-set .ensures in
     record {
-      answers = ap Count (p .0) ∙ sym (answer-zero q (Count (length vs)) Refused z);
+      answers = rw (p .0) (accepts-of z);
       left = p .1 ∙ sym (after-accepted q vs (s .list .now) z);
     }
 
@@ -63,7 +62,7 @@ returns-2 c =
     let d = number (c .before) in
     let g : q ≡ 0 → ⊥ = λ e. c .if1 .left (d ∙ e) in
     record {
-      answers = ap Refused d ∙ sym (answer-no q (Count (length vs)) Refused g);
+      answers = refuses-of d (c .if1 .left);
       left = sym (after-refused q vs (s .list .now) g);
     }
 

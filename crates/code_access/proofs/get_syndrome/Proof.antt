@@ -2,10 +2,9 @@
 use mathlib.Core.Path.{_≡_, refl, sym, ap, _∙_}
 use lib.ListN.{length}
 use Rattle.columns.proofs.Columns.{after-accepted, after-refused}
-use Rattle.code_access.specs.declared.SyndromeCounts.the-variants.{Counts, Refused}
 use Rattle.marks.specs.Marks.{listed}
 use Rattle.code_access.specs.Calls.{syndrome, getSyndromeDoor}
-use Rattle.code_room.proofs.Doors.{answer-zero, answer-no}
+use Rattle.answers.proofs.Said.{accepts-of, refuses-of}
 use Rattle.code_access.proofs.Doors.{get-syndrome-met}
 use borrow.Author.Needs.{needs}
 use Rattle.code_access.proofs.get_syndrome.Statement.{statement}
@@ -54,7 +53,7 @@ returns c =
     let p = c .before .before .before .before .before .before .list-set .ensures in
     let r = c .before .before .list-set2 .ensures in
     record {
-      answers = (λ i. Counts (p .0 i) (r .0 i)) ∙ sym (answer-zero q (Counts (length ds) (length es)) Refused z);
+      answers = rw (p .0, r .0) (accepts-of z);
       defects-left = p .1 ∙ sym (after-accepted q ds (s .defect-list .now) z);
       erasures-left = r .1 ∙ sym (after-accepted q es (s .erasure-list .now) z);
     }
@@ -78,7 +77,7 @@ returns-2 c =
     let d = c .before .get-syndrome-door .ensures in
     let g : q ≡ 0 → ⊥ = λ x. c .if1 .left (d ∙ x) in
     record {
-      answers = ap Refused d ∙ sym (answer-no q (Counts (length ds) (length es)) Refused g);
+      answers = refuses-of d (c .if1 .left);
       defects-left = sym (after-refused q ds (s .defect-list .now) g);
       erasures-left = sym (after-refused q es (s .erasure-list .now) g);
     }

@@ -12,7 +12,7 @@ use Rattle.code_access.specs.declared.ListCount.{ListCount}
 use Rattle.code_access.specs.declared.SyndromeCounts.{SyndromeCounts}
 use Rattle.vertex_marks.specs.declared.Truth.{Truth}
 use Rattle.code_access.specs.Answers.{listSaid, syndromeSaid}
-use Rattle.vertex_marks.specs.Marked.{truthNumber, truthValue}
+use Rattle.vertex_marks.specs.Marked as marked
 use Rattle.c_reports.specs.declared.OneCount.{OneCount}
 use Rattle.c_reports.specs.declared.TwoCounts.{TwoCounts}
 use Rattle.c_codes.specs.declared.reports.WeighedReport.{WeighedReport}
@@ -48,5 +48,5 @@ pub record ReportsCounts (a : SyndromeCounts) (r : TwoCounts) : Type 0 where
   pub second : r .second ≡ syndromeSaid a .values .1
 
 pub record ReportsTruth (a : Truth) (r : TruthReport) : Type 0 where
-  pub number : r .number ≡ truthNumber a
-  pub value : r .value ≡ truthValue a
+  pub number : r .number ≡ marked.said a .number
+  pub value : r .value ≡ marked.said a .values

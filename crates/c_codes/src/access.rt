@@ -2,9 +2,8 @@ ghost use Rattle.c_reports.specs.Reports.{Reported, ReportsDone};
 ghost use Rattle.c_codes.specs.Reports.{ReportsCounts, ReportsList, ReportsTruth};
 ghost use Rattle.code_positions.specs.Positions.{positions, GotPositions};
 ghost use Rattle.code_access.specs.Calls.{code, initializer, GotInitializer, SetMarks, syndrome, SetSyndrome, GotMarks, GotSyndrome};
-ghost use Rattle.vertex_marks.specs.Marked.{isMarked};
+ghost use Rattle.vertex_marks.specs.Marked.{IsMarked};
 ghost use Rattle.columns.specs.Questions.{vertexCountSound, edgeCountSound, boundariesSound, marksSound};
-ghost use mathlib.Core.Path.{_≡_};
 use super::reports::TruthReport;
 use super::reports::counts_report;
 use super::reports::list_report;
@@ -172,7 +171,7 @@ pub extern "C" fn moldingcress_is_virtual(
     boundary: &[u8],
     vertex: u32,
 ) -> TruthReport
-    ensures { λ q. ⌜ Reported ReportsTruth (λ r. r ≡ isMarked (boundariesSound «vertex_num» (now (boundary .entry))) «vertex_num» (now (boundary .entry)) vertex) q ⌝ }
+    ensures { λ q. ⌜ Reported ReportsTruth (IsMarked (boundariesSound «vertex_num» (now (boundary .entry))) «vertex_num» (now (boundary .entry)) vertex) q ⌝ }
 {
     truth_report(code_access::is_virtual(vertex_num, boundary, VertexIndex(vertex)))
 }
@@ -180,7 +179,7 @@ pub extern "C" fn moldingcress_is_virtual(
 // Whether a vertex is a defect.
 #[no_mangle]
 pub extern "C" fn moldingcress_is_defect(vertex_num: u32, defect: &[u8], vertex: u32) -> TruthReport
-    ensures { λ q. ⌜ Reported ReportsTruth (λ r. r ≡ isMarked (marksSound «vertex_num» (now (defect .entry))) «vertex_num» (now (defect .entry)) vertex) q ⌝ }
+    ensures { λ q. ⌜ Reported ReportsTruth (IsMarked (marksSound «vertex_num» (now (defect .entry))) «vertex_num» (now (defect .entry)) vertex) q ⌝ }
 {
     truth_report(code_access::is_defect(vertex_num, defect, VertexIndex(vertex)))
 }

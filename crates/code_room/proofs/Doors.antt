@@ -1,10 +1,10 @@
 -- What a question that is met says. Assumes nothing.
-use mathlib.Core.Path.{_≡_, refl, sym, ap, _∙_}
-use mathlib.Core.Bool.{Bool, true, false, _&&_, cond}
+use mathlib.Core.Path.{_≡_, refl}
+use mathlib.Core.Bool.{Bool, true, false, _&&_}
 use Prim.Native.Nat.{ℕ, suc, _≤_}
 use native.Mathlib.Omega.{arith}
-use lib.Dec.{leb, eqb}
-use borrow.Author.Tests.{leb-true, ne-eqb}
+use lib.Dec.{leb}
+use borrow.Author.Tests.{leb-true}
 use Rattle.columns.specs.Questions.{ask}
 use Rattle.columns.proofs.Tests.{and-both}
 use Rattle.code_room.specs.Room.{threeLong}
@@ -17,14 +17,6 @@ met false number next e = absurd (omega arith)
 pub goes-on : (b : Bool) (number next : ℕ) → ask b (suc number) next ≡ 0 → next ≡ 0
 goes-on true number next e = e
 goes-on false number next e = absurd (omega arith)
-
--- an answer with values: accepted, and refused
-module _ {A : Type 0} where
-  pub answer-zero : (q : ℕ) (x : A) (f : ℕ → A) → q ≡ 0 → cond (eqb q 0) x (f q) ≡ x
-  answer-zero q x f e = ap (λ (k : ℕ). cond (eqb k 0) x (f k)) e
-
-  pub answer-no : (q : ℕ) (x : A) (f : ℕ → A) → (q ≡ 0 → ⊥) → cond (eqb q 0) x (f q) ≡ f q
-  answer-no q x f h = simp (ne-eqb q 0 h)
 
 pub both-long : (n a m b : ℕ) → (leb n a && leb m b) ≡ true → (n ≤ a) × (m ≤ b)
 both-long n a m b e = let (p, q) = and-both (leb n a) (leb m b) e in (leb-true n a p, leb-true m b q)

@@ -1,29 +1,23 @@
 -- is_virtual, is_defect: which question refuses (0 for none), and the answer.
 use Prim.Native.Nat.{ℕ}
-use mathlib.Core.Bool.{Bool, false, _&&_, cond}
+use mathlib.Core.Bool.{Bool, false, _&&_}
 use mathlib.Core.List.{List}
-use lib.Dec.{eqb, leb, ltb}
+use lib.Dec.{leb, ltb}
 use lib.ListN.{length, getD}
 use Rattle.columns.specs.Questions.{ask, vertexCountSound}
+use Rattle.answers.specs.Said.{Said, accepts, refuses, Answered}
 use Rattle.marks.specs.Marks.{isSet}
 use Rattle.vertex_marks.specs.declared.Truth.{Truth}
 use Rattle.vertex_marks.specs.declared.Truth.the-variants as truth
 
 -- document 01's number and value for each case of the answer: 0 where the call was accepted; the value is false where it was refused
-abbrev pub truthNumber : Truth → ℕ
-truthNumber (truth.Is value) = 0
-truthNumber (truth.Refused number) = number
-
-abbrev pub truthValue : Truth → Bool
-truthValue (truth.Is value) = value
-truthValue (truth.Refused number) = false
-
-abbrev pub told : ℕ → Bool → Truth
-told number value = cond (eqb number 0) (truth.Is value) (truth.Refused number)
+abbrev pub said : Truth → Said Bool
+said (truth.Is value) = accepts value
+said (truth.Refused number) = refuses number false
 
 -- `sound` is question 7 of the bytes
 abbrev pub isDoor : (sound : Bool) (v : ℕ) (column : List ℕ) (vertex : ℕ) → ℕ
 isDoor sound v column vertex = ask (leb v (length column)) 6 (ask (vertexCountSound v && sound) 7 (ask (ltb vertex v) 13 0))
 
-abbrev pub isMarked : (sound : Bool) (v : ℕ) (column : List ℕ) (vertex : ℕ) → Truth
-isMarked sound v column vertex = told (isDoor sound v column vertex) (isSet (getD column vertex 0))
+abbrev pub IsMarked : (sound : Bool) (v : ℕ) (column : List ℕ) (vertex : ℕ) → Truth → Type 0
+IsMarked sound v column vertex r = Answered (said r) (isDoor sound v column vertex) (isSet (getD column vertex 0)) false

@@ -7,9 +7,8 @@ use columns::questions::boundaries_sound;
 use columns::questions::marks_sound;
 use columns::questions::vertex_count_sound;
 use marks::is_set;
-ghost use mathlib.Core.Path.{_≡_};
 ghost use Rattle.columns.specs.Questions.{boundariesSound, marksSound};
-ghost use Rattle.vertex_marks.specs.Marked.{isMarked};
+ghost use Rattle.vertex_marks.specs.Marked.{IsMarked};
 
 // What a call answers that is asked about one vertex.
 pub enum Truth {
@@ -19,7 +18,7 @@ pub enum Truth {
 
 // Whether the byte of a vertex is set; `sound` is question 7 of the bytes.
 fn is_marked(sound: bool, vertex_num: u32, column: &[u8], vertex: u32) -> Truth
-    ensures { λ r. ⌜ r ≡ isMarked sound «vertex_num» (now (column .entry)) vertex ⌝ }
+    ensures { λ r. ⌜ IsMarked sound «vertex_num» (now (column .entry)) vertex r ⌝ }
 {
     let long = at_most(vertex_num as usize, column.len());
     let both_sound = both(vertex_count_sound(vertex_num), sound);
@@ -37,7 +36,7 @@ fn is_marked(sound: bool, vertex_num: u32, column: &[u8], vertex: u32) -> Truth
 
 // Whether a vertex is virtual.
 pub fn is_virtual(vertex_num: u32, boundary: &[u8], vertex: VertexIndex) -> Truth
-    ensures { λ r. ⌜ r ≡ isMarked (boundariesSound «vertex_num» (now (boundary .entry))) «vertex_num» (now (boundary .entry)) (vertex .0) ⌝ }
+    ensures { λ r. ⌜ IsMarked (boundariesSound «vertex_num» (now (boundary .entry))) «vertex_num» (now (boundary .entry)) (vertex .0) r ⌝ }
 {
     is_marked(
         boundaries_sound(boundary, vertex_num as usize),
@@ -49,7 +48,7 @@ pub fn is_virtual(vertex_num: u32, boundary: &[u8], vertex: VertexIndex) -> Trut
 
 // Whether a vertex is a defect.
 pub fn is_defect(vertex_num: u32, defect: &[u8], vertex: VertexIndex) -> Truth
-    ensures { λ r. ⌜ r ≡ isMarked (marksSound «vertex_num» (now (defect .entry))) «vertex_num» (now (defect .entry)) (vertex .0) ⌝ }
+    ensures { λ r. ⌜ IsMarked (marksSound «vertex_num» (now (defect .entry))) «vertex_num» (now (defect .entry)) (vertex .0) r ⌝ }
 {
     is_marked(
         marks_sound(defect, vertex_num as usize),

@@ -1,4 +1,5 @@
 -- `vertex_marks::is_defect` meets its contract. Assumes nothing.
+use mathlib.Core.Path.{sym}
 use Rattle.vertex_marks.proofs.is_defect.Statement.{statement}
 use Rattle.vertex_marks.proofs.is_defect.Tie as tie
 
@@ -9,7 +10,7 @@ is-marked-requires : tie.Need-is-marked-requires
 is-marked-requires c κs = tt
 
 returns : tie.Need-returns
-returns c = cc
+returns c = rw (sym (c .before .marks-sound .ensures)) (c .is-marked .ensures)
 
 pub is-defect-spec : {M : Type 1} → statement M
 is-defect-spec = tie.close (tie.spec marks-sound-requires is-marked-requires returns)

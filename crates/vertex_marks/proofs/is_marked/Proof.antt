@@ -1,14 +1,12 @@
 -- `vertex_marks::is_marked` meets its contract. Assumes nothing.
-use mathlib.Core.Path.{_≡_, refl, sym, ap, _∙_}
+use mathlib.Core.Path.{_≡_, sym, ap, _∙_}
 use native.Mathlib.Omega.{arith}
 use mathlib.Core.Bool.{_&&_}
-use lib.ListN.{getD, length}
+use lib.ListN.{length}
 use lib.Dec.{leb}
 use Rattle.columns.specs.Questions.{ask, vertexCountSound}
-use Rattle.vertex_marks.specs.declared.Truth.the-variants.{Is, Refused}
-use Rattle.marks.specs.Marks.{isSet}
 use Rattle.vertex_marks.specs.Marked.{isDoor}
-use Rattle.code_room.proofs.Doors.{answer-zero, answer-no}
+use Rattle.answers.proofs.Said.{accepts-of, refuses-of}
 use Rattle.vertex_marks.proofs.Below.{is-met}
 use Rattle.vertex_marks.proofs.is_marked.Statement.{statement}
 use Rattle.vertex_marks.proofs.is_marked.Tie as tie
@@ -53,14 +51,10 @@ returns c =
     let s = c .before .before .before .before .before .before .before .before .before .before .args in
     let q = isDoor (s .sound) (s .vertex-num) (s .column .now) (s .vertex) in
     let z : q ≡ 0 = sym (number (c .before .before .before)) ∙ c .before .before .if1 .taken in
-    ap Is (c .is-set .ensures) ∙ sym (answer-zero q (Is (isSet (getD (s .column .now) (s .vertex) 0))) Refused z)
+    rw (c .is-set .ensures) (accepts-of z)
 
 returns-2 : tie.Need-returns-2
-returns-2 c =
-    let s = c .before .before .before .before .before .before .before .before .args in
-    let q = isDoor (s .sound) (s .vertex-num) (s .column .now) (s .vertex) in
-    let d = number (c .before) in
-    ap Refused d ∙ sym (answer-no q (Is (isSet (getD (s .column .now) (s .vertex) 0))) Refused (λ e. c .if1 .left (d ∙ e)))
+returns-2 c = refuses-of (number (c .before)) (c .if1 .left)
 
 pub is-marked-spec : {M : Type 1} → statement M
 is-marked-spec =

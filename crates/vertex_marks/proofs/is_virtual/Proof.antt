@@ -1,4 +1,5 @@
 -- `vertex_marks::is_virtual` meets its contract. Assumes nothing.
+use mathlib.Core.Path.{sym}
 use Rattle.vertex_marks.proofs.is_virtual.Statement.{statement}
 use Rattle.vertex_marks.proofs.is_virtual.Tie as tie
 
@@ -9,7 +10,7 @@ is-marked-requires : tie.Need-is-marked-requires
 is-marked-requires c κs = tt
 
 returns : tie.Need-returns
-returns c = cc
+returns c = rw (sym (c .before .boundaries-sound .ensures)) (c .is-marked .ensures)
 
 pub is-virtual-spec : {M : Type 1} → statement M
 is-virtual-spec = tie.close (tie.spec boundaries-sound-requires is-marked-requires returns)

@@ -25,8 +25,8 @@ pub record ReportsCreated (a : Created) (r : TwoCounts) : Type 0 where
   pub second : r .second ≡ created.edgesIn a
 
 pub record ReportsCount (a : Count) (r : OneCount) : Type 0 where
-  pub number : r .number ≡ count.numberOf a
-  pub count : r .count ≡ count.valueOf a
+  pub number : r .number ≡ count.said a .number
+  pub count : r .count ≡ count.said a .values
 
 pub record ReportsWeighed (a : WeightOfP) (r : WeighedReport) : Type 0 where
   pub number : r .number ≡ said a .number

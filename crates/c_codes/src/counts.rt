@@ -1,14 +1,13 @@
 ghost use Rattle.c_reports.specs.Reports.{Reported};
 ghost use Rattle.c_codes.specs.Reports.{ReportsCount};
-ghost use Rattle.code_questions.specs.Answers.{vertexNumAnswer, edgeNumAnswer};
-ghost use mathlib.Core.Path.{_≡_};
+ghost use Rattle.code_questions.specs.Answers.{CountsVertices, CountsEdges};
 use super::reports::count_report;
 use c_reports::OneCount;
 
 // How many vertices a code has: questions 2 to 5.
 #[no_mangle]
 pub extern "C" fn moldingcress_vertex_num(kind: u32, d: u32, rounds: u32) -> OneCount
-    ensures { λ q. ⌜ Reported ReportsCount (λ r. r ≡ vertexNumAnswer kind d rounds) q ⌝ }
+    ensures { λ q. ⌜ Reported ReportsCount (CountsVertices kind d rounds) q ⌝ }
 {
     count_report(example_codes::vertex_num(kind, d, rounds))
 }
@@ -16,7 +15,7 @@ pub extern "C" fn moldingcress_vertex_num(kind: u32, d: u32, rounds: u32) -> One
 // How many edges a code has: questions 2 to 5.
 #[no_mangle]
 pub extern "C" fn moldingcress_edge_num(kind: u32, d: u32, rounds: u32) -> OneCount
-    ensures { λ q. ⌜ Reported ReportsCount (λ r. r ≡ edgeNumAnswer kind d rounds) q ⌝ }
+    ensures { λ q. ⌜ Reported ReportsCount (CountsEdges kind d rounds) q ⌝ }
 {
     count_report(example_codes::edge_num(kind, d, rounds))
 }

@@ -25,7 +25,8 @@ use Rattle.weights.specs.Calls.{isLargestHalfWeight, halfWeights, largestWeight
 use Rattle.edge_weights.specs.Probabilities.{isProbability}
 use Rattle.columns.specs.Limits.{edgeLimit}
 use Rattle.code_questions.specs.declared.Count.the-variants.{Counted, Refused}
-use Rattle.code_questions.specs.Answers.{vertexNumAnswer}
+use Rattle.answers.proofs.Said.{accepts-of, refuses-of}
+use Rattle.code_questions.specs.Answers.{CountsVertices}
 use Rattle.edge_weights.specs.Rounding.{halfWeight}
 use Rattle.weights.proofs.Theorems.{zero-among}
 use Rattle.edge_pairs.specs.Pairs.{endsDiffer, pairsApart}
@@ -75,9 +76,9 @@ zeros-asked max (suc n) column h one few long =
     λ i. ask (room i) 6 (ask (le-leb (suc n) edgeLimit few i) 7 (ask (h i) 8 (ask ((ap (all isProbability) t ∙ all-zero (suc n)) i) 9 (ask ((ap (λ xs. someAbove (edgeWeights xs)) t ∙ some-infinite n) i) 10 0))))
 
 -- an even distance is refused for every kind
-even : (kind rounds : ℕ) → kindKnown kind ≡ true → vertexNumAnswer kind 4 rounds ≡ Refused 3
+even : (kind rounds : ℕ) → kindKnown kind ≡ true → CountsVertices kind 4 rounds (Refused 3)
 unfolding codeRefusal distanceSound
-even kind rounds h = rw h
+even kind rounds h = refuses-of (rw h) (λ e. absurd (omega arith))
 
 -- ---- the listing's graph, written out
 
@@ -161,14 +162,14 @@ unfolding edgesOf layered each joined rows width layerEdges gapEdges rotatedLaye
 starred = record {
   kind-5-edges = refl;
   kind-5-boundary = refl;
-  kind-4-vertices = refl;
-  kind-4-edges = refl;
-  kind-6-vertices = refl;
-  kind-6-edges = refl;
-  kind-2-d-63 = refl;
-  kind-2-d-65 = refl;
-  kind-3-rounds-340 = refl;
-  kind-3-rounds-341 = refl;
+  kind-4-vertices = accepts-of refl;
+  kind-4-edges = accepts-of refl;
+  kind-6-vertices = accepts-of refl;
+  kind-6-edges = accepts-of refl;
+  kind-2-d-63 = accepts-of refl;
+  kind-2-d-65 = refuses-of refl (λ e. absurd (omega arith));
+  kind-3-rounds-340 = accepts-of refl;
+  kind-3-rounds-341 = refuses-of refl (λ e. absurd (omega arith));
   d-4 = even;
   path-3-2 = refl;
   path-3-2-asked = asked-0;

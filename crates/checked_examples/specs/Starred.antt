@@ -10,7 +10,7 @@ use Rattle.code_columns.specs.Edges.{Ends, firsts, seconds, boundaries}
 use Rattle.layers.specs.Codes.{edgesOf, verticesOf}
 use Rattle.code_questions.specs.declared.Count.{Count}
 use Rattle.code_questions.specs.declared.Count.the-variants.{Counted, Refused}
-use Rattle.code_questions.specs.Answers.{vertexNumAnswer, edgeNumAnswer}
+use Rattle.code_questions.specs.Answers.{CountsVertices, CountsEdges}
 use Rattle.weights.specs.Calls.{isLargestHalfWeight, halfWeights, computeDoor}
 use Rattle.columns.specs.Limits.{edgeLimit}
 use Rattle.layers.specs.Accepts.{kindKnown}
@@ -50,18 +50,18 @@ pub record StarredExamples : Type 0 where
   pub kind-5-edges : edgesOf 5 3 0 ≡ (0, 2) ∷ (0, 3) ∷ (1, 3) ∷ (2, 4) ∷ (3, 4) ∷ (3, 5) ∷ (4, 6) ∷ (4, 7) ∷ (5, 7) ∷ []
   pub kind-5-boundary : boundaries (verticesOf 5 3 0) ≡ 0 ∷ 2 ∷ 1 ∷ 0 ∷ 0 ∷ 2 ∷ 1 ∷ 0 ∷ []
   -- "d 3, kind 4, rounds 1: 24 vertices, 41 edges. Kind 6: 16 and 26."
-  pub kind-4-vertices : vertexNumAnswer 4 3 1 ≡ Counted 24
-  pub kind-4-edges : edgeNumAnswer 4 3 1 ≡ Counted 41
-  pub kind-6-vertices : vertexNumAnswer 6 3 1 ≡ Counted 16
-  pub kind-6-edges : edgeNumAnswer 6 3 1 ≡ Counted 26
+  pub kind-4-vertices : CountsVertices 4 3 1 (Counted 24)
+  pub kind-4-edges : CountsEdges 4 3 1 (Counted 41)
+  pub kind-6-vertices : CountsVertices 6 3 1 (Counted 16)
+  pub kind-6-edges : CountsEdges 6 3 1 (Counted 26)
   -- "Kind 2: d 63 gives 4,032 vertices; d 65 refuses 5."
-  pub kind-2-d-63 : vertexNumAnswer 2 63 0 ≡ Counted 4032
-  pub kind-2-d-65 : vertexNumAnswer 2 65 0 ≡ Refused 5
+  pub kind-2-d-63 : CountsVertices 2 63 0 (Counted 4032)
+  pub kind-2-d-65 : CountsVertices 2 65 0 (Refused 5)
   -- "Kind 3, d 3: rounds 340 gives 4,092; 341 refuses 5."
-  pub kind-3-rounds-340 : vertexNumAnswer 3 3 340 ≡ Counted 4092
-  pub kind-3-rounds-341 : vertexNumAnswer 3 3 341 ≡ Refused 5
+  pub kind-3-rounds-340 : CountsVertices 3 3 340 (Counted 4092)
+  pub kind-3-rounds-341 : CountsVertices 3 3 341 (Refused 5)
   -- "d 4: 3." For every kind.
-  pub d-4 : (kind rounds : ℕ) → kindKnown kind ≡ true → vertexNumAnswer kind 4 rounds ≡ Refused 3
+  pub d-4 : (kind rounds : ℕ) → kindKnown kind ≡ true → CountsVertices kind 4 rounds (Refused 3)
   -- "The listing's graph: path 3 to 2 is (0,1000) (1,1000) (2,1000), total 3000;"
   pub path-3-2 : path (graphIn (listingAfter [])) (weightsIn (listingAfter [])) 3 2
       ≡ some (record { vertices = 0 ∷ 1 ∷ 2 ∷ []; steps = 1000 ∷ 1000 ∷ 1000 ∷ []; total = 3000 })

@@ -10,9 +10,6 @@ use Rattle.columns.specs.Questions.{ask}
 use Rattle.layers.specs.Counts.{vertexNum}
 use Rattle.layers.specs.Accepts.{kindKnown, distanceSound, roundsSound, codeRefusal}
 use Rattle.layers.proofs.Accepted.{distance-says, rounds-says}
-use Rattle.code_questions.specs.declared.Count.{Count}
-use Rattle.code_questions.specs.declared.Count.the-variants.{Counted, Refused}
-use Rattle.code_questions.specs.Answers.{counted}
 
 -- two questions that are met, or the first that is not
 both-met : (a b : Bool) (m n x y : ℕ) → (a ≡ true → b ≡ true → x ≡ y) → ask a m (ask b n x) ≡ ask a m (ask b n y)
@@ -30,14 +27,6 @@ question-5 kind d rounds next d′ rounds′ f g =
     let e : d′ ≡ d = f (s .three) (s .few) in
     let h : rounds′ ≡ rounds = g (rounds-says kind rounds q .0) in
     λ k. ask (leb (vertexNum kind (e k) (h k)) vertexLimit) 5 next))
-
--- the answer by cases
-pub refused-count : (q r n : ℕ) → q ≡ r → (q ≡ 0 → ⊥) → Refused q ≡ counted r n
-refused-count zero r n e f = absurd (f refl)
-refused-count (suc q) r n e f = ap (λ (k : ℕ). counted k n) e
-
-pub counted-count : (r m n : ℕ) → r ≡ 0 → m ≡ n → Counted m ≡ counted r n
-counted-count r m n e f = ap Counted f ∙ sym (ap (λ (k : ℕ). counted k n) e)
 
 -- the questions, asked one after another
 pub told : (r a b c v next : ℕ) (met₂ met₃ met₄ q₂ q₃ q₄ : Bool) (n : ℕ) → r ≡ ask met₂ 2 a → a ≡ ask met₃ 3 b → b ≡ ask met₄ 4 c → c ≡ ask (leb v vertexLimit) 5 next

@@ -1,30 +1,22 @@
 -- What the calls answer that count the vertices or edges of a code.
-use Prim.Native.Nat.{ℕ, zero, suc, min, max}
+use Prim.Native.Nat.{ℕ, min, max}
+use Rattle.answers.specs.Said.{Said, accepts, refuses, Answered}
 use Rattle.code_questions.specs.declared.Count.{Count}
 use Rattle.code_questions.specs.declared.Count.the-variants.{Counted, Refused}
 use Rattle.layers.specs.Counts.{vertexNum, edgeNum}
 use Rattle.layers.specs.Accepts.{codeRefusal}
 
 -- document 01's number for each case, and the value: 0 where the call was refused
-abbrev pub numberOf : Count → ℕ
-numberOf (Counted n) = 0
-numberOf (Refused number) = number
-
-abbrev pub valueOf : Count → ℕ
-valueOf (Counted n) = n
-valueOf (Refused number) = 0
-
--- the case for a question's number, and the count
-abbrev pub counted : (number n : ℕ) → Count
-counted zero n = Counted n
-counted (suc q) n = Refused (suc q)
+abbrev pub said : Count → Said ℕ
+said (Counted n) = accepts n
+said (Refused number) = refuses number 0
 
 -- `vertex_num` and `edge_num`: questions 2 to 5, then the count
-abbrev pub vertexNumAnswer : (kind d rounds : ℕ) → Count
-vertexNumAnswer kind d rounds = counted (codeRefusal kind d rounds 0) (vertexNum kind d rounds)
+abbrev pub CountsVertices : (kind d rounds : ℕ) → Count → Type 0
+CountsVertices kind d rounds r = Answered (said r) (codeRefusal kind d rounds 0) (vertexNum kind d rounds) 0
 
-abbrev pub edgeNumAnswer : (kind d rounds : ℕ) → Count
-edgeNumAnswer kind d rounds = counted (codeRefusal kind d rounds 0) (edgeNum kind d rounds)
+abbrev pub CountsEdges : (kind d rounds : ℕ) → Count → Type 0
+CountsEdges kind d rounds r = Answered (said r) (codeRefusal kind d rounds 0) (edgeNum kind d rounds) 0
 
 -- the number of 3 to 4,095 nearest to d, and the number of 0 to 4,095 nearest to the rounds
 abbrev pub distanceWithin : ℕ → ℕ

@@ -2,7 +2,7 @@
 ghost use mathlib.Core.Path.{_≡_};
 ghost use Prim.Native.Nat.{_≤_, _<_};
 ghost use Rattle.layers.specs.Accepts.{kindKnown, distanceSound, roundsSound, codeRefusal};
-ghost use Rattle.code_questions.specs.Answers.{vertexNumAnswer, edgeNumAnswer, distanceWithin, roundsWithin};
+ghost use Rattle.code_questions.specs.Answers.{CountsVertices, CountsEdges, distanceWithin, roundsWithin};
 use columns::VERTEX_LIMIT;
 use columns::questions::asked;
 use columns::questions::both;
@@ -87,7 +87,7 @@ pub fn code_refusal(kind: u32, d: u32, rounds: u32, next: u32) -> u32
 
 // How many vertices a code has.
 pub fn vertex_num(kind: u32, d: u32, rounds: u32) -> Count
-    ensures { λ r. ⌜ r ≡ vertexNumAnswer kind d rounds ⌝ }
+    ensures { λ r. ⌜ CountsVertices kind d rounds r ⌝ }
 {
     let q = code_refusal(kind, d, rounds, 0);
     if q != 0 {
@@ -98,7 +98,7 @@ pub fn vertex_num(kind: u32, d: u32, rounds: u32) -> Count
 
 // How many edges a code has.
 pub fn edge_num(kind: u32, d: u32, rounds: u32) -> Count
-    ensures { λ r. ⌜ r ≡ edgeNumAnswer kind d rounds ⌝ }
+    ensures { λ r. ⌜ CountsEdges kind d rounds r ⌝ }
 {
     let q = code_refusal(kind, d, rounds, 0);
     if q != 0 {

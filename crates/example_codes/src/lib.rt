@@ -2,8 +2,7 @@
 pub mod create;
 
 use code_questions::Count;
-ghost use mathlib.Core.Path.{_≡_};
-ghost use Rattle.code_questions.specs.Answers.{vertexNumAnswer, edgeNumAnswer};
+ghost use Rattle.code_questions.specs.Answers.{CountsVertices, CountsEdges};
 
 // The counts of vertices and edges of a built code, or the number of the question that was answered no.
 pub enum Created {
@@ -13,14 +12,14 @@ pub enum Created {
 
 // How many vertices a code has: questions 2 to 5.
 pub fn vertex_num(kind: u32, d: u32, rounds: u32) -> Count
-    ensures { λ r. ⌜ r ≡ vertexNumAnswer kind d rounds ⌝ }
+    ensures { λ r. ⌜ CountsVertices kind d rounds r ⌝ }
 {
     code_questions::vertex_num(kind, d, rounds)
 }
 
 // How many edges a code has: questions 2 to 5.
 pub fn edge_num(kind: u32, d: u32, rounds: u32) -> Count
-    ensures { λ r. ⌜ r ≡ edgeNumAnswer kind d rounds ⌝ }
+    ensures { λ r. ⌜ CountsEdges kind d rounds r ⌝ }
 {
     code_questions::edge_num(kind, d, rounds)
 }

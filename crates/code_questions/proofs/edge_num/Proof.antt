@@ -2,7 +2,7 @@
 use mathlib.Core.Path.{sym, _∙_}
 use native.Mathlib.Omega.{arith}
 use Rattle.layers.proofs.Accepted.{accepted, edges-few}
-use Rattle.code_questions.proofs.Clamped.{refused-count, counted-count}
+use Rattle.answers.proofs.Said.{accepts-of, refuses-of}
 use Rattle.code_questions.proofs.edge_num.Statement.{statement}
 use Rattle.code_questions.proofs.edge_num.Tie as tie
 
@@ -10,7 +10,7 @@ code-refusal-requires : tie.Need-code-refusal-requires
 code-refusal-requires c κs = tt
 
 returns : tie.Need-returns
-returns c = refused-count _ _ _ (c .before .code-refusal .ensures) (c .if1 .taken)
+returns c = refuses-of (c .before .code-refusal .ensures) (c .if1 .taken)
 
 edge-num-requires : tie.Need-edge-num-requires
 edge-num-requires c κs =
@@ -23,7 +23,7 @@ cast-t7 c =
     omega (arith, edges-few (c .before .before .before .args .kind) (c .before .before .before .args .d) (c .before .before .before .args .rounds) ok, c .edge-num .ensures .0)
 
 returns-2 : tie.Need-returns-2
-returns-2 c = counted-count _ _ _ (sym (c .before .before .code-refusal .ensures) ∙ c .before .if1 .left) (c .edge-num .ensures .0)
+returns-2 c = rw (c .edge-num .ensures .0) (accepts-of (sym (c .before .before .code-refusal .ensures) ∙ c .before .if1 .left))
 
 pub edge-num-spec : {M : Type 1} → statement M
 edge-num-spec =

@@ -2,7 +2,7 @@
 use mathlib.Core.Path.{sym, _∙_}
 use native.Mathlib.Omega.{arith}
 use Rattle.layers.proofs.Accepted.{accepted}
-use Rattle.code_questions.proofs.Clamped.{refused-count, counted-count}
+use Rattle.answers.proofs.Said.{accepts-of, refuses-of}
 use Rattle.code_questions.proofs.vertex_num.Statement.{statement}
 use Rattle.code_questions.proofs.vertex_num.Tie as tie
 
@@ -10,7 +10,7 @@ code-refusal-requires : tie.Need-code-refusal-requires
 code-refusal-requires c κs = tt
 
 returns : tie.Need-returns
-returns c = refused-count _ _ _ (c .before .code-refusal .ensures) (c .if1 .taken)
+returns c = refuses-of (c .before .code-refusal .ensures) (c .if1 .taken)
 
 vertex-num-requires : tie.Need-vertex-num-requires
 vertex-num-requires c κs =
@@ -23,7 +23,7 @@ cast-t7 c =
     omega (arith, ok .few-vertices, c .vertex-num .ensures)
 
 returns-2 : tie.Need-returns-2
-returns-2 c = counted-count _ _ _ (sym (c .before .before .code-refusal .ensures) ∙ c .before .if1 .left) (c .vertex-num .ensures)
+returns-2 c = rw (c .vertex-num .ensures) (accepts-of (sym (c .before .before .code-refusal .ensures) ∙ c .before .if1 .left))
 
 pub vertex-num-spec : {M : Type 1} → statement M
 vertex-num-spec =

@@ -23,16 +23,13 @@ use Rattle.code_graphs.proofs.Distance.{codes-have-distance}
 use Rattle.example_codes.specs.declared.Created.{Created}
 use Rattle.example_codes.specs.declared.Created.the-variants.{Code, Refused}
 use Rattle.example_codes.specs.Columns.{CodeColumns}
-use Rattle.example_codes.specs.CreateCode.{numberOf, verticesIn, edgesIn, created, refusal, refusalIn, newColumns, CreateCode}
+use Rattle.example_codes.specs.CreateCode.{refusal, refusalIn, newColumns, CreateCode}
+use Rattle.example_codes.proofs.Cases.{code-case}
 use Rattle.diagonals.specs.declared.DiagonalProbability.{DiagonalProbability}
 use Rattle.weighted_codes.specs.NewCode.{newRefusal, newRefusalIn, WeightedCode}
 use Rattle.acceptance.specs.Listed.{graphIn}
 use Rattle.acceptance.specs.Called as Called
 use Rattle.acceptance.specs.Called.{CodeBuilt}
-
-created-of : (q vs es v e : ℕ) → Code v e ≡ created q vs es → (q ≡ 0) × (v ≡ vs) × (e ≡ es)
-created-of zero vs es v e p = (refl, ap verticesIn p, ap edgesIn p)
-created-of (suc q) vs es v e p = absurd (omega (arith, ap numberOf p))
 
 accepted-code : (kind d rounds : ℕ) (c : CodeColumns) → refusalIn kind d rounds c ≡ 0 → Buildable kind d rounds
 unfolding refusal
@@ -67,7 +64,7 @@ columns-say kind d rounds q v e a₀ b₀ m₀ a b m ok (z, p, r) in-a in-b in-m
 create-says : (kind d rounds : ℕ) (lent back : CodeColumns) (v e : ℕ) → CreateCode kind d rounds lent back (Code v e)
     → BuiltGraph kind d rounds v e (back .endsA) (back .endsB) (back .boundary)
 create-says kind d rounds lent back v e h =
-    let k = created-of (refusalIn kind d rounds lent) (vertexNum kind d rounds) (edgeNum kind d rounds) v e (h .answer) in
+    let k = code-case (h .answer) in
     columns-say kind d rounds (refusalIn kind d rounds lent) v e (lent .endsA) (lent .endsB) (lent .boundary) _ _ _ (accepted-code kind d rounds lent (k .0)) k (h .ends-a) (h .ends-b) (h .boundary)
 
 accepted-new : (kind d rounds : ℕ) (p : Float) (diagonal : DiagonalProbability) (max : ℕ) (c : CodeColumns) → newRefusalIn kind d rounds p diagonal max c ≡ 0 → Buildable kind d rounds
@@ -78,7 +75,7 @@ weighted-says : (kind d rounds : ℕ) (p : Float) (diagonal : DiagonalProbabilit
     → WeightedCode kind d rounds p diagonal max lent back (Code v e) → BuiltGraph kind d rounds v e (back .endsA) (back .endsB) (back .boundary)
 weighted-says kind d rounds p diagonal max lent back v e h =
     let q = newRefusalIn kind d rounds p diagonal max lent in
-    let k = created-of q (vertexNum kind d rounds) (edgeNum kind d rounds) v e (h .answer) in
+    let k = code-case (h .answer) in
     columns-say kind d rounds q v e (lent .endsA) (lent .endsB) (lent .boundary) _ _ _ (accepted-new kind d rounds p diagonal max lent (k .0)) k
     (h .columns .ends-a) (h .columns .ends-b) (h .columns .boundary)
 

@@ -20,9 +20,9 @@ use Rattle.c_codes.specs.declared.reports.TruthReport.{TruthReport}
 use Rattle.c_codes.specs.declared.reports.VerdictReport.{VerdictReport}
 
 pub record ReportsCreated (a : Created) (r : TwoCounts) : Type 0 where
-  pub number : r .number ≡ created.numberOf a
-  pub first : r .first ≡ created.verticesIn a
-  pub second : r .second ≡ created.edgesIn a
+  pub number : r .number ≡ created.said a .number
+  pub first : r .first ≡ created.said a .values .0
+  pub second : r .second ≡ created.said a .values .1
 
 pub record ReportsCount (a : Count) (r : OneCount) : Type 0 where
   pub number : r .number ≡ count.said a .number

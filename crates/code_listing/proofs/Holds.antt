@@ -29,7 +29,9 @@ use Rattle.weights.proofs.Theorems.{within}
 use Rattle.example_codes.specs.declared.Created.{Created}
 use Rattle.example_codes.specs.declared.Created.the-variants.{Code, Refused}
 use Rattle.example_codes.specs.Columns.{CodeColumns, edgeRoom, vertexRoom}
-use Rattle.example_codes.specs.CreateCode.{numberOf, verticesIn, edgesIn, created, newColumns}
+use Rattle.answers.proofs.Said.{refused-of}
+use Rattle.example_codes.specs.CreateCode.{newColumns}
+use Rattle.example_codes.proofs.Cases.{code-case}
 use Rattle.weighted_codes.specs.Probabilities.{probabilities, diagonalOf}
 use Rattle.weighted_codes.specs.NewCode.{newRefusalIn, weightedColumns, NewCode}
 use Rattle.weighted_codes.proofs.Outcome.{sized}
@@ -39,19 +41,6 @@ use Rattle.code_listing.specs.Steps.{HoldsCode, HoldsWeights}
 use Rattle.code_listing.proofs.Room.{CodeRoom, refusal-is}
 use Rattle.code_listing.proofs.Sizes.{ListOpen, list-opened}
 
--- ---- the answer
-
-accepted-answer : (q vs es v e : ℕ) → Code v e ≡ created q vs es → (q ≡ 0) × ((v ≡ vs) × (e ≡ es))
-accepted-answer zero vs es v e p = (refl, (ap verticesIn p, ap edgesIn p))
-accepted-answer (suc q) vs es v e p = absurd (let z : _≡_ {A = ℕ} 0 (suc q) = ap numberOf p in omega arith)
-
-refused-answer : (q vs es n : ℕ) → Refused n ≡ created q vs es → (n ≡ q) × (q ≡ 0 → ⊥)
-refused-answer zero vs es n p = absurd (other p)
-  where
-    other : Refused n ≡ Code vs es → ⊥
-    other e = let z : _≡_ {A = ℕ} 0 1 = cc in omega arith
-refused-answer (suc q) vs es n p = (ap numberOf p, λ z. omega arith)
-
 module _ (kind d rounds : ℕ) (p : Float) (max : ℕ) (lent back : CodeColumns) (room : CodeRoom lent) where
   refusal : newRefusalIn kind d rounds p (diagonalOf kind p) max lent ≡ listRefusal kind d rounds p max
   refusal = refusal-is kind d rounds p max _ _ _ (room .vertex-room) (room .edge-room) (room .numbers)
@@ -60,20 +49,19 @@ module _ (kind d rounds : ℕ) (p : Float) (max : ℕ) (lent back : CodeColumns)
   pub refused-text : (n : ℕ) → NewCode kind d rounds p max lent back (Refused n) → refusalLine n ≡ codeText kind d rounds p max
   unfolding codeText
   refused-text n c =
-      let w = refused-answer (newRefusalIn kind d rounds p (diagonalOf kind p) max lent) (vertexNum kind d rounds) (edgeNum kind d rounds) n (c .answer) in
-      let q : n ≡ listRefusal kind d rounds p max = w .0 ∙ refusal in
+      let q : n ≡ listRefusal kind d rounds p max = c .answer .number-is ∙ refusal in
       ap refusalLine q
-      ∙ sym (ap (λ (b : Bool). cond b (listingOf kind d rounds p max) (refusalLine (listRefusal kind d rounds p max))) (ne-eqb (listRefusal kind d rounds p max) 0 (λ z. w .1 (refusal ∙ z))))
+      ∙ sym (ap (λ (b : Bool). cond b (listingOf kind d rounds p max) (refusalLine (listRefusal kind d rounds p max))) (ne-eqb (listRefusal kind d rounds p max) 0 (λ z. refused-of (c .answer) (refusal ∙ z))))
 
   module _ (v e : ℕ) (c : NewCode kind d rounds p max lent back (Code v e)) where
     zero-number : newRefusalIn kind d rounds p (diagonalOf kind p) max lent ≡ 0
-    zero-number = accepted-answer (newRefusalIn kind d rounds p (diagonalOf kind p) max lent) (vertexNum kind d rounds) (edgeNum kind d rounds) v e (c .answer) .0
+    zero-number = code-case (c .answer) .0
 
     v-is : v ≡ vertexNum kind d rounds
-    v-is = accepted-answer (newRefusalIn kind d rounds p (diagonalOf kind p) max lent) (vertexNum kind d rounds) (edgeNum kind d rounds) v e (c .answer) .1 .0
+    v-is = code-case (c .answer) .1
 
     e-is : e ≡ edgeNum kind d rounds
-    e-is = accepted-answer (newRefusalIn kind d rounds p (diagonalOf kind p) max lent) (vertexNum kind d rounds) (edgeNum kind d rounds) v e (c .answer) .1 .1
+    e-is = code-case (c .answer) .2
 
     open′ : ListOpen kind d rounds max
     open′ = list-opened kind d rounds p max (sym refusal ∙ zero-number)

@@ -27,7 +27,8 @@ use Rattle.diagonals.specs.declared.DiagonalProbability.{DiagonalProbability}
 use Rattle.example_codes.specs.declared.Created.{Created}
 use Rattle.example_codes.specs.declared.Created.the-variants.{Code, Refused}
 use Rattle.example_codes.specs.Columns.{CodeColumns}
-use Rattle.example_codes.specs.CreateCode.{numberOf, verticesIn, edgesIn, created, refusal, refusalIn, newColumns}
+use Rattle.example_codes.specs.CreateCode.{refusal, refusalIn, newColumns}
+use Rattle.example_codes.proofs.Cases.{code-case}
 use Rattle.example_codes.proofs.Outcome.{degrees-same, lists-same}
 use Rattle.weighted_codes.specs.NewCode.{newRefusal, newRefusalIn}
 use Rattle.code_verdicts.specs.Claims.{GetsZero, CreatedCodesAreSound, NewCodesAreSound}
@@ -95,11 +96,6 @@ module _ (kind d rounds : ℕ) (ok : Accepted kind d rounds) where
     pub gets-zero : sanityAnswer v e a b (over ls l₀) (over ns n₀) ≡ verdictOf 0 0 0
     gets-zero = sound-verdict v e a b (over ls l₀) (over ns n₀) (built kind d rounds ok .graph a₀ b₀) some ends lengths-are numbers-are
 
--- an accepted answer has the number 0 and the counts
-number-of : (q vs es v e : ℕ) → Code v e ≡ created q vs es → (q ≡ 0) × ((v ≡ vs) × (e ≡ es))
-number-of zero vs es v e p = (refl, (ap verticesIn p, ap edgesIn p))
-number-of (suc q) vs es v e p = absurd (let z : _≡_ {A = ℕ} 0 (suc q) = ap numberOf p in omega arith)
-
 -- columns that were written hold the code
 module _ (kind d rounds q : ℕ) (lent back : CodeColumns) (z : q ≡ 0) (v e : ℕ) (ve : v ≡ vertexNum kind d rounds) (ee : e ≡ edgeNum kind d rounds) (ok : Accepted kind d rounds) where
   pub written-zero : back .endsA ≡ after q (newColumns kind d rounds .endsA) (lent .endsA) → back .endsB ≡ after q (newColumns kind d rounds .endsB) (lent .endsB)
@@ -114,12 +110,12 @@ module _ (kind d rounds q : ℕ) (lent back : CodeColumns) (z : q ≡ 0) (v e : 
 pub created-codes-are-sound : CreatedCodesAreSound
 unfolding refusal
 created-codes-are-sound kind d rounds lent back v e c =
-    let w = number-of (refusalIn kind d rounds lent) (vertexNum kind d rounds) (edgeNum kind d rounds) v e (c .answer) in
-    written-zero kind d rounds (refusalIn kind d rounds lent) lent back (w .0) v e (w .1 .0) (w .1 .1) (accepted kind d rounds _ (w .0) .0) (c .ends-a) (c .ends-b) (c .list-lengths) (c .neighbor-numbers)
+    let w = code-case (c .answer) in
+    written-zero kind d rounds (refusalIn kind d rounds lent) lent back (w .0) v e (w .1) (w .2) (accepted kind d rounds _ (w .0) .0) (c .ends-a) (c .ends-b) (c .list-lengths) (c .neighbor-numbers)
 
 pub new-codes-are-sound : NewCodesAreSound
 unfolding newRefusal
 new-codes-are-sound kind d rounds p diagonal max lent back v e c =
-    let w = number-of (newRefusalIn kind d rounds p diagonal max lent) (vertexNum kind d rounds) (edgeNum kind d rounds) v e (c .answer) in
+    let w = code-case (c .answer) in
     let h = c .columns in
-    written-zero kind d rounds (newRefusalIn kind d rounds p diagonal max lent) lent back (w .0) v e (w .1 .0) (w .1 .1) (accepted kind d rounds _ (w .0) .0) (h .ends-a) (h .ends-b) (h .list-lengths) (h .neighbor-numbers)
+    written-zero kind d rounds (newRefusalIn kind d rounds p diagonal max lent) lent back (w .0) v e (w .1) (w .2) (accepted kind d rounds _ (w .0) .0) (h .ends-a) (h .ends-b) (h .list-lengths) (h .neighbor-numbers)

@@ -25,7 +25,8 @@ use Rattle.code_graphs.proofs.AllEdges.{EdgeFacts, edge-facts}
 use Rattle.example_codes.specs.declared.Created.{Created}
 use Rattle.example_codes.specs.declared.Created.the-variants.{Code, Refused}
 use Rattle.example_codes.specs.Columns.{CodeColumns, shortest, edgeRoom, vertexRoom, longEnough}
-use Rattle.example_codes.specs.CreateCode.{created, refusal, refusalIn, newColumns, CodeCreated}
+use Rattle.answers.proofs.Said.{accepts-of, refuses-of}
+use Rattle.example_codes.specs.CreateCode.{refusal, refusalIn, newColumns, CodeCreated}
 use Rattle.example_codes.specs.Steps.{EdgeColumnsLong, EdgeColumnsFilled, VertexColumnsLong, VertexColumnsFilled}
 
 -- ---- the number, by the columns' lengths
@@ -129,11 +130,10 @@ yes : {A : Type 0} (q : ℕ) (vs lent : List A) {back : List A} → q ≡ 0 → 
 yes q vs lent z e = e ∙ sym (after-accepted q vs lent z)
 
 pub refused : (kind d rounds q n : ℕ) (lent : CodeColumns) → n ≡ q → (n ≡ 0 → ⊥) → CodeCreated kind d rounds q lent lent (Refused n)
-refused kind d rounds q zero lent e f = absurd (f refl)
-refused kind d rounds q (suc n) lent e f =
+refused kind d rounds q n lent e f =
     let g : q ≡ 0 → ⊥ = λ z. f (e ∙ z) in
     record {
-      answer = ap (λ (k : ℕ). created k (vertexNum kind d rounds) (edgeNum kind d rounds)) e;
+      answer = refuses-of e f;
       ends-a = sym (after-refused q (newColumns kind d rounds .endsA) (lent .endsA) g);
       ends-b = sym (after-refused q (newColumns kind d rounds .endsB) (lent .endsB) g);
       p = sym (after-refused q (newColumns kind d rounds .p) (lent .p) g);
@@ -160,7 +160,7 @@ module _ (kind d rounds q : ℕ) (lent back : CodeColumns) (z : q ≡ 0) (o : Op
       let pa : (k : ℕ) → k < edgeNum kind d rounds → getD (back .endsA) k 0 ≡ getD a k 0 = λ k h. ap (λ (r : List ℕ). getD r k 0) (x .in-a) ∙ first-at kind d rounds (o .ok) (lent .endsA) k h in
       let pb : (k : ℕ) → k < edgeNum kind d rounds → getD (back .endsB) k 0 ≡ getD b k 0 = λ k h. ap (λ (r : List ℕ). getD r k 0) (x .in-b) ∙ second-at kind d rounds (o .ok) (lent .endsB) k h in
       record {
-        answer = (λ i. Code (y .count i) (x .count i)) ∙ sym (ap (λ (k : ℕ). created k (vertexNum kind d rounds) (edgeNum kind d rounds)) z);
+        answer = rw (y .count, x .count) (accepts-of z);
         ends-a = yes q (newColumns kind d rounds .endsA) (lent .endsA) z (x .in-a);
         ends-b = yes q (newColumns kind d rounds .endsB) (lent .endsB) z (x .in-b);
         p = yes q (newColumns kind d rounds .p) (lent .p) z (x .in-p);

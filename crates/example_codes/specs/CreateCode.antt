@@ -1,11 +1,12 @@
 -- `create_code`: questions 2 to 6, the answer, and each column afterwards.
-use Prim.Native.Nat.{ℕ, zero, suc, _*_}
+use Prim.Native.Nat.{ℕ}
 use mathlib.Core.Path.{_≡_}
 use mathlib.Core.List.{List}
 use lib.ListN.{length, replicate}
 use Rattle.columns.specs.Lists.{after}
 use Rattle.columns.specs.Places.{zeroFloat}
 use Rattle.columns.specs.Questions.{ask}
+use Rattle.answers.specs.Said.{Said, accepts, refuses, Answered}
 use Rattle.neighbors.specs.Lists.{degrees, lists}
 use Rattle.code_columns.specs.Edges.{firsts, seconds, boundaries, positionsI, positionsJ, positionsT}
 use Rattle.layers.specs.Codes.{edgesOf, verticesOf}
@@ -16,22 +17,9 @@ use Rattle.example_codes.specs.declared.Created.the-variants.{Code, Refu
 use Rattle.example_codes.specs.Columns.{CodeColumns, edgeRoom, vertexRoom, longEnough}
 
 -- document 01's number for each case, and the values: 0 where the call was refused
-abbrev pub numberOf : Created → ℕ
-numberOf (Code vertices edges) = 0
-numberOf (Refused number) = number
-
-abbrev pub verticesIn : Created → ℕ
-verticesIn (Code vertices edges) = vertices
-verticesIn (Refused number) = 0
-
-abbrev pub edgesIn : Created → ℕ
-edgesIn (Code vertices edges) = edges
-edgesIn (Refused number) = 0
-
--- the case for a question's number, and the counts
-abbrev pub created : (number vertices edges : ℕ) → Created
-created zero vertices edges = Code vertices edges
-created (suc q) vertices edges = Refused (suc q)
+abbrev pub said : Created → Said (ℕ × ℕ)
+said (Code vertices edges) = accepts (vertices, edges)
+said (Refused number) = refuses number (0, 0)
 
 -- questions 2 to 6 in order: the number of the first that is answered no, 0 if there is none
 unfoldable pub refusal : (kind d rounds vertexRoom edgeRoom numbers : ℕ) → ℕ
@@ -61,7 +49,7 @@ newColumns kind d rounds = record {
 
 -- the answer, and the columns as they were lent and as they are handed back; q is the question's number
 pub record CodeCreated (kind d rounds q : ℕ) (lent back : CodeColumns) (r : Created) : Type 0 where
-  pub answer : r ≡ created q (vertexNum kind d rounds) (edgeNum kind d rounds)
+  pub answer : Answered (said r) q (vertexNum kind d rounds, edgeNum kind d rounds) (0, 0)
   pub ends-a : back .endsA ≡ after q (newColumns kind d rounds .endsA) (lent .endsA)
   pub ends-b : back .endsB ≡ after q (newColumns kind d rounds .endsB) (lent .endsB)
   pub p : back .p ≡ after q (newColumns kind d rounds .p) (lent .p)

@@ -37,7 +37,9 @@ use Rattle.weights.proofs.Largest.{some-above}
 use Rattle.example_codes.specs.declared.Created.{Created}
 use Rattle.example_codes.specs.declared.Created.the-variants.{Code, Refused}
 use Rattle.example_codes.specs.Columns.{CodeColumns, edgeRoom, vertexRoom, longEnough}
-use Rattle.example_codes.specs.CreateCode.{created, refusal, refusalIn, newColumns, CodeCreated}
+use Rattle.answers.specs.Said.{Answered}
+use Rattle.answers.proofs.Said.{refuses-of}
+use Rattle.example_codes.specs.CreateCode.{said, refusal, refusalIn, newColumns, CodeCreated}
 use Rattle.example_codes.proofs.Outcome.{Open, opened, edges-long}
 use Rattle.code_weights.specs.declared.Weighed.{Weighed}
 use Rattle.weighted_codes.specs.Probabilities.{positionOf, probabilities, diagonalOf}
@@ -109,9 +111,8 @@ kept-back q new lent f = record {
 }
 
 pub refused : (kind d rounds : ℕ) (p : Float) (diagonal : DiagonalProbability) (max q n : ℕ) (lent : CodeColumns) → n ≡ q → (n ≡ 0 → ⊥) → Weighted kind d rounds p diagonal max q lent lent (Refused n)
-refused kind d rounds p diagonal max q zero lent e f = absurd (f refl)
-refused kind d rounds p diagonal max q (suc n) lent e f = record {
-  answer = ap (λ (k : ℕ). created k (vertexNum kind d rounds) (edgeNum kind d rounds)) e;
+refused kind d rounds p diagonal max q n lent e f = record {
+  answer = refuses-of e f;
   columns = kept-back q (weightedColumns kind d rounds p diagonal max) lent (λ z. f (e ∙ z));
 }
 
@@ -248,7 +249,7 @@ module _ (kind d rounds : ℕ) (p : Float) (diagonal : DiagonalProbability) (max
       let h-is : h′ ≡ over hs (lent .halfWeight) = again (edgeNum kind d rounds) (replicate (edgeNum kind d rounds) zero) hs (lent .halfWeight) (length-replicate (edgeNum kind d rounds) zero) size-h (long .long-h) (wrote q₀ (newColumns kind d rounds .halfWeight) (lent .halfWeight) z₀ (m .half-weight)) in-h in
       let both : q₀ ≡ q = z₀ ∙ sym z in
       record {
-        answer = m .answer ∙ ap (λ (x : ℕ). created x (vertexNum kind d rounds) (edgeNum kind d rounds)) both;
+        answer = subst (λ (x : ℕ). Answered (said r) x (vertexNum kind d rounds, edgeNum kind d rounds) (0, 0)) both (m .answer);
         columns = record {
           ends-a = m .ends-a ∙ ap (λ (x : ℕ). after x (newColumns kind d rounds .endsA) (lent .endsA)) both;
           ends-b = m .ends-b ∙ ap (λ (x : ℕ). after x (newColumns kind d rounds .endsB) (lent .endsB)) both;

@@ -15,7 +15,8 @@ use Rattle.weights.specs.Calls.{edgeWeights, someAbove, isLargestHalfWeight, ha
 use Rattle.diagonals.specs.declared.DiagonalProbability.{DiagonalProbability}
 use Rattle.example_codes.specs.declared.Created.{Created}
 use Rattle.example_codes.specs.Columns.{CodeColumns, edgeRoom, vertexRoom, longEnough}
-use Rattle.example_codes.specs.CreateCode.{created, newColumns}
+use Rattle.answers.specs.Said.{Answered}
+use Rattle.example_codes.specs.CreateCode.{said, newColumns}
 use Rattle.weighted_codes.specs.Probabilities.{probabilities, diagonalOf}
 
 -- questions 2 to 6 and 8 to 10 in order: the number of the first that is answered no, 0 if there is none.
@@ -67,7 +68,7 @@ pub record HandedBack (q : ℕ) (new lent back : CodeColumns) : Type 0 where
 
 -- the answer and the columns of a code with a diagonal probability, by the question's number q
 pub record Weighted (kind d rounds : ℕ) (p : Float) (diagonal : DiagonalProbability) (max q : ℕ) (lent back : CodeColumns) (r : Created) : Type 0 where
-  pub answer : r ≡ created q (vertexNum kind d rounds) (edgeNum kind d rounds)
+  pub answer : Answered (said r) q (vertexNum kind d rounds, edgeNum kind d rounds) (0, 0)
   pub columns : HandedBack q (weightedColumns kind d rounds p diagonal max) lent back
 
 abbrev pub WeightedCode : (kind d rounds : ℕ) (p : Float) (diagonal : DiagonalProbability) (max : ℕ) (lent back : CodeColumns) (r : Created) → Type 0

@@ -19,5 +19,5 @@ pub record ReportsFound (a : ListAnswer) (r : OneCount) : Type 0 where
   pub count : r .count ≡ syndromes.listSaid a .values
 
 pub record ReportsTranslated (a : TranslatedAnswer) (r : LongCount) : Type 0 where
-  pub number : r .number ≡ translated.numberOf a
-  pub count : r .count ≡ translated.countOf a
+  pub number : r .number ≡ translated.countSaid a .number
+  pub count : r .count ≡ translated.countSaid a .values

@@ -13,7 +13,7 @@ use Rattle.columns.specs.Limits.{vertexLimit}
 use Rattle.columns.specs.Lists.{over, after}
 use Rattle.columns.specs.Questions.{ask, allBelow, marksSound}
 use Rattle.columns.specs.Answers.{done}
-use Rattle.answers.proofs.Said.{accepts-of}
+use Rattle.answers.proofs.Said.{accepts-of, refuses-of}
 use Rattle.answers.proofs.Done.{said-of}
 use Rattle.columns.specs.declared.Done.{Done}
 use Rattle.columns.specs.declared.Done.the-variants as done-is
@@ -23,7 +23,7 @@ use Rattle.columns.proofs.Doors.{met, goes-on, asks}
 use Rattle.reorder.specs.declared.TranslatedAnswer.{TranslatedAnswer}
 use Rattle.reorder.specs.declared.TranslatedAnswer.the-variants.{Count, Refused}
 use Rattle.orders.specs.Order.{noneTwice, oldToNew, renamed, moved}
-use Rattle.reorder.specs.Numbers.{buildDoor, BuiltOldToNew, count, translateDoor, TranslatedDefects}
+use Rattle.reorder.specs.Numbers.{buildDoor, BuiltOldToNew, translateDoor, TranslatedDefects}
 use Rattle.neighbors.specs.Steps.{sumTo}
 use Rattle.syndromes.specs.Records.{codeGraph, codeSound}
 use Rattle.syndromes.proofs.Accepting.{CodeSound, code-sound-of}
@@ -124,13 +124,13 @@ module _ (order list column : List ℕ) where
   translated-refused e f =
       let g : translateDoor order list column ≡ 0 → ⊥ = λ z. f (e ∙ z) in
       record {
-        answers = ap Refused e ∙ simp (ne-eqb (translateDoor order list column) 0 g);
+        answers = refuses-of e f;
         column-is = sym (after-refused (translateDoor order list column) (renamed order list) column g);
       }
 
   pub translated-accepted : {last : List ℕ} → translateDoor order list column ≡ 0 → last ≡ over (renamed order list) column → TranslatedDefects order list column (Count (length list)) last
   translated-accepted z q = record {
-    answers = ap (λ (k : ℕ). count k (length list)) (sym z);
+    answers = accepts-of z;
     column-is = q ∙ sym (after-accepted (translateDoor order list column) (renamed order list) column z);
   }
 

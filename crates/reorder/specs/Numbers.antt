@@ -1,14 +1,14 @@
 -- `build_old_to_new` and `translated_defect_to_reordered`: the order list's own length is the vertex count.
 use Prim.Native.Nat.{ℕ}
 use mathlib.Core.Path.{_≡_}
-use mathlib.Core.Bool.{Bool, _&&_, cond}
+use mathlib.Core.Bool.{_&&_}
 use mathlib.Core.List.{List}
 use lib.ListN.{length}
-use lib.Dec.{leb, eqb}
+use lib.Dec.{leb}
 use Rattle.columns.specs.Limits.{vertexLimit}
 use Rattle.columns.specs.Lists.{after}
 use Rattle.columns.specs.Questions.{ask, allBelow}
-use Rattle.answers.specs.Said.{Answered}
+use Rattle.answers.specs.Said.{Said, accepts, refuses, Answered}
 use Rattle.answers.specs.Done.{said}
 use Rattle.columns.specs.declared.Done.{Done}
 use Rattle.reorder.specs.declared.TranslatedAnswer.{TranslatedAnswer}
@@ -31,18 +31,10 @@ pub record BuiltOldToNew (order column₀ : List ℕ) (answer : Done) (column : 
 
 -- ---- translated_defect_to_reordered
 
--- document 01's number for each case, 0 where the call was accepted, and how many numbers were translated, 0 where it was refused
-abbrev pub numberOf : TranslatedAnswer → ℕ
-numberOf (Count n) = 0
-numberOf (Refused number) = number
-
-abbrev pub countOf : TranslatedAnswer → ℕ
-countOf (Count n) = n
-countOf (Refused number) = 0
-
--- the answer for a question's number, 0 where every question is met
-abbrev pub count : (number n : ℕ) → TranslatedAnswer
-count number n = cond (eqb number 0) (Count n) (Refused number)
+-- document 01's number for each case, and how many numbers were translated, 0 at a refusal
+abbrev pub countSaid : TranslatedAnswer → Said ℕ
+countSaid (Count n) = accepts n
+countSaid (Refused number) = refuses number 0
 
 -- questions 6, 11, 13 of both lists, and 14
 unfoldable pub translateDoor : (order list column : List ℕ) → ℕ
@@ -54,5 +46,5 @@ translateDoor order list column =
 
 -- a translated list keeps its order
 pub record TranslatedDefects (order list column₀ : List ℕ) (answer : TranslatedAnswer) (column : List ℕ) : Type 0 where
-  pub answers : answer ≡ count (translateDoor order list column₀) (length list)
+  pub answers : Answered (countSaid answer) (translateDoor order list column₀) (length list) 0
   pub column-is : column ≡ after (translateDoor order list column₀) (renamed order list) column₀

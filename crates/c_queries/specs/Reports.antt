@@ -1,7 +1,7 @@
 -- What is handed to C for each kind of answer.
 use mathlib.Core.Path.{_≡_}
 use Rattle.paths.specs.declared.PathAnswer.{PathAnswer}
-use Rattle.paths.specs.GetPath.{numberOf, lengthOf, totalOf}
+use Rattle.paths.specs.GetPath.{said}
 use Rattle.crossing_answers.specs.declared.CrossingReply.{CrossingReply}
 use Rattle.crossing_answers.specs.Crossing.{replyNumber, replyWeight}
 use Rattle.c_reports.specs.declared.OneCount.{OneCount}
@@ -9,9 +9,9 @@ use Rattle.c_reports.specs.declared.TwoCounts.{TwoCounts}
 
 -- the path's length and total
 pub record ReportsPath (a : PathAnswer) (r : TwoCounts) : Type 0 where
-  pub number : r .number ≡ numberOf a
-  pub first : r .first ≡ lengthOf a
-  pub second : r .second ≡ totalOf a
+  pub number : r .number ≡ said a .number
+  pub first : r .first ≡ said a .values .0
+  pub second : r .second ≡ said a .values .1
 
 -- the crossing weight
 pub record ReportsCrossing (a : CrossingReply) (r : OneCount) : Type 0 where

@@ -42,7 +42,7 @@ use Rattle.engine_columns.specs.Step.{Call, loadErasures, loadWeights, reset}
 use Rattle.engine_columns.specs.Open.{GraphColumns, graphColumns}
 use Rattle.tally.specs.Tally.{Tally, Fed, tallyOf, tallyAfter}
 use Rattle.query_questions.specs.Queries as Q
-use Rattle.paths.specs.GetPath.{numberOf, pathDoor, pathReply}
+use Rattle.paths.specs.GetPath.{pathDoor, pathNumber}
 use Rattle.acceptance.specs.Listed.{graphIn, weightsIn}
 use Rattle.checked_examples.specs.Starred.{StarredExamples, listing, fed, crossingAfter, listingEngine}
 
@@ -153,9 +153,9 @@ door-16 : pathDoor (engineOf written) true 2 2 4 4 ≡ 16
 unfolding all every endsDiffer pairsApart endsInRange graphSound logSound columnsLong longEnough columnsSound sound
 door-16 = refl
 
-sixteen : numberOf (pathReply (pathDoor listingEngine true 2 2 4 4) (path (Q.graphIn listingEngine) (Q.weightsIn listingEngine) 2 2)) ≡ 16
-sixteen = (λ i. numberOf (pathReply (pathDoor (engineOf (columns i)) true 2 2 4 4) (path (Q.graphIn listingEngine) (Q.weightsIn listingEngine) 2 2)))
-    ∙ (λ i. numberOf (pathReply (door-16 i) (path (Q.graphIn listingEngine) (Q.weightsIn listingEngine) 2 2)))
+sixteen : pathNumber (pathDoor listingEngine true 2 2 4 4) (path (Q.graphIn listingEngine) (Q.weightsIn listingEngine) 2 2) ≡ 16
+sixteen = (λ i. pathNumber (pathDoor (engineOf (columns i)) true 2 2 4 4) (path (Q.graphIn listingEngine) (Q.weightsIn listingEngine) 2 2))
+    ∙ (λ i. pathNumber (door-16 i) (path (Q.graphIn listingEngine) (Q.weightsIn listingEngine) 2 2))
 
 pub starred : StarredExamples
 unfolding edgesOf layered each joined rows width layerEdges gapEdges rotatedLayer rotatedRow rotatedEdge rotatedPlace rotatedGap straightRows straightEdges rowEdges planarLayer planarRow planarGap circuitGap circuitRow circuitCell verticesOf layerVertices vertexOf rotatedVertex rotatedBoundary layerVertexNum layerEdgeNum gapEdgeNum kindKnown distanceSound roundsSound codeRefusal all every endsDiffer pairsApart endsInRange graphSound logSound columnsLong longEnough columnsSound sound firstLeast start changes byStatus offer relaxEdge relax S.take stopped next settle readBack stepInto pathIn path fromLeft nearestRight crossing

@@ -20,7 +20,7 @@ use Rattle.engine_columns.specs.Open.{GraphColumns, graphColumns}
 use Rattle.tally.specs.Tally.{Lengths, Tally, Fed, tallyOf, tallyAfter}
 use Rattle.walks.specs.Answers.{path, crossing}
 use Rattle.query_questions.specs.Queries as Q
-use Rattle.paths.specs.GetPath.{numberOf, pathDoor, pathReply}
+use Rattle.paths.specs.GetPath.{pathDoor, pathNumber}
 use Rattle.acceptance.specs.Listed.{graphIn, weightsIn}
 
 -- the listing's graph: kind 1, d 3, every weight 1000
@@ -77,4 +77,4 @@ pub record StarredExamples : Type 0 where
   pub every-p-0-asked : (max n : ℕ) (column : List ℕ) → isLargestHalfWeight max ≡ true → 1 ≤ n → n ≤ edgeLimit → n ≤ length column
       → computeDoor n (replicate n zeroFloat) column max ≡ 0
   -- "Path 2 to 2: 16."
-  pub path-2-2 : numberOf (pathReply (pathDoor listingEngine true 2 2 4 4) (path (Q.graphIn listingEngine) (Q.weightsIn listingEngine) 2 2)) ≡ 16
+  pub path-2-2 : pathNumber (pathDoor listingEngine true 2 2 4 4) (path (Q.graphIn listingEngine) (Q.weightsIn listingEngine) 2 2) ≡ 16

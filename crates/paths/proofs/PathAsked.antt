@@ -17,7 +17,8 @@ use Rattle.walks.specs.Answers.{FoundPath}
 use Rattle.paths.specs.declared.PathAnswer.{PathAnswer}
 use Rattle.paths.specs.declared.PathAnswer.the-variants.{Found, Refused}
 use Rattle.query_questions.specs.Scratch.{ScratchColumns}
-use Rattle.paths.specs.GetPath.{pathDoor, found, pathReply, PathScratchKept}
+use Rattle.paths.specs.GetPath.{pathDoor, pathNumber, PathSaid, PathScratchKept}
+use Rattle.answers.proofs.Said.{refuses-of, refused-of}
 use Rattle.searches.proofs.Asked.{query-of}
 
 pub record PathAsked (e : Engine) (scratch : Bool) (a b vertices steps : ℕ) : Type 0 where
@@ -72,12 +73,12 @@ module _ (e : Engine) (scratch : Bool) (a b vertices steps : ℕ) where
       (ask-other (ltb a (e .counts .vertices) && ltb b (e .counts .vertices)) 13 _ 17 (λ z. omega arith)
       (ask-other (not (eqb a b)) 16 0 17 (λ z. omega arith) (λ z. omega arith))))
 
-pub reply-no : (n m : ℕ) (o : Option FoundPath) → m ≡ n → (m ≡ 0 → ⊥) → Refused m ≡ pathReply n o
+pub reply-no : (n m : ℕ) (o : Option FoundPath) → m ≡ n → (m ≡ 0 → ⊥) → PathSaid n o (Refused m)
 reply-no n zero o e f = absurd (f refl)
-reply-no n (suc m) o e f = ap (λ k. pathReply k o) e
+reply-no n (suc m) o e f = refuses-of (ap (λ k. pathNumber k o) e) f
 
 -- scratch is free after the search
-pub scratch-free : (r : PathAnswer) (o : Option FoundPath) (s₀ s : ScratchColumns) → r ≡ found o → PathScratchKept r s₀ s
+pub scratch-free : (r : PathAnswer) (o : Option FoundPath) (s₀ s : ScratchColumns) → PathSaid 0 o r → PathScratchKept r s₀ s
 scratch-free (Found len total) o s₀ s e = tt
-scratch-free (Refused n) none s₀ s e = λ f. absurd (f (cc))
-scratch-free (Refused n) (some p) s₀ s e = absurd (let z : _≡_ {A = ℕ} 0 1 = cc in omega arith)
+scratch-free (Refused n) none s₀ s e = λ f. absurd (f (e .number-is))
+scratch-free (Refused n) (some p) s₀ s e = absurd (refused-of e refl)

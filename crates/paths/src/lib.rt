@@ -8,7 +8,7 @@ ghost use Rattle.walks.specs.Answers.{path};
 ghost use Rattle.relaxing.specs.Ready.{stateOf, graphOf, weighs};
 ghost use Rattle.query_questions.specs.Queries.{scratchLong};
 ghost use Rattle.query_questions.specs.Scratch.{scratchOf};
-ghost use Rattle.paths.specs.GetPath.{found, verticesAfter, stepsAfter, PathStep, PathScratchKept};
+ghost use Rattle.paths.specs.GetPath.{PathSaid, verticesAfter, stepsAfter, PathStep, PathScratchKept};
 ghost use Rattle.searches.specs.Search.{Searchable};
 ghost use Rattle.read_back.specs.Path.{pathOf};
 use columns::VertexIndex;
@@ -42,7 +42,7 @@ fn found_path(
     out_steps: &mut [Weight],
 ) -> PathAnswer
     requires { ⌜ (length (now status) ≤ 4096) × (length (now status) ≤ length (now «out_vertices»)) × (length (now status) ≤ length (now «out_steps»)) ⌝ }
-    ensures { λ r. ⌜ r ≡ found (pathOf (stateOf (now (status .entry)) (now (weight .entry)) (now (previous .entry))) (length (now (status .entry))) a b) ⌝ }
+    ensures { λ r. ⌜ PathSaid 0 (pathOf (stateOf (now (status .entry)) (now (weight .entry)) (now (previous .entry))) (length (now (status .entry))) a b) r ⌝ }
     ensures { λ r. ⌜ now («out_vertices» .exit) ≡ verticesAfter (pathOf (stateOf (now (status .entry)) (now (weight .entry)) (now (previous .entry))) (length (now (status .entry))) a b) (now («out_vertices» .entry)) ⌝ }
     ensures { λ r. ⌜ now («out_steps» .exit) ≡ stepsAfter (pathOf (stateOf (now (status .entry)) (now (weight .entry)) (now (previous .entry))) (length (now (status .entry))) a b) (now («out_steps» .entry)) ⌝ }
 {
@@ -82,7 +82,7 @@ fn run_path(
 ) -> PathAnswer
     requires { ⌜ Searchable (length (now status)) (now «ends_a») (now «ends_b») (now weights) (now numbers) (now «list_ends») (now weight) (now previous) (now node) (now leaf) ⌝ }
     requires { ⌜ (a < length (now status)) × (b < length (now status)) × (b ≡ a → ⊥) × (length (now status) ≤ length (now «out_vertices»)) × (length (now status) ≤ length (now «out_steps»)) ⌝ }
-    ensures { λ r. ⌜ ((m : List ℕ) → r ≡ found (path (graphOf (length (now (status .entry))) (now («ends_a» .entry)) (now («ends_b» .entry)) m) (weighs (now (weights .entry))) a b)) ⌝ }
+    ensures { λ r. ⌜ ((m : List ℕ) → PathSaid 0 (path (graphOf (length (now (status .entry))) (now («ends_a» .entry)) (now («ends_b» .entry)) m) (weighs (now (weights .entry))) a b) r) ⌝ }
     ensures { λ _. ⌜ ((m : List ℕ) → now («out_vertices» .exit) ≡ verticesAfter (path (graphOf (length (now (status .entry))) (now («ends_a» .entry)) (now («ends_b» .entry)) m) (weighs (now (weights .entry))) a b) (now («out_vertices» .entry))) ⌝ }
     ensures { λ _. ⌜ ((m : List ℕ) → now («out_steps» .exit) ≡ stepsAfter (path (graphOf (length (now (status .entry))) (now («ends_a» .entry)) (now («ends_b» .entry)) m) (weighs (now (weights .entry))) a b) (now («out_steps» .entry))) ⌝ }
 {

@@ -8,6 +8,7 @@ use native.Mathlib.Omega.{arith}
 use lib.ListN.{length, take}
 use lib.Dec.{eqb}
 use Rattle.columns.proofs.Columns.{take-over}
+use Rattle.answers.proofs.Said.{values-of}
 use Rattle.engine_columns.specs.Records.{Engine}
 use Rattle.walks.specs.Graph.{Graph, Joined, Walk}
 use Rattle.walks.specs.Answers.{FoundPath, path}
@@ -16,7 +17,8 @@ use Rattle.walks.proofs.TableAndPath.{path-is-least}
 use Rattle.query_questions.specs.Queries.{graphIn, weightsIn}
 use Rattle.query_questions.specs.Scratch.{ScratchColumns}
 use Rattle.paths.specs.declared.PathAnswer.{PathAnswer as Reply}
-use Rattle.paths.specs.GetPath.{numberOf, lengthOf, totalOf, pathReply, verticesAfter, stepsAfter, PathStep}
+use Rattle.paths.specs.GetPath.{said, lengthOf, lengthAndTotal, verticesAfter, stepsAfter, PathStep}
+use Rattle.paths.specs.GetPath as P
 use Rattle.paths.proofs.PathAsked.{before-17}
 use Rattle.query_claims.specs.Called.{PathColumns, walked}
 use Rattle.query_claims.specs.Met.{scratchFits, PathMet}
@@ -49,38 +51,38 @@ module _ (e : Engine) (a b : ℕ) (r : Reply) (columns₀ columns : PathColumns)
   unmet : {n : ℕ} → number ≡ suc n → PathMet e a b columns₀ scratch₀ → ⊥
   unmet d m = omega (arith, d, path-number e a b columns₀ scratch₀ m)
 
-  replies : (n : ℕ) (o : Option FoundPath) → number ≡ n → path g w a b ≡ o → r ≡ pathReply n o
-  replies n o d p = step .answer ∙ (λ i. pathReply (d i) (p i))
+  replies : (n : ℕ) (o : Option FoundPath) → number ≡ n → path g w a b ≡ o → said r .number ≡ P.pathNumber n o
+  replies n o d p = step .answer .number-is ∙ (λ i. P.pathNumber (d i) (p i))
 
   by-case : (n : ℕ) (o : Option FoundPath) → number ≡ n → path g w a b ≡ o → (n ≡ 0 → PathAnswer g w a b o) → PathSays e a b r columns₀ columns scratch₀
   by-case (suc n) o d p h =
-      let q : numberOf r ≡ suc n = ap numberOf (replies (suc n) o d p) in
+      let q : said r .number ≡ suc n = replies (suc n) o d p in
       record {
         not-reached = ((λ z. absurd (before-17 e (scratchFits e scratch₀) a b (length (columns₀ .vertices)) (length (columns₀ .steps)) (d ∙ sym q ∙ z))), λ z. absurd (unmet d (z .0)));
         reached = ((λ z. absurd (omega (arith, z, q))), λ z. absurd (unmet d (z .0)));
         least = λ z. absurd (omega (arith, z, q));
       }
   by-case zero none d p h =
-      let q : numberOf r ≡ 17 = ap numberOf (replies 0 none d p) in
+      let q : said r .number ≡ 17 = replies 0 none d p in
       record {
         not-reached = ((λ z. (met d, h refl)), λ z. q);
         reached = ((λ z. absurd (omega (arith, z, q))), λ z. absurd (h refl (z .1)));
         least = λ z. absurd (omega (arith, z, q));
       }
   by-case zero (some f) d p h =
-      let x = replies 0 (some f) d p in
-      let q : numberOf r ≡ 0 = ap numberOf x in
+      let q : said r .number ≡ 0 = replies 0 (some f) d p in
+      let x = values-of (step .answer) (λ i. P.pathNumber (d i) (p i)) ∙ ap lengthAndTotal p in
       let i : IsPath g w a b f = h refl in
       let ev : take (lengthOf r) (columns .vertices) ≡ f .vertices =
-      (λ j. take (lengthOf (x j)) ((step .vertices-left ∙ (λ k. cond (eqb (d k) 0) (verticesAfter (p k) (columns₀ .vertices)) (columns₀ .vertices))) j))
+      (λ j. take (x j .0) ((step .vertices-left ∙ (λ k. cond (eqb (d k) 0) (verticesAfter (p k) (columns₀ .vertices)) (columns₀ .vertices))) j))
       ∙ take-over (f .vertices) (columns₀ .vertices) (length (f .vertices)) refl in
       let es : take (lengthOf r) (columns .steps) ≡ f .steps =
-      (λ j. take (lengthOf (x j)) ((step .steps-left ∙ (λ k. cond (eqb (d k) 0) (stepsAfter (p k) (columns₀ .steps)) (columns₀ .steps))) j))
+      (λ j. take (x j .0) ((step .steps-left ∙ (λ k. cond (eqb (d k) 0) (stepsAfter (p k) (columns₀ .steps)) (columns₀ .steps))) j))
       ∙ take-over (f .steps) (columns₀ .steps) (length (f .vertices)) (route-same (i .route)) in
       record {
         not-reached = ((λ z. absurd (omega (arith, z, q))), λ z. absurd (z .1 (path-joins i)));
         reached = ((λ z. (met d, path-joins i)), λ z. q);
-        least = λ z. subst (λ (k : FoundPath). IsPath g w a b k) (sym (λ j. record { vertices = ev j; steps = es j; total = totalOf (x j) })) i;
+        least = λ z. subst (λ (k : FoundPath). IsPath g w a b k) (sym (λ j. record { vertices = ev j; steps = es j; total = x j .1 })) i;
       }
 
   path-says : PathSays e a b r columns₀ columns scratch₀

@@ -32,9 +32,9 @@ pub record TableSays (e : Engine) (source : ℕ) (end : Option ℕ) (r : Done) (
 -- Engine, Path; questions at the door, 17: exactly where the earlier questions are met and no walk joins a and b; a path exactly where they are met and some walk does.
 -- The columns' first places then are a walk from a to b that meets no vertex twice, whose steps sum to the total; no walk weighs less.
 pub record PathSays (e : Engine) (a b : ℕ) (r : PathAnswer) (columns₀ columns : PathColumns) (scratch₀ : ScratchColumns) : Type 0 where
-  pub not-reached : P.numberOf r ≡ 17 ↔ (PathMet e a b columns₀ scratch₀ × ¬ Joined (graphIn e) a b)
-  pub reached : P.numberOf r ≡ 0 ↔ (PathMet e a b columns₀ scratch₀ × Joined (graphIn e) a b)
-  pub least : P.numberOf r ≡ 0
+  pub not-reached : P.said r .number ≡ 17 ↔ (PathMet e a b columns₀ scratch₀ × ¬ Joined (graphIn e) a b)
+  pub reached : P.said r .number ≡ 0 ↔ (PathMet e a b columns₀ scratch₀ × Joined (graphIn e) a b)
+  pub least : P.said r .number ≡ 0
       → IsPath (graphIn e) (weightsIn e) a b (record { vertices = take (lengthOf r) (columns .vertices); steps = take (lengthOf r) (columns .steps); total = totalOf r })
 
 -- Engine, Crossing; demand 3; questions at the door, 18: exactly where 6 and 7 are met and no walk joins a left vertex to a right one; accepted exactly where they are met and some

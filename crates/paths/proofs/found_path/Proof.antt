@@ -13,7 +13,8 @@ use Rattle.walks.specs.Answers.{readBack, stepInto, taken, FoundPath}
 use Rattle.relaxing.specs.Ready.{stateOf}
 use Rattle.paths.specs.declared.PathAnswer.the-variants.{Found, Refused}
 use Rattle.read_back.specs.Path.{pathOf}
-use Rattle.paths.specs.GetPath.{found, verticesAfter, stepsAfter}
+use Rattle.paths.specs.GetPath.{PathSaid, verticesAfter, stepsAfter}
+use Rattle.answers.proofs.Said.{accepts-of, refuses-of}
 use Rattle.read_back.proofs.Back.{read-short}
 use Rattle.paths.proofs.found_path.Statement.{statement}
 use Rattle.paths.proofs.found_path.Tie as tie
@@ -60,7 +61,7 @@ returns c =
     let t : taken st (s .args .b) ≡ true = sym (c .before .before .before .before .before .before .before .before .before .before .is-taken .ensures (s .args .weight .now) (s .args .previous .now)) ∙ c .before .before .before .before .before .before .before .before .before .if1 .taken in
     let p : pathOf st n (s .args .a) (s .args .b) ≡ some (record { vertices = vs; steps = cs; total = weightAt st (s .args .b) }) =
     ap (λ k. cond k (some (record { vertices = vs; steps = cs; total = weightAt st (s .args .b) })) none) t in (
-      (λ i. Found (e i) (c .load .ensures i)) ∙ sym (ap found p),
+      subst (λ o. PathSaid 0 o (Found (c .before .before .before .before .before .before .before .before .path-length .result) (c .load .result))) (sym p) (rw (e, c .load .ensures) (accepts-of refl)),
       (c .before .before .before .before .before .write-path .ensures .0 ∙ sets-over (s .args .out-vertices .now) vs (omega (arith, l, s .pre .1)) ∙ sym (ap (λ o. verticesAfter o (s .args .out-vertices .now)) p), c .before .before .before .before .before .write-path .ensures .1 ∙ sets-over (s .args .out-steps .now) cs (omega (arith, l, m, s .pre .2)) ∙ sym (ap (λ o. stepsAfter o (s .args .out-steps .now)) p)),
     )
 
@@ -72,7 +73,7 @@ returns-2 c =
     let t : taken st (s .args .b) ≡ false = sym (c .before .is-taken .ensures (s .args .weight .now) (s .args .previous .now)) ∙ c .if1 .left in
     let p : none ≡ pathOf st n (s .args .a) (s .args .b) =
     ap (λ k. cond k (some (record { vertices = readBack st (s .args .a) n (s .args .b); steps = map (stepInto st) (readBack st (s .args .a) n (s .args .b)); total = weightAt st (s .args .b) })) none) (sym t) in
-    (ap found p, (ap (λ o. verticesAfter o (s .args .out-vertices .now)) p, ap (λ o. stepsAfter o (s .args .out-steps .now)) p))
+    (subst (λ o. PathSaid 0 o (Refused 17)) p (refuses-of refl (λ z. absurd (omega arith))), (ap (λ o. verticesAfter o (s .args .out-vertices .now)) p, ap (λ o. stepsAfter o (s .args .out-steps .now)) p))
 
 pub found-path-spec : {M : Type 1} → statement M
 found-path-spec =

@@ -13,7 +13,7 @@ use Rattle.engine_columns.specs.Records.{Engine, engine}
 use Rattle.walks.specs.Answers.{path}
 use Rattle.relaxing.specs.Ready.{graphOf}
 use Rattle.query_questions.specs.Queries.{graphIn, weightsIn, scratchLong}
-use Rattle.paths.specs.GetPath.{pathDoor, found, pathReply, verticesAfter, stepsAfter}
+use Rattle.paths.specs.GetPath.{pathDoor, PathSaid, verticesAfter, stepsAfter}
 use Rattle.searches.proofs.Asked.{ScratchLong, scratch-of, searchable}
 use Rattle.paths.proofs.PathAsked.{PathAsked, path-asked, path-number, reply-no, scratch-free}
 use borrow.Author.Needs.{needs}
@@ -211,15 +211,16 @@ returns c =
     let len = length-take-le (s .args .c .vertices) (s .args .status .now) (scratch-long-at s z .status-long) in
     let m = take (s .args .c .vertices) (s .args .boundary .now) in
     let o = c .before .before .before .before .before .before .before .before .before .before .before .before .before .before .before .before .before .before .run-path .ensures in
-    let f : c .before .before .before .before .before .before .before .before .before .before .before .before .before .before .before .before .before .before .run-path .result ≡ found (path (graphIn (engine-of s)) (weightsIn (engine-of s)) (s .args .a .0) (s .args .b .0)) = o .0 m ∙ (λ i. found (path (graphOf (len i) (take (s .args .c .edges) (s .args .ends-a .now)) (take (s .args .c .edges) (s .args .ends-b .now)) m) (weightsIn (engine-of s)) (s .args .a .0) (s .args .b .0))) in (
+    let f : PathSaid 0 (path (graphIn (engine-of s)) (weightsIn (engine-of s)) (s .args .a .0) (s .args .b .0)) (c .before .before .before .before .before .before .before .before .before .before .before .before .before .before .before .before .before .before .run-path .result) =
+    subst (λ n. PathSaid 0 (path (graphOf n (take (s .args .c .edges) (s .args .ends-a .now)) (take (s .args .c .edges) (s .args .ends-b .now)) m) (weightsIn (engine-of s)) (s .args .a .0) (s .args .b .0)) (c .before .before .before .before .before .before .before .before .before .before .before .before .before .before .before .before .before .before .run-path .result)) len (o .0 m) in (
       record {
-        answer = f ∙ sym (ap (λ k. pathReply k (path (graphIn (engine-of s)) (weightsIn (engine-of s)) (s .args .a .0) (s .args .b .0))) z);
+        answer = subst (λ k. PathSaid k (path (graphIn (engine-of s)) (weightsIn (engine-of s)) (s .args .a .0) (s .args .b .0)) (c .before .before .before .before .before .before .before .before .before .before .before .before .before .before .before .before .before .before .run-path .result)) (sym z) f;
         vertices-left = o .1 .0 m ∙ (λ i. verticesAfter (path (graphOf (len i) (take (s .args .c .edges) (s .args .ends-a .now)) (take (s .args .c .edges) (s .args .ends-b .now)) m) (weightsIn (engine-of s)) (s .args .a .0) (s .args .b .0)) (s .args .out-vertices .now))
             ∙ sym (ap (λ k. cond (eqb k 0) (verticesAfter (path (graphIn (engine-of s)) (weightsIn (engine-of s)) (s .args .a .0) (s .args .b .0)) (s .args .out-vertices .now)) (s .args .out-vertices .now)) z);
         steps-left = o .1 .1 m ∙ (λ i. stepsAfter (path (graphOf (len i) (take (s .args .c .edges) (s .args .ends-a .now)) (take (s .args .c .edges) (s .args .ends-b .now)) m) (weightsIn (engine-of s)) (s .args .a .0) (s .args .b .0)) (s .args .out-steps .now))
             ∙ sym (ap (λ k. cond (eqb k 0) (stepsAfter (path (graphIn (engine-of s)) (weightsIn (engine-of s)) (s .args .a .0) (s .args .b .0)) (s .args .out-steps .now)) (s .args .out-steps .now)) z);
       },
-      scratch-free _ (path (graphIn (engine-of s)) (weightsIn (engine-of s)) (s .args .a .0) (s .args .b .0)) _ _ f,
+      scratch-free (c .before .before .before .before .before .before .before .before .before .before .before .before .before .before .before .before .before .before .run-path .result) (path (graphIn (engine-of s)) (weightsIn (engine-of s)) (s .args .a .0) (s .args .b .0)) _ _ f,
     )
 
 returns-2 : tie.Need-returns-2

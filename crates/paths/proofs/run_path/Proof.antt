@@ -13,7 +13,7 @@ use Rattle.walks.specs.Answers.{only, path}
 use Rattle.relaxing.specs.Ready.{stateOf, graphOf, weighs, sources, endOf, Ready}
 use Rattle.relaxing.proofs.Keys.{ready-as}
 use Rattle.read_back.specs.Path.{pathOf}
-use Rattle.paths.specs.GetPath.{found, verticesAfter, stepsAfter}
+use Rattle.paths.specs.GetPath.{PathSaid, verticesAfter, stepsAfter}
 use Rattle.searches.specs.Search.{Waiting}
 use Rattle.searches.proofs.Listing.{searchable-as, waiting-as}
 use Rattle.searches.proofs.Sources.{sources-only, waiting-one}
@@ -81,7 +81,7 @@ returns c =
     ∙ (λ i. settled (graphOf n (s .args .ends-a .now) (s .args .ends-b .now) m) (weighs (s .args .weights .now)) (sources-only n a (s .pre .1 .0) i) (cond (lt-ltb b n (s .pre .1 .1) i) (some b) none)) in
     let p : (m : List ℕ) → pathOf last (length (c .before .before .before .before .before .before .before .before .before .before .before .before .before .before .before .before .before .before .before .before .before .before .before .before .search .last .1 .1 .1 .1 .1 .0)) a b ≡ path (graphOf n (s .args .ends-a .now) (s .args .ends-b .now) m) (weighs (s .args .weights .now)) a b =
     λ m. ap (λ j. pathOf last j a b) (r .status-fits) ∙ path-of (graphOf n (s .args .ends-a .now) (s .args .ends-b .now) m) (weighs (s .args .weights .now)) a b last (state m) in (
-      (λ m. c .before .before .before .before .found-path .ensures .0 ∙ ap found (p m)),
+      (λ m. subst (λ o. PathSaid 0 o (c .before .before .before .before .found-path .result)) (p m) (c .before .before .before .before .found-path .ensures .0)),
       ((λ m. c .before .before .before .before .found-path .ensures .1 .0 ∙ ap (λ o. verticesAfter o (s .args .out-vertices .now)) (p m)), (λ m. c .before .before .before .before .found-path .ensures .1 .1 ∙ ap (λ o. stepsAfter o (s .args .out-steps .now)) (p m))),
     )
 

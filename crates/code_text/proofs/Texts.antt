@@ -12,6 +12,7 @@ use borrow.Author.Tests.{le-leb, lt-leb}
 use Rattle.columns.specs.Lists.{after}
 use Rattle.columns.specs.Questions.{ask}
 use Rattle.columns.proofs.Columns.{after-accepted, after-refused, sets-over}
+use Rattle.answers.proofs.Said.{accepts-of, refuses-of}
 use Rattle.texts.specs.Text.{refusalLine}
 use Rattle.texts.specs.Steps.{Put}
 use Rattle.code_line.specs.declared.CodeLine.{CodeLine}
@@ -22,7 +23,7 @@ use Rattle.code_listing.specs.Listing.{codeText}
 use Rattle.code_listing.proofs.Texts.{renamed}
 use Rattle.code_text.specs.declared.Listed.{Listed}
 use Rattle.code_text.specs.declared.Listed.the-variants as call
-use Rattle.code_text.specs.Answer.{textOf, answerText, textRoom, textDoor, listed, CodeListed}
+use Rattle.code_text.specs.Answer.{textOf, answerText, textRoom, textDoor, CodeListed}
 use Rattle.code_text.proofs.Sizes.{every-text-fits}
 
 module _ (line : LineRead) {t₀ t : List ℕ} {r : ℕ} where
@@ -38,7 +39,7 @@ pub too-short : (input text : List ℕ) → length text < textRoom → CodeListe
 too-short input text h =
     let q : textDoor text ≡ 6 = ap (λ (b : Bool). ask b 6 0) (lt-leb textRoom (length text) h) in
     record {
-      answer = ap (λ (k : ℕ). listed k (length (answerText input))) (sym q);
+      answer = refuses-of (sym q) (λ z. absurd (omega arith));
       written = sym (after-refused (textDoor text) (answerText input) text (λ z. omega (arith, q)));
     }
 
@@ -49,6 +50,6 @@ long-enough input text₀ text l r h e p =
     let fits : length (answerText input) ≤ length text₀ = omega (arith, every-text-fits input) in
     let next : r ≡ length (answerText input) = p .next ∙ omega (arith, ap length same) in
     record {
-      answer = ap call.Text next ∙ ap (λ (k : ℕ). listed k (length (answerText input))) (sym q);
+      answer = rw next (accepts-of q);
       written = p .stored ∙ ap (sets text₀ 0) same ∙ sets-over text₀ (answerText input) fits ∙ sym (after-accepted (textDoor text₀) (answerText input) text₀ q);
     }

@@ -1,5 +1,5 @@
 -- What `codelist` prints for an input: document 01, "The program `codelist`".
-use Prim.Native.Nat.{ℕ, zero, suc}
+use Prim.Native.Nat.{ℕ}
 use mathlib.Core.Path.{_≡_}
 use mathlib.Core.List.{List}
 use lib.Dec.{leb}
@@ -7,6 +7,7 @@ use lib.ListN.{length}
 use lib.Ieee.{binary64, ofBits}
 use Rattle.columns.specs.Lists.{after}
 use Rattle.columns.specs.Questions.{ask}
+use Rattle.answers.specs.Said.{Said, accepts, refuses, Answered}
 use Rattle.code_line.specs.declared.LineRead.{LineRead}
 use Rattle.code_line.specs.declared.LineRead.the-variants.{WellFormed, NotWellFormed}
 use Rattle.code_line.specs.Line.{readOf}
@@ -31,18 +32,9 @@ abbrev pub textRoom : ℕ
 textRoom = 320000
 
 -- document 01's number for each case, and how many bytes the text has: 0 where the call was refused
-abbrev pub numberOf : Listed → ℕ
-numberOf (Text bytes) = 0
-numberOf (Refused number) = number
-
-abbrev pub bytesIn : Listed → ℕ
-bytesIn (Text bytes) = bytes
-bytesIn (Refused number) = 0
-
--- the case for a question's number, and the bytes
-abbrev pub listed : (number bytes : ℕ) → Listed
-listed zero bytes = Text bytes
-listed (suc q) bytes = Refused (suc q)
+abbrev pub said : Listed → Said ℕ
+said (Text bytes) = accepts bytes
+said (Refused number) = refuses number 0
 
 -- question 6 of the text column
 abbrev pub textDoor : List ℕ → ℕ
@@ -50,5 +42,5 @@ textDoor text = ask (leb textRoom (length text)) 6 0
 
 -- the answer, and the text column before and after
 pub record CodeListed (input before text : List ℕ) (r : Listed) : Type 0 where
-  pub answer : r ≡ listed (textDoor before) (length (answerText input))
+  pub answer : Answered (said r) (textDoor before) (length (answerText input)) 0
   pub written : text ≡ after (textDoor before) (answerText input) before

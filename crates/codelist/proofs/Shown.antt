@@ -11,7 +11,8 @@ use Rattle.columns.specs.Questions.{ask}
 use Rattle.columns.proofs.Columns.{after-accepted, take-over, length-over}
 use Rattle.code_text.specs.declared.Listed.{Listed}
 use Rattle.code_text.specs.declared.Listed.the-variants.{Text}
-use Rattle.code_text.specs.Answer.{answerText, textRoom, textDoor, listed, bytesIn, CodeListed}
+use Rattle.code_text.specs.Answer.{answerText, textRoom, textDoor, said, CodeListed}
+use Rattle.code_text.proofs.Cases.{text-case}
 use Rattle.code_text.proofs.Sizes.{every-text-fits}
 
 module _ (input text₀ text : List ℕ) (r : Listed) (h : textRoom ≤ length text₀) (s : CodeListed input text₀ text r) where
@@ -19,14 +20,14 @@ module _ (input text₀ text : List ℕ) (r : Listed) (h : textRoom ≤ length t
   open-door = ap (λ (b : Bool). ask b 6 0) (le-leb textRoom (length text₀) h)
 
   answered : r ≡ Text (length (answerText input))
-  answered = s .answer ∙ ap (λ (q : ℕ). listed q (length (answerText input))) open-door
+  answered = text-case r (s .answer) open-door
 
   written : text ≡ over (answerText input) text₀
   written = s .written ∙ after-accepted (textDoor text₀) (answerText input) text₀ open-door
 
   pub shown : (n : ℕ) → r ≡ Text n → (n ≤ length text) × (take n text ≡ answerText input)
   shown n e =
-      let k : length (answerText input) ≡ n = ap bytesIn (sym answered ∙ e) in
+      let k : length (answerText input) ≡ n = ap (λ (x : Listed). said x .values) (sym answered ∙ e) in
       let f = every-text-fits input in
       let l = length-over (answerText input) text₀ (omega (arith, f, h)) in
       (omega (arith, k, f, h, l, ap length written), ap (take n) written ∙ take-over (answerText input) text₀ n k)

@@ -7,7 +7,6 @@ use columns::Weight;
 use engine_columns::EngineCounts;
 use reports::BoundaryReport;
 use reports::boundary_report;
-ghost use mathlib.Core.Path.{_≡_};
 ghost use lib.ListN.{length};
 ghost use Rattle.engine_columns.specs.Records.{engine, counts};
 ghost use Rattle.complete_graph.specs.declared.End.the-variants.{None};
@@ -15,7 +14,7 @@ ghost use Rattle.query_questions.specs.Queries.{scratchLong, graphIn, weightsIn
 ghost use Rattle.query_questions.specs.Scratch.{ScratchKept, scratchOf};
 ghost use Rattle.complete_graph.specs.Steps.{tableDoor};
 ghost use Rattle.prebuilt_complete_graph.specs.Rows.{RowStep, ColumnKept};
-ghost use Rattle.prebuilt_complete_graph.specs.Nearest.{boundaryReply, BoundaryKept};
+ghost use Rattle.prebuilt_complete_graph.specs.Nearest.{BoundarySaid, BoundaryKept};
 ghost use Rattle.prebuilt_boundaries.specs.Boundaries.{BoundariesStep, FirstKept};
 ghost use Rattle.c_reports.specs.Reports.{Reported, ReportsDone};
 ghost use Rattle.c_prebuilt.specs.Reports.{ReportsBoundary};
@@ -100,12 +99,12 @@ pub extern "C" fn moldingcress_get_boundary_weight(
     node: &mut [u64],
     leaf: &mut [u64],
 ) -> BoundaryReport
-    ensures { λ q. ⌜ Reported ReportsBoundary (λ r. (r ≡ boundaryReply (tableDoor (engine (counts vertices edges entries) (now («ends_a» .entry)) (now («ends_b» .entry)) (now (weights .entry)) (now (boundary .entry)) (now («log_edges» .entry)) (now («log_weights» .entry)))
+    ensures { λ q. ⌜ Reported ReportsBoundary (λ r. (BoundarySaid (tableDoor (engine (counts vertices edges entries) (now («ends_a» .entry)) (now («ends_b» .entry)) (now (weights .entry)) (now (boundary .entry)) (now («log_edges» .entry)) (now («log_weights» .entry)))
         (scratchLong vertices edges (length (now (numbers .entry))) (length (now («list_ends» .entry))) (length (now (status .entry))) (length (now (weight .entry))) (length (now (previous .entry))) (length (now (node .entry))) (length (now (leaf .entry))))
         vertex None (length (now (least .entry))) (length (now (before .entry))))
         (graphIn (engine (counts vertices edges entries) (now («ends_a» .entry)) (now («ends_b» .entry)) (now (weights .entry)) (now (boundary .entry)) (now («log_edges» .entry)) (now («log_weights» .entry))))
         (weightsIn (engine (counts vertices edges entries) (now («ends_a» .entry)) (now («ends_b» .entry)) (now (weights .entry)) (now (boundary .entry)) (now («log_edges» .entry)) (now («log_weights» .entry))))
-        vertex) × (BoundaryKept r (now (least .entry)) (now (least .exit)) (now (before .entry)) (now (before .exit))
+        vertex r) × (BoundaryKept r (now (least .entry)) (now (least .exit)) (now (before .entry)) (now (before .exit))
         (scratchOf (now (numbers .entry)) (now («list_ends» .entry)) (now (status .entry)) (now (weight .entry)) (now (previous .entry)) (now (node .entry)) (now (leaf .entry)))
         (scratchOf (now (numbers .exit)) (now («list_ends» .exit)) (now (status .exit)) (now (weight .exit)) (now (previous .exit)) (now (node .exit)) (now (leaf .exit))))) q ⌝ }
 {

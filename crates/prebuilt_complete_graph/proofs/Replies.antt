@@ -1,17 +1,16 @@
 -- What a table query inside a boundary query leaves. Assumes nothing.
 use mathlib.Core.Path.{_≡_, refl, ap}
 use mathlib.Core.Logic.{_≢_}
+use mathlib.Core.Bool.{false≢true}
 use mathlib.Core.List.{List}
-use mathlib.Core.Option.{Option, some, none}
-use Prim.Native.Nat.{ℕ, zero, suc}
-use native.Mathlib.Omega.{arith}
+use Prim.Native.Nat.{ℕ}
 use lib.IntN.{ℤ}
+use Rattle.answers.specs.Said.{Said, accepts}
 use Rattle.answers.specs.Done.{said}
 use Rattle.columns.specs.declared.Done.{Done}
 use Rattle.columns.specs.declared.Done.the-variants.{Accepted, Refused}
-use Rattle.walks.specs.Graph.{Graph}
 use Rattle.query_questions.specs.Scratch.{ScratchColumns, ScratchKept}
-use Rattle.prebuilt_complete_graph.specs.Nearest.{boundaryFound, boundaryReply, BoundaryKept}
+use Rattle.prebuilt_complete_graph.specs.Nearest.{said as answer-said, BoundaryKept}
 use Rattle.prebuilt_complete_graph.specs.declared.nearest.BoundaryAnswer.{BoundaryAnswer}
 use Rattle.prebuilt_complete_graph.specs.declared.nearest.BoundaryAnswer.the-variants as Answer
 
@@ -19,14 +18,9 @@ pub kept-of : (d : Done) (s₀ s : ScratchColumns) → said d .number ≢ 0 → 
 kept-of Accepted s₀ s f k = absurd (f refl)
 kept-of (Refused n) s₀ s f k = k
 
-pub reply-no : (n m : ℕ) (g : Graph) (w : ℕ → ℕ) (v : ℕ) → m ≡ n → (m ≡ 0 → ⊥) → Answer.Refused m ≡ boundaryReply n g w v
-reply-no n zero g w v e f = absurd (f refl)
-reply-no n (suc m) g w v e f = ap (λ k. boundaryReply k g w v) e
-
 -- scratch is free after the table
-pub boundary-free : (r : BoundaryAnswer) (weights : List ℤ) (o : Option ℕ) (least₀ least : List ℤ) (before₀ before : List ℕ) (s₀ s : ScratchColumns) → r ≡ boundaryFound weights o
+pub boundary-free : (r : BoundaryAnswer) (values : ℕ × ℕ × ℕ) (least₀ least : List ℤ) (before₀ before : List ℕ) (s₀ s : ScratchColumns) → answer-said r ≡ accepts values
     → BoundaryKept r least₀ least before₀ before s₀ s
-boundary-free (Answer.Nearest u x) weights o least₀ least before₀ before s₀ s e = tt
-boundary-free Answer.NoBoundary weights o least₀ least before₀ before s₀ s e = tt
-boundary-free (Answer.Refused n) weights none least₀ least before₀ before s₀ s e = absurd (let z : _≡_ {A = ℕ} 0 1 = cc in omega arith)
-boundary-free (Answer.Refused n) weights (some u) least₀ least before₀ before s₀ s e = absurd (let z : _≡_ {A = ℕ} 0 1 = cc in omega arith)
+boundary-free (Answer.Nearest u x) values least₀ least before₀ before s₀ s e = tt
+boundary-free Answer.NoBoundary values least₀ least before₀ before s₀ s e = tt
+boundary-free (Answer.Refused n) values least₀ least before₀ before s₀ s e = absurd (false≢true (ap (λ (x : Said (ℕ × ℕ × ℕ)). x .accepted) e))

@@ -2,6 +2,7 @@
 ghost use mathlib.Core.Path.{_≡_};
 ghost use Prim.Native.Nat.{_<_, _≤_};
 ghost use lib.ListN.{length};
+ghost use Rattle.answers.specs.Said.{accepts};
 ghost use Rattle.answers.specs.Done.{said};
 ghost use Rattle.engine_columns.specs.Records.{engine};
 ghost use Rattle.complete_graph.specs.declared.End.the-variants.{None};
@@ -9,7 +10,7 @@ ghost use Rattle.query_questions.specs.Queries.{scratchLong, graphIn, weightsIn
 ghost use Rattle.complete_graph.specs.Steps.{tableDoor};
 ghost use Rattle.query_questions.specs.Scratch.{scratchOf};
 ghost use Rattle.prebuilt_entries.specs.Nearest.{boundaryIn};
-ghost use Rattle.prebuilt_complete_graph.specs.Nearest.{boundaryFound, boundaryReply, BoundaryKept};
+ghost use Rattle.prebuilt_complete_graph.specs.Nearest.{said as boundary-said, boundaryFound, BoundarySaid, BoundaryKept};
 use columns::Done;
 use columns::VertexIndex;
 use columns::Weight;
@@ -28,7 +29,7 @@ pub enum BoundaryAnswer {
 // The answer for vertex v, from its table.
 fn boundary_answer(boundary: &[u8], least: &[i32], v: u32) -> BoundaryAnswer
     requires { ⌜ (length (now boundary) ≡ length (now least)) × (v < length (now boundary)) × (length (now least) ≤ 4096) ⌝ }
-    ensures { λ r. ⌜ r ≡ boundaryFound (now (least .entry)) (boundaryIn (now (boundary .entry)) (now (least .entry)) (length (now (least .entry))) v) ⌝ }
+    ensures { λ r. ⌜ boundary-said r ≡ accepts (boundaryFound (now (least .entry)) (boundaryIn (now (boundary .entry)) (now (least .entry)) (length (now (least .entry))) v)) ⌝ }
 {
     let at = v as usize;
     if boundary[at] != 0 {
@@ -71,12 +72,12 @@ pub fn get_boundary_weight(
     node: &mut [u64],
     leaf: &mut [u64],
 ) -> BoundaryAnswer
-    ensures { λ r. ⌜ r ≡ boundaryReply (tableDoor (engine c (now («ends_a» .entry)) (now («ends_b» .entry)) (now (weights .entry)) (now (boundary .entry)) (now («log_edges» .entry)) (now («log_weights» .entry)))
+    ensures { λ r. ⌜ BoundarySaid (tableDoor (engine c (now («ends_a» .entry)) (now («ends_b» .entry)) (now (weights .entry)) (now (boundary .entry)) (now («log_edges» .entry)) (now («log_weights» .entry)))
         (scratchLong (c .vertices) (c .edges) (length (now (numbers .entry))) (length (now («list_ends» .entry))) (length (now (status .entry))) (length (now (weight .entry))) (length (now (previous .entry))) (length (now (node .entry))) (length (now (leaf .entry))))
         (vertex .0) None (length (now (least .entry))) (length (now (before .entry))))
         (graphIn (engine c (now («ends_a» .entry)) (now («ends_b» .entry)) (now (weights .entry)) (now (boundary .entry)) (now («log_edges» .entry)) (now («log_weights» .entry))))
         (weightsIn (engine c (now («ends_a» .entry)) (now («ends_b» .entry)) (now (weights .entry)) (now (boundary .entry)) (now («log_edges» .entry)) (now («log_weights» .entry))))
-        (vertex .0) ⌝ }
+        (vertex .0) r ⌝ }
     ensures { λ r. ⌜ BoundaryKept r (now (least .entry)) (now (least .exit)) (now (before .entry)) (now (before .exit))
         (scratchOf (now (numbers .entry)) (now («list_ends» .entry)) (now (status .entry)) (now (weight .entry)) (now (previous .entry)) (now (node .entry)) (now (leaf .entry)))
         (scratchOf (now (numbers .exit)) (now («list_ends» .exit)) (now (status .exit)) (now (weight .exit)) (now (previous .exit)) (now (node .exit)) (now (leaf .exit))) ⌝ }

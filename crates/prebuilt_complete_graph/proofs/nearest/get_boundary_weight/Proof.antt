@@ -20,8 +20,10 @@ use Rattle.complete_graph.proofs.Tables.{TableAsked, table-of}
 use Rattle.complete_graph.proofs.Sources.{table-weights-length}
 use Rattle.prebuilt_entries.specs.Nearest.{boundaryIn}
 use Rattle.prebuilt_entries.proofs.Amounts.{cut-fits}
-use Rattle.prebuilt_complete_graph.specs.Nearest.{boundaryFound, boundaryReply}
-use Rattle.prebuilt_complete_graph.proofs.Replies.{kept-of, reply-no, boundary-free}
+use Rattle.answers.specs.Said.{accepts}
+use Rattle.answers.proofs.Said.{accepts-of, refuses-of}
+use Rattle.prebuilt_complete_graph.specs.Nearest.{said, boundaryFound}
+use Rattle.prebuilt_complete_graph.proofs.Replies.{kept-of, boundary-free}
 use borrow.Author.Needs.{needs}
 use Rattle.prebuilt_complete_graph.proofs.nearest.get_boundary_weight.Statement.{statement}
 use Rattle.prebuilt_complete_graph.proofs.nearest.get_boundary_weight.Tie as tie
@@ -135,9 +137,9 @@ returns c =
     let k = asked-at s z in
     let w = c .before .before .before .before .before .before .before .before .before .before .before .before .before .before .before .before .before .before .before .before .before .before .before .all-edges .ensures .0 .weights-left ∙ after-accepted (number-at s) (table (graphIn (engine-of s)) (weightsIn (engine-of s)) (s .args .vertex .0) none .weights) (s .args .least .now) z in
     let f = cut-fits (table (graphIn (engine-of s)) (weightsIn (engine-of s)) (s .args .vertex .0) none .weights) (s .args .least .now) (s .args .c .vertices) w (table-weights-length (graphIn (engine-of s)) (weightsIn (engine-of s)) (s .args .vertex .0) none) (k .weights-long) in
-    let r : c .boundary-answer .result ≡ boundaryFound (table (graphIn (engine-of s)) (weightsIn (engine-of s)) (s .args .vertex .0) none .weights) (boundaryIn (take (s .args .c .vertices) (s .args .boundary .now)) (table (graphIn (engine-of s)) (weightsIn (engine-of s)) (s .args .vertex .0) none .weights) (s .args .c .vertices) (s .args .vertex .0)) =
-    c .boundary-answer .ensures ∙ (λ i. boundaryFound (f .2 i) (boundaryIn (take (s .args .c .vertices) (s .args .boundary .now)) (f .2 i) (f .1 i) (s .args .vertex .0))) in
-    (r ∙ sym (ap (λ j. boundaryReply j (graphIn (engine-of s)) (weightsIn (engine-of s)) (s .args .vertex .0)) z), boundary-free _ (table (graphIn (engine-of s)) (weightsIn (engine-of s)) (s .args .vertex .0) none .weights) (boundaryIn (take (s .args .c .vertices) (s .args .boundary .now)) (table (graphIn (engine-of s)) (weightsIn (engine-of s)) (s .args .vertex .0) none .weights) (s .args .c .vertices) (s .args .vertex .0)) _ _ _ _ _ _ r)
+    let r : said (c .boundary-answer .result) ≡ accepts (boundaryFound (table (graphIn (engine-of s)) (weightsIn (engine-of s)) (s .args .vertex .0) none .weights) (boundaryIn (take (s .args .c .vertices) (s .args .boundary .now)) (table (graphIn (engine-of s)) (weightsIn (engine-of s)) (s .args .vertex .0) none .weights) (s .args .c .vertices) (s .args .vertex .0))) =
+    c .boundary-answer .ensures ∙ (λ i. accepts (boundaryFound (f .2 i) (boundaryIn (take (s .args .c .vertices) (s .args .boundary .now)) (f .2 i) (f .1 i) (s .args .vertex .0)))) in
+    (rw r (accepts-of z), boundary-free (c .boundary-answer .result) (boundaryFound (table (graphIn (engine-of s)) (weightsIn (engine-of s)) (s .args .vertex .0) none .weights) (boundaryIn (take (s .args .c .vertices) (s .args .boundary .now)) (table (graphIn (engine-of s)) (weightsIn (engine-of s)) (s .args .vertex .0) none .weights) (s .args .c .vertices) (s .args .vertex .0))) _ _ _ _ _ _ r)
 
 same-length-10 : tie.Need-same-length-10
 same-length-10 c = c .before .before .before .before .before .before .before .before .before .before .before .before .before .before .before .before .before .before .least .given
@@ -172,7 +174,7 @@ returns-2 c =
     let s : tie.Start = c .before .before .before .before .before .before .before .before .before .before .before .before .before .before .before .before .before .before .before .before .before .before .before .before .before .before .before .before .before .before .before .before .before .before .before .before .before .before .before .before .before .before .before in
     let d : c .before .number .result ≡ number-at s = c .before .number .ensures ∙ c .before .before .before .before .before .before .before .before .before .before .before .before .before .before .before .before .before .before .before .all-edges .ensures .0 .answer .number-is in
     let f : number-at s ≡ 0 → ⊥ = λ e. c .if1 .left (d ∙ e) in (
-      reply-no (number-at s) (c .before .number .result) (graphIn (engine-of s)) (weightsIn (engine-of s)) (s .args .vertex .0) d (c .if1 .left),
+      refuses-of d (c .if1 .left),
       (
         c .before .before .before .before .before .before .before .before .before .before .before .before .before .before .before .before .before .before .before .all-edges .ensures .0 .weights-left ∙ after-refused (number-at s) (table (graphIn (engine-of s)) (weightsIn (engine-of s)) (s .args .vertex .0) none .weights) (s .args .least .now) f,
         c .before .before .before .before .before .before .before .before .before .before .before .before .before .before .before .before .before .before .before .all-edges .ensures .0 .previous-left ∙ after-refused (number-at s) (table (graphIn (engine-of s)) (weightsIn (engine-of s)) (s .args .vertex .0) none .previous) (s .args .before .now) f,

@@ -14,7 +14,9 @@ use Rattle.columns.proofs.Tests.{and-both}
 use Rattle.code_line.specs.declared.CodeLine.{CodeLine}
 use Rattle.code_line.specs.declared.LineRead.{LineRead}
 use Rattle.code_line.specs.declared.LineRead.the-variants.{WellFormed, NotWellFormed}
-use Rattle.code_line.specs.Line.{comma, newline, zeroDigit, isHexDigit, digits, digitOf, hexDigitOf, number, decimalOf, hexOf, afterDecimal, decimalSound, hexSound, fromD, fromRounds, fromP, fromM, wellFormed, lineOf, lineRead, readOf, LongInputsAlike}
+use Rattle.code_line.specs.Line.{comma, newline, zeroDigit, isHexDigit, digits, digitOf, hexDigitOf, number, decimalOf, hexOf, afterDecimal, decimalSound, hexSound, fromD, fromRounds, fromP, fromM, wellFormed, lineOf, noLine, said, ReadsLine, LongInputsAlike}
+use Rattle.answers.specs.Said.{Said, Answered}
+use Rattle.answers.proofs.Said.{accepts-of, refuses-of}
 use Rattle.code_line.proofs.Runs.{digits-within}
 
 -- ---- what a sound field says
@@ -83,17 +85,30 @@ longest t e =
       length-drop 17 (fromP t),
     )
 
-pub too-long : (t : List ℕ) → 57 < length t → NotWellFormed ≡ readOf t
-too-long t h = go (wellFormed t) refl
+-- question 1 of a longer line
+not-well : (t : List ℕ) → 57 < length t → wellFormed t ≡ false
+not-well t h = go (wellFormed t) refl
   where
-    go : (b : Bool) → wellFormed t ≡ b → NotWellFormed ≡ lineRead (ask b 1 0) (lineOf t)
+    go : (b : Bool) → wellFormed t ≡ b → b ≡ false
     go false e = refl
     go true e = absurd (omega (arith, longest t e))
+
+pub not-formed : (t : List ℕ) → wellFormed t ≡ false → ReadsLine t NotWellFormed
+not-formed t e = refuses-of (sym (ap (λ (b : Bool). ask b 1 0) e)) (λ z. absurd (omega arith))
+
+pub too-long : (t : List ℕ) → 57 < length t → ReadsLine t NotWellFormed
+too-long t h = not-formed t (not-well t h)
+
+-- a refusal says nothing of the numbers
+no-values : (r : LineRead) (a b : Bool) (v w : CodeLine) → a ≡ false → b ≡ false → Answered (said r) (ask a 1 0) v noLine → Answered (said r) (ask b 1 0) w noLine
+no-values r true b v w p q x = absurd (false≢true (sym p))
+no-values r false true v w p q x = absurd (false≢true (sym q))
+no-values r false false v w p q x = record { number-is = x .number-is; values-are = x .values-are; accepted-is = x .accepted-is }
 
 pub long-inputs-alike : LongInputsAlike
 long-inputs-alike t n h k =
     let l : length (take n t) ≡ n = length-take-le n t k in
-    sym (too-long (take n t) (omega (arith, l))) ∙ too-long t (omega arith)
+    λ r. no-values r (wellFormed (take n t)) (wellFormed t) (lineOf (take n t)) (lineOf t) (not-well (take n t) (omega (arith, l))) (not-well t (omega arith))
 
 -- ---- places
 
@@ -188,8 +203,5 @@ module _ (t : List ℕ) (n1 n2 n3 n5 : ℕ) (e1 : n1 ≡ digits (drop 0 t)) (e2 
     max = (q5 ∙ field t (fromM t) at5 n5 p5 e5) k;
   }
 
-pub not-formed : (t : List ℕ) → wellFormed t ≡ false → NotWellFormed ≡ readOf t
-not-formed t e = sym (ap (λ (b : Bool). lineRead (ask b 1 0) (lineOf t)) e)
-
-pub formed : (t : List ℕ) (l : CodeLine) → wellFormed t ≡ true → l ≡ lineOf t → WellFormed l ≡ readOf t
-formed t l e p = ap WellFormed p ∙ sym (ap (λ (b : Bool). lineRead (ask b 1 0) (lineOf t)) e)
+pub formed : (t : List ℕ) (l : CodeLine) → wellFormed t ≡ true → l ≡ lineOf t → ReadsLine t (WellFormed l)
+formed t l e p = rw p (accepts-of (ap (λ (b : Bool). ask b 1 0) e))

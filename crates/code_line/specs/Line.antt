@@ -1,12 +1,12 @@
 -- Document 01, "The program `codelist`": one line kind,d,rounds,p,M ending in byte 0a, nothing after it; decimals of 1 to 9 digits
 -- without leading zeros (0 alone is well formed), p as 16 lowercase hexadecimal digits.
 use Prim.Native.Nat.{ℕ, zero, suc, _+_, _-_, _*_, _<_, _≤_}
-use mathlib.Core.Path.{_≡_}
 use mathlib.Core.Bool.{Bool, not, _&&_, _||_, cond}
 use mathlib.Core.List.{List, [], _∷_}
 use lib.Dec.{leb, eqb}
 use lib.ListN.{length, getD, take, drop}
 use Rattle.columns.specs.Questions.{ask, all}
+use Rattle.answers.specs.Said.{Said, accepts, refuses, Answered}
 use Rattle.code_line.specs.declared.CodeLine.{CodeLine}
 use Rattle.code_line.specs.declared.LineRead.{LineRead}
 use Rattle.code_line.specs.declared.LineRead.the-variants.{WellFormed, NotWellFormed}
@@ -93,27 +93,20 @@ wellFormed t =
 abbrev pub lineOf : List ℕ → CodeLine
 lineOf t = record { kind = decimalOf t; d = decimalOf (fromD t); rounds = decimalOf (fromRounds t); bits = hexOf (fromP t); max = decimalOf (fromM t) }
 
--- document 01's number for each case of an answer, 0 where the line is well formed
-abbrev pub numberOf : LineRead → ℕ
-numberOf (WellFormed l) = 0
-numberOf NotWellFormed = 1
+-- document 01's number and values for each case: the five numbers, 0 where the line was refused
+abbrev pub noLine : CodeLine
+noLine = record { kind = 0; d = 0; rounds = 0; bits = 0; max = 0 }
 
--- and its values, the five numbers: 0 where the line was refused
-abbrev pub valuesOf : LineRead → CodeLine
-valuesOf (WellFormed l) = l
-valuesOf NotWellFormed = record { kind = 0; d = 0; rounds = 0; bits = 0; max = 0 }
-
--- the case for a question's number, and the values
-abbrev pub lineRead : (number : ℕ) (values : CodeLine) → LineRead
-lineRead zero values = WellFormed values
-lineRead (suc n) values = NotWellFormed
+abbrev pub said : LineRead → Said CodeLine
+said (WellFormed l) = accepts l
+said NotWellFormed = refuses 1 noLine
 
 -- what reading a line answers: question 1, and the five numbers
-abbrev pub readOf : List ℕ → LineRead
-readOf t = lineRead (ask (wellFormed t) 1 0) (lineOf t)
+abbrev pub ReadsLine : List ℕ → LineRead → Type 0
+ReadsLine t r = Answered (said r) (ask (wellFormed t) 1 0) (lineOf t) noLine
 
 -- ---- a part of an input
 
 -- no well-formed line is longer than 57 bytes, so of a longer input any part with more than 57 bytes is read as the whole is
 abbrev pub LongInputsAlike : Type 0
-LongInputsAlike = (input : List ℕ) (n : ℕ) → 57 < n → n ≤ length input → readOf (take n input) ≡ readOf input
+LongInputsAlike = (input : List ℕ) (n : ℕ) → 57 < n → n ≤ length input → (r : LineRead) → ReadsLine (take n input) r → ReadsLine input r

@@ -11,7 +11,7 @@ ghost use mathlib.Core.Path.{_≡_};
 ghost use Prim.Native.Nat.{_≤_};
 ghost use lib.ListN.{length};
 ghost use lib.Dec.{eqb};
-ghost use Rattle.code_line.specs.Line.{readOf, LongInputsAlike};
+ghost use Rattle.code_line.specs.Line.{ReadsLine, LongInputsAlike};
 
 // The five numbers; p by its bits.
 pub struct CodeLine {
@@ -41,7 +41,7 @@ fn is(a: usize, b: usize) -> bool
 // A line that is not too long.
 fn read_short(text: &[u8]) -> LineRead
     requires { ⌜ length (now text) ≤ 57 ⌝ }
-    ensures { λ r. ⌜ r ≡ readOf (now (text .entry)) ⌝ }
+    ensures { λ r. ⌜ ReadsLine (now (text .entry)) r ⌝ }
 {
     let n1 = digits_at(text, 0);
     let sound1 = decimal_sound(text, 0, n1, b',');
@@ -73,7 +73,7 @@ fn read_short(text: &[u8]) -> LineRead
 
 // Reads a line.
 pub fn read_line(text: &[u8]) -> LineRead
-    ensures { λ r. ⌜ r ≡ readOf (now (text .entry)) ⌝ }
+    ensures { λ r. ⌜ ReadsLine (now (text .entry)) r ⌝ }
 {
     if LONGEST < text.len() {
         return LineRead::NotWellFormed;

@@ -1,17 +1,21 @@
 -- Every text fits the text column. Assumes nothing.
 use Prim.Native.Nat.{ℕ, _≤_}
+use mathlib.Core.Bool.{Bool, true, false}
 use lib.ListN.{length}
 use lib.Ieee.{binary64, ofBits}
+use Rattle.code_line.specs.declared.CodeLine.{CodeLine}
 use Rattle.code_line.specs.declared.LineRead.{LineRead}
-use Rattle.code_line.specs.declared.LineRead.the-variants.{WellFormed, NotWellFormed}
-use Rattle.code_line.specs.Line.{readOf}
+use Rattle.code_line.specs.Line.{wellFormed, lineOf, said}
 use Rattle.code_listing.proofs.Sizes.{one-line, code-few}
-use Rattle.code_text.specs.Answer.{textOf, textRoom}
+use Rattle.code_text.specs.Answer.{textBy, textOf, textRoom}
 use Rattle.code_text.specs.Claims.{EveryTextFits}
 
-pub text-few : (l : LineRead) → length (textOf l) ≤ textRoom
-text-few NotWellFormed = one-line 0x72 1
-text-few (WellFormed l) = code-few (l .kind) (l .d) (l .rounds) (ofBits binary64 (l .bits)) (l .max)
+by-few : (b : Bool) (l : CodeLine) → length (textBy b l) ≤ textRoom
+by-few false l = one-line 0x72 1
+by-few true l = code-few (l .kind) (l .d) (l .rounds) (ofBits binary64 (l .bits)) (l .max)
+
+pub text-few : (r : LineRead) → length (textOf r) ≤ textRoom
+text-few r = by-few (said r .accepted) (said r .values)
 
 pub every-text-fits : EveryTextFits
-every-text-fits input = text-few (readOf input)
+every-text-fits input = by-few (wellFormed input) (lineOf input)

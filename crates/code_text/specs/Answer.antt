@@ -1,6 +1,7 @@
 -- What `codelist` prints for an input: document 01, "The program `codelist`".
 use Prim.Native.Nat.{ℕ}
 use mathlib.Core.Path.{_≡_}
+use mathlib.Core.Bool.{Bool, true, false}
 use mathlib.Core.List.{List}
 use lib.Dec.{leb}
 use lib.ListN.{length}
@@ -8,9 +9,9 @@ use lib.Ieee.{binary64, ofBits}
 use Rattle.columns.specs.Lists.{after}
 use Rattle.columns.specs.Questions.{ask}
 use Rattle.answers.specs.Said.{Said, accepts, refuses, Answered}
+use Rattle.code_line.specs.declared.CodeLine.{CodeLine}
 use Rattle.code_line.specs.declared.LineRead.{LineRead}
-use Rattle.code_line.specs.declared.LineRead.the-variants.{WellFormed, NotWellFormed}
-use Rattle.code_line.specs.Line.{readOf}
+use Rattle.code_line.specs.Line.{wellFormed, lineOf, said as lineSaid}
 use Rattle.texts.specs.Text.{refusalLine}
 use Rattle.code_listing.specs.Listing.{codeText}
 use Rattle.code_text.specs.declared.Listed.{Listed}
@@ -18,12 +19,16 @@ use Rattle.code_text.specs.declared.Listed.the-variants.{Text, Refused}
 
 -- ---- the text for an input
 
+-- whether question 1 is met, and the five numbers
+abbrev pub textBy : Bool → CodeLine → List ℕ
+textBy true l = codeText (l .kind) (l .d) (l .rounds) (ofBits binary64 (l .bits)) (l .max)
+textBy false l = refusalLine 1
+
 abbrev pub textOf : LineRead → List ℕ
-textOf (WellFormed l) = codeText (l .kind) (l .d) (l .rounds) (ofBits binary64 (l .bits)) (l .max)
-textOf NotWellFormed = refusalLine 1
+textOf r = textBy (lineSaid r .accepted) (lineSaid r .values)
 
 abbrev pub answerText : (input : List ℕ) → List ℕ
-answerText input = textOf (readOf input)
+answerText input = textBy (wellFormed input) (lineOf input)
 
 -- ---- the call
 

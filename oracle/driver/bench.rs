@@ -53,6 +53,69 @@ fn row(what: &str, ours: f64, other: f64, asked: &str, met: bool) {
     );
 }
 
+/// p in 1e-4 to 0.4, as its number of different values and their order say
+fn repeated_probabilities(inputs: &mut Inputs, e: usize) -> Vec<(&'static str, Vec<f64>)> {
+    let some: Vec<f64> = (0..8).map(|k| 0.001 * (k + 1) as f64).collect();
+    vec![
+        ("one p", vec![some[0]; e]),
+        ("two p in turn", (0..e).map(|k| some[k % 2]).collect()),
+        ("two p at random", (0..e).map(|_| some[inputs.below(2)]).collect()),
+        ("eight p in turn", (0..e).map(|k| some[k % 8]).collect()),
+        ("every p different", (0..e).map(|_| 1e-4 + 0.3999 * inputs.unit()).collect()),
+    ]
+}
+
+/// a graph's columns, its neighbour lists filled
+fn shape(v: u32, pairs: &[(u32, u32)]) -> Columns {
+    let mut columns = Columns::with_room(v as usize, pairs.len());
+    (columns.v, columns.e) = (v, pairs.len() as u32);
+    for (k, &(a, b)) in pairs.iter().enumerate() {
+        (columns.a[k], columns.b[k]) = (a, b);
+    }
+    let number = ours::fill_vertices(
+        columns.v,
+        columns.e,
+        &columns.a,
+        &columns.b,
+        &mut columns.i,
+        &mut columns.j,
+        &mut columns.t,
+        &mut columns.boundary,
+        &mut columns.defect,
+        &mut columns.lengths,
+        &mut columns.numbers,
+    );
+    assert!(number == 0);
+    columns
+}
+
+/// the built code first, then graphs that no builder makes
+fn shapes(code: &Columns, inputs: &mut Inputs) -> Vec<(&'static str, Columns)> {
+    let e = code.e as usize;
+    let pairs: Vec<(u32, u32)> = (0..e).map(|k| (code.a[k], code.b[k])).collect();
+    let order = inputs.order(e);
+    let shuffled: Vec<_> = order.iter().map(|&k| pairs[k as usize]).collect();
+    let turned: Vec<_> = pairs.iter().map(|&(a, b)| (b, a)).collect();
+    let star: Vec<_> = (1..4096).map(|k| (0, k)).collect();
+    // larger ends 16, 32, .., each with the smaller ends before it, in any order
+    let mut even: Vec<(u32, u32)> = (1..256).rev().flat_map(|k| (0..16 * k).map(move |a| (a, 16 * k))).take(32768).collect();
+    let order = inputs.order(even.len());
+    even = order.iter().map(|&k| even[k as usize]).collect();
+    let mut repeated = shape(code.v, &shuffled);
+    (repeated.a[e - 1], repeated.b[e - 1]) = (repeated.b[0], repeated.a[0]);
+    let mut damaged = shape(code.v, &pairs);
+    damaged.a[e / 2] = code.v + 70_000;
+    vec![
+        ("built code", shape(code.v, &pairs)),
+        ("edges shuffled", shape(code.v, &shuffled)),
+        ("ends turned round", shape(code.v, &turned)),
+        ("star of 4,095 edges", shape(4096, &star)),
+        ("32,768 edges shuffled, larger ends equal mod 16", shape(4096, &even)),
+        ("edges shuffled, the last repeats the first", repeated),
+        ("one end past the vertices", damaged),
+    ]
+}
+
 fn main() {
     const D: u32 = 15;
     const ROUNDS: u32 = 16;
@@ -156,6 +219,40 @@ fn main() {
         assert!((0..e).all(|k| columns.half_weight[k] == plain_half[k]));
         row("`compute_weights`, M 250000, the recipe with interval halving in unchecked Rust", ours, other, "at most 1.2", ours <= 1.2 * other);
     }
+    for (what, p) in repeated_probabilities(&mut inputs, e) {
+        columns.p[..e].copy_from_slice(&p);
+        for (edge, &p) in code.edges.iter_mut().zip(&p) {
+            edge.p = p;
+        }
+        let (ours, rust) = two(
+            times(200),
+            || {
+                black_box(ours::compute_weights(columns.e, &columns.p, &mut columns.half_weight, M));
+            },
+            || code.compute_weights(M as Weight),
+        );
+        let all_differ = what == "every p different";
+        row(&format!("`compute_weights`, M {M}, {what}, Rust with `ln`"), ours, rust, if all_differ { "" } else { "at most 0.5" }, ours <= 0.5 * rust);
+        if all_differ {
+            let mut plain_half = vec![0u32; e];
+            let (ours, other) = two(
+                times(200),
+                || {
+                    black_box(ours::compute_weights(columns.e, &columns.p, &mut columns.half_weight, M));
+                },
+                || {
+                    plain::half_weights(&p, M, &mut plain_half);
+                    black_box(&plain_half);
+                },
+            );
+            assert!((0..e).all(|k| columns.half_weight[k] == plain_half[k]));
+            row(&format!("`compute_weights`, M {M}, {what}, the recipe with interval halving in unchecked Rust"), ours, other, "", true);
+        }
+    }
+    columns.p[..e].copy_from_slice(&columns_p);
+    for (edge, &p) in code.edges.iter_mut().zip(&columns_p) {
+        edge.p = p;
+    }
     code.compute_weights(M as Weight);
     ours::compute_weights(columns.e, &columns.p, &mut columns.half_weight, M);
     assert!((0..e).all(|k| columns.half_weight[k] as i64 == recipe.edges[k].half_weight as i64));
@@ -171,6 +268,33 @@ fn main() {
         },
     );
     row("`sanity_check`, Rust", ours, rust, "faster", ours < rust);
+
+    // ---- sanity_check and question 7 on other graphs than a built code's
+    let mut built = f64::MAX;
+    for (what, shape) in shapes(&columns, &mut inputs) {
+        let rust_shape = shape.code();
+        let (ours, rust) = two(
+            times(200),
+            || {
+                black_box(ours::sanity_check(shape.v, shape.e, &shape.a, &shape.b, &shape.lengths, &shape.numbers));
+            },
+            || {
+                black_box(rust_shape.sanity_check().is_ok());
+            },
+        );
+        row(&format!("`sanity_check`, {what}, Rust"), ours, rust, "", true);
+        let mut weights = vec![2; shape.e as usize];
+        let (door, _) = two(
+            times(400),
+            || {
+                black_box(ours::reset(shape.v, shape.e, 0, &shape.a, &shape.b, &mut weights, &shape.boundary, &[], &[]));
+            },
+            || {},
+        );
+        let size = (shape.v + shape.e) as f64;
+        built = built.min(door / size);
+        row(&format!("question 7 (`reset` on an empty log), {what}; a built code of that size"), door, built * size, "at most 6", door <= 6. * built * size);
+    }
 
     // ---- sampling
     columns.pe[..e].fill(0.01);

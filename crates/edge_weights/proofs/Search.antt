@@ -3,7 +3,7 @@
 use mathlib.Core.Path.{_≡_, refl, sym, ap, _∙_, subst}
 use mathlib.Core.Logic.{_⊎_, inl, inr}
 use Prim.Native.Nat.{ℕ, zero, suc, _-_, _*_, _^_, _≤_, _<_, zero-le}
-use native.Mathlib.Nat.{le-refl, le-of-lt, le-step, le-of-suc-le-suc, eq-or-lt-of-le, suc-ne-zero, le-trans, le-of-eq, lt-of-lt-of-le, not-le-of-lt, zero-lt-suc, mul-comm, mul-assoc, mul-left-comm, mul-le-mul-right, mul-pos, mul-sub}
+use native.Mathlib.Nat.{le-refl, le-step, le-of-suc-le-suc, eq-or-lt-of-le, suc-ne-zero, le-trans, le-of-eq, lt-of-lt-of-le, not-le-of-lt, zero-lt-suc, mul-comm, mul-assoc, mul-left-comm, mul-le-mul-right, mul-pos, mul-sub}
 use native.Mathlib.Omega.{arith}
 use mathlib.Core.Bool.{Bool, true, false, cond}
 use lib.IntN.{ℤ, pos}
@@ -162,16 +162,6 @@ greatest-is v (suc n) = go (reaches v (suc n)) refl (greatest-is v n)
 
 pub greatest-within : (v : Float) (max : ℕ) → greatest v max ≤ max
 greatest-within v max = greatest-is v max .within
-
--- two tests show which it is: v reaches r (or r is 0), and does not reach the next
-pub greatest-at : (v : Float) (max r : ℕ) → r < max → max ≤ 2 ^ 53 → (r ≡ 0) ⊎ (reaches v r ≡ true) → reaches v (suc r) ≡ false → greatest v max ≡ r
-greatest-at v max r h k m e =
-    is-greatest v max r
-    (record {
-      within = le-of-lt h;
-      met = m;
-      last = λ n a b. is-false (reaches v n) (not-T (reaches v n) (λ t. subst T e (reaches-down v (suc r) n (zero-lt-suc r) a (le-trans b k) t)));
-    })
 
 -- a NaN reaches nothing
 le-nan : (x : Float) → le x nan ≡ false

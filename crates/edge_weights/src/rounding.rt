@@ -1,16 +1,55 @@
 // The half weight of an edge.
 ghost use mathlib.Core.Path.{_≡_};
-ghost use Prim.Native.Nat.{_≤_};
-ghost use Rattle.edge_weights.specs.Rounding.{greatest, halfWeight};
+ghost use mathlib.Core.Bool.{true, false};
+ghost use mathlib.Core.Logic.{_⊎_};
+ghost use Prim.Native.Nat.{ℕ, _+_, _<_, _≤_};
+ghost use Rattle.edge_weights.specs.Rounding.{reaches, greatest, halfWeight};
 use columns::Weight;
 
-// The greatest n of 0 to max with n = 0 or v >= n - 0.5: lo is such a number, and no number from hi on is.
+// A number that mostly is the greatest: v + 0.5 without its fraction, or the end of 0 to max that is nearer.
+fn near(max: u64, v: f64) -> u64
+    ensures { λ r. ⌜ r ≤ max ⌝ }
+{
+    let x = v + 0.5;
+    if x > -1.0 {
+        if x < 18446744073709551616.0 {
+            let n = std::num::truncating_f64_to_u64(x);
+            return if n < max { n } else { max };
+        }
+        return max;
+    }
+    0
+}
+
+// n where v reaches it, else 0.
+fn reached_at(v: f64, n: u64) -> u64
+    requires { ⌜ n ≤ 500_000_000_000 ⌝ }
+    ensures { λ r. ⌜ (r ≤ n) × ((r ≡ 0) ⊎ (reaches v r ≡ true)) ⌝ }
+{
+    if v >= (n as f64) - 0.5 { n } else { 0 }
+}
+
+// The number after n where v does not reach it, else the one after max: v reaches none from there to max.
+fn missed_from(max: u64, v: f64, n: u64) -> u64
+    requires { ⌜ (n ≤ max) × (max ≤ 500_000_000_000) ⌝ }
+    ensures { λ r. ⌜ (n < r) × (r ≤ max + 1) × ((k : ℕ) → r ≤ k → k ≤ max → reaches v k ≡ false) ⌝ }
+{
+    let next = n + 1;
+    if v >= (next as f64) - 0.5 {
+        max + 1
+    } else {
+        next
+    }
+}
+
+// The greatest n of 0 to max with n = 0 or v >= n - 0.5: lo is such a number, and no number from hi on is. Two tests of a near number mostly leave nothing between them.
 fn greatest_reached(max: u64, v: f64) -> u64
     requires { ⌜ max ≤ 500_000_000_000 ⌝ }
     ensures { λ r. ⌜ r ≡ greatest v max ⌝ }
 {
-    let mut lo: u64 = 0;
-    let mut hi: u64 = max + 1;
+    let n = near(max, v);
+    let mut lo = reached_at(v, n);
+    let mut hi = missed_from(max, v, n);
     loop {
         if hi - lo <= 1 {
             break lo;

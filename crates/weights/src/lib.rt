@@ -1,4 +1,6 @@
 // Weights: document 01's section "Weights" with questions 6 to 10.
+mod known;
+
 use columns::Done;
 use columns::EDGE_LIMIT;
 use columns::HALF_WEIGHT_LIMIT;
@@ -9,7 +11,10 @@ use columns::questions::at_most;
 use columns::questions::both;
 use columns::questions::lesser;
 use edge_weights::logarithm::edge_weight;
-use edge_weights::rounding::half_weight;
+use known::PLACES;
+use known::half_weight_of;
+use known::known_half_weight;
+use known::known_weight;
 use probabilities::are_probabilities;
 use probabilities::is_probability;
 pub use set_probabilities::set_erasure_probability;
@@ -27,6 +32,7 @@ ghost use Rattle.edge_weights.specs.Logarithm.{edgeWeight};
 ghost use Rattle.edge_weights.specs.Rounding.{halfWeight};
 ghost use Rattle.answers.specs.Said.{Answered};
 ghost use Rattle.weights.specs.Answers.{said};
+ghost use Rattle.weights.specs.Steps.{Known, halfWeightOf};
 ghost use Rattle.weights.specs.Calls.{weightDoor, larger, largestWeight, isLargestHalfWeight, ComputedWeights};
 
 // What `weight_of_p` answers.
@@ -53,18 +59,29 @@ pub fn larger_weight(m: f64, w: f64) -> f64
     if w > m { w } else { m }
 }
 
-// The largest weight of the first n edges, or of all where there are fewer, from 0 on.
-fn largest_weight(p: &[f64], n: usize) -> f64
+// The largest weight of the first n edges, or of all where there are fewer, from 0 on, by a table of known weights.
+fn largest_by_table(p: &[f64], n: usize, known_p: &mut [f64], known_w: &mut [f64]) -> f64
+    requires { ⌜ Known edgeWeight (now «known_p») (now «known_w») ⌝ }
     ensures { λ r. ⌜ r ≡ largestWeight (take n (now (p .entry))) ⌝ }
 {
     let m = lesser(n, p.len());
     let mut largest = 0.0;
     let mut i: usize = 0;
     while i < m {
-        largest = larger_weight(largest, edge_weight(p[i]));
+        largest = larger_weight(largest, known_weight(p[i], known_p, known_w));
         i += 1;
     }
     largest
+}
+
+// The same, from a table that holds the probability 0 alone.
+fn largest_weight(p: &[f64], n: usize) -> f64
+    ensures { λ r. ⌜ r ≡ largestWeight (take n (now (p .entry))) ⌝ }
+{
+    let w = edge_weight(0.0);
+    let mut known_p = [0.0; PLACES];
+    let mut known_w = [w; PLACES];
+    largest_by_table(p, n, &mut known_p, &mut known_w)
 }
 
 // Whether a weight is above 0.
@@ -81,7 +98,27 @@ pub fn is_largest_half_weight(max_half_weight: Weight) -> bool
     both(1 <= max_half_weight, max_half_weight <= HALF_WEIGHT_LIMIT)
 }
 
-// Stores the half weight of each of the first n edges. The weight of an edge is computed here a second time:
+// Stores the half weight of each of the first n edges, by a table of known half weights.
+fn store_by_table(
+    n: usize,
+    p: &[f64],
+    column: &mut [Weight],
+    max_half_weight: Weight,
+    largest: f64,
+    known_p: &mut [f64],
+    known_half: &mut [Weight],
+)
+    requires { ⌜ (n ≤ length (now p)) × (n ≤ length (now column)) × Known (halfWeightOf «max_half_weight» largest) (now «known_p») (now «known_half») ⌝ }
+    ensures { λ _. ⌜ now (column .exit) ≡ over (map (halfWeightOf «max_half_weight» largest) (take n (now (p .entry)))) (now (column .entry)) ⌝ }
+{
+    let mut i: usize = 0;
+    while i < n {
+        column[i] = known_half_weight(max_half_weight, largest, p[i], known_p, known_half);
+        i += 1;
+    }
+}
+
+// The same, from a table that holds the probability 0 alone. The weight of each different probability is computed here a second time:
 // the largest has to be known before the first half weight, and no column is lent that could hold the weights.
 fn store_half_weights(
     n: usize,
@@ -93,11 +130,18 @@ fn store_half_weights(
     requires { ⌜ (n ≤ length (now p)) × (n ≤ length (now column)) ⌝ }
     ensures { λ _. ⌜ now (column .exit) ≡ over (map (λ q. halfWeight «max_half_weight» (edgeWeight q) largest) (take n (now (p .entry)))) (now (column .entry)) ⌝ }
 {
-    let mut i: usize = 0;
-    while i < n {
-        column[i] = half_weight(max_half_weight, edge_weight(p[i]), largest);
-        i += 1;
-    }
+    let half = half_weight_of(max_half_weight, largest, 0.0);
+    let mut known_p = [0.0; PLACES];
+    let mut known_half = [half; PLACES];
+    store_by_table(
+        n,
+        p,
+        column,
+        max_half_weight,
+        largest,
+        &mut known_p,
+        &mut known_half,
+    );
 }
 
 // Sets the half weight of each edge from the edges' probabilities.

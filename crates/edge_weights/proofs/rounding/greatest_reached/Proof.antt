@@ -1,26 +1,27 @@
--- `edge_weights::rounding::greatest_reached` meets its contract. Invariant: lo is 0 or is reached, and no n from hi to max is. The measure is hi - lo. Assumes nothing.
-use mathlib.Core.Path.{_≡_, refl, sym}
-use mathlib.Core.Logic.{_⊎_, inl, inr}
+-- `edge_weights::rounding::greatest_reached` meets its contract. The two tests of a near number show the invariant: lo is 0 or is reached, and no n from hi to max is. The measure is hi - lo. Assumes nothing.
+use mathlib.Core.Path.{_≡_, sym}
+use mathlib.Core.Logic.{_⊎_, inr}
 use mathlib.Core.Bool.{true, false}
 use Prim.Native.Nat.{ℕ, _+_, _-_, _/_, _≤_, _<_}
 use native.Mathlib.Omega.{arith}
+use borrow.Author.Needs.{needs}
 use Rattle.edge_weights.specs.Rounding.{reaches}
 use Rattle.edge_weights.proofs.Search.{is-greatest, misses, fits-float}
 use Rattle.edge_weights.proofs.rounding.greatest_reached.Statement.{statement}
 use Rattle.edge_weights.proofs.rounding.greatest_reached.Tie as tie
 
 abbrev Inv-loop : tie.InvT-loop
-Inv-loop max v lo₀ hi₀ lo hi =
+Inv-loop max v n lo₀ hi₀ lo hi =
     (lo < hi) × (hi ≤ max + 1) × ((lo ≡ 0) ⊎ (reaches v lo ≡ true)) × ((n : ℕ) → hi ≤ n → n ≤ max → reaches v n ≡ false)
 
 abbrev μ-loop : tie.MeasureT-loop
-μ-loop max v lo₀ hi₀ lo hi = hi - lo
-
-add-hi : tie.Need-add-hi Inv-loop μ-loop
-add-hi c = omega arith
+μ-loop max v n lo₀ hi₀ lo hi = hi - lo
 
 loop-holds : tie.Need-loop-holds Inv-loop μ-loop
-loop-holds c = (omega arith, omega arith, inl refl, λ n a b. absurd (omega arith))
+loop-holds c =
+    let lower = c .before .reached-at .ensures in
+    let upper = c .missed-from .ensures in
+    (omega (arith, lower .0, upper .0), upper .1, lower .1, upper .2)
 
 sub-if1 : tie.Need-sub-if1 Inv-loop μ-loop
 sub-if1 c = omega arith
@@ -47,18 +48,20 @@ loop-less-2 c = omega arith
 loop-again-2 : tie.Need-loop-again-2 Inv-loop μ-loop
 unfolding reaches
 loop-again-2 c =
-    let at-loop = c .before .before .before in (
+    let l = c .before .before .before .loop in
+    let s = c .before .before .before .before .before .before .before .args in (
       omega arith,
       omega arith,
-      at-loop .loop .inv .2,
-      (λ n a b. misses (at-loop .before .args .v) (at-loop .loop .lo + (at-loop .loop .hi - at-loop .loop .lo) / 2) n (at-loop .before .args .max) (omega arith) a b (omega arith) (c .if2 .left)),
+      l .inv .2,
+      (λ n a b. misses (s .v) (l .lo + (l .hi - l .lo) / 2) n (s .max) (omega arith) a b (omega arith) (c .if2 .left)),
     )
 
 returns : tie.Need-returns Inv-loop μ-loop
 returns c =
     let l = c .before .loop in
+    let s = c .before .before .before .before .before .args in
     sym
-    (is-greatest (c .before .before .args .v) (c .before .before .args .max) (l .lo)
+    (is-greatest (s .v) (s .max) (l .lo)
     (record { within = omega arith; met = l .inv .2; last = λ n a b. l .inv .3 n (omega arith) b }))
 
 pub greatest-reached-spec : {M : Type 1} → statement M
@@ -67,7 +70,9 @@ greatest-reached-spec =
     (tie.spec
     Inv-loop
     μ-loop
-    add-hi
+    (λ c κs. search needs)
+    (λ c κs. search needs)
+    (λ c κs. search needs)
     loop-holds
     sub-if1
     sub-mid

@@ -21,12 +21,20 @@ fn near(max: u64, v: f64) -> u64
     0
 }
 
+// Whether v >= n - 0.5.
+fn is_reached(v: f64, n: u64) -> bool
+    requires { ⌜ n ≤ 500_000_000_001 ⌝ }
+    ensures { λ r. ⌜ r ≡ reaches v n ⌝ }
+{
+    v >= (n as f64) - 0.5
+}
+
 // n where v reaches it, else 0.
 fn reached_at(v: f64, n: u64) -> u64
     requires { ⌜ n ≤ 500_000_000_000 ⌝ }
     ensures { λ r. ⌜ (r ≤ n) × ((r ≡ 0) ⊎ (reaches v r ≡ true)) ⌝ }
 {
-    if v >= (n as f64) - 0.5 { n } else { 0 }
+    if is_reached(v, n) { n } else { 0 }
 }
 
 // The number after n where v does not reach it, else the one after max: v reaches none from there to max.
@@ -34,15 +42,11 @@ fn missed_from(max: u64, v: f64, n: u64) -> u64
     requires { ⌜ (n ≤ max) × (max ≤ 500_000_000_000) ⌝ }
     ensures { λ r. ⌜ (n < r) × (r ≤ max + 1) × ((k : ℕ) → r ≤ k → k ≤ max → reaches v k ≡ false) ⌝ }
 {
-    let next = n + 1;
-    if v >= (next as f64) - 0.5 {
-        max + 1
-    } else {
-        next
-    }
+    if is_reached(v, n + 1) { max + 1 } else { n + 1 }
 }
 
-// The greatest n of 0 to max with n = 0 or v >= n - 0.5: lo is such a number, and no number from hi on is. Two tests of a near number mostly leave nothing between them.
+// The greatest n of 0 to max with n = 0 or v >= n - 0.5: lo is such a number, and no number from hi on is. Two tests of a near number
+// mostly leave nothing between them.
 fn greatest_reached(max: u64, v: f64) -> u64
     requires { ⌜ max ≤ 500_000_000_000 ⌝ }
     ensures { λ r. ⌜ r ≡ greatest v max ⌝ }
@@ -55,7 +59,7 @@ fn greatest_reached(max: u64, v: f64) -> u64
             break lo;
         }
         let mid = lo + (hi - lo) / 2;
-        if v >= (mid as f64) - 0.5 {
+        if is_reached(v, mid) {
             lo = mid;
         } else {
             hi = mid;

@@ -1,6 +1,6 @@
 // A table of the probabilities that a pass met, with what was computed for them. Most graphs have few different probabilities,
 // and then few logarithms and half weights are computed. The bits of a probability choose two neighbouring places, which hold
-// the last two probabilities that chose them: where a graph has two different probabilities, nothing is computed again.
+// the last two probabilities that were computed for them: of two different probabilities none is computed twice.
 ghost use mathlib.Core.Path.{_≡_};
 ghost use Prim.Native.Nat.{_+_, _<_};
 ghost use lib.ListN.{length, getD};
@@ -14,14 +14,15 @@ use edge_weights::rounding::half_weight;
 // How many places a table has.
 pub const PLACES: usize = 256;
 
-// The first of the two places of p.
+// The first of the two places of p, by all its bits, seven at a time.
 fn place_of(p: f64) -> usize
     ensures { λ r. ⌜ r + 1 < places ⌝ }
 {
     if p == p {
         let bits = f64::to_bits(p);
-        let mixed = bits ^ (bits >> 23) ^ (bits >> 46) ^ (bits >> 52);
-        return ((mixed % 128) * 2) as usize;
+        let folded = bits ^ (bits >> 28) ^ (bits >> 56);
+        let mixed = folded ^ (folded >> 14);
+        return (((mixed ^ (mixed >> 7)) % 128) * 2) as usize;
     }
     0
 }

@@ -1,12 +1,12 @@
 -- `edge_weights::rounding::greatest_reached` meets its contract. The two tests of a near number show the invariant: lo is 0 or is reached, and no n from hi to max is. The measure is hi - lo. Assumes nothing.
-use mathlib.Core.Path.{_≡_, sym}
+use mathlib.Core.Path.{_≡_, sym, _∙_}
 use mathlib.Core.Logic.{_⊎_, inr}
 use mathlib.Core.Bool.{true, false}
 use Prim.Native.Nat.{ℕ, _+_, _-_, _/_, _≤_, _<_}
 use native.Mathlib.Omega.{arith}
 use borrow.Author.Needs.{needs}
 use Rattle.edge_weights.specs.Rounding.{reaches}
-use Rattle.edge_weights.proofs.Search.{is-greatest, misses, fits-float}
+use Rattle.edge_weights.proofs.Search.{is-greatest, misses}
 use Rattle.edge_weights.proofs.rounding.greatest_reached.Statement.{statement}
 use Rattle.edge_weights.proofs.rounding.greatest_reached.Tie as tie
 
@@ -32,28 +32,28 @@ sub-mid c = omega arith
 add-mid : tie.Need-add-mid Inv-loop μ-loop
 add-mid c = omega arith
 
-int-to-float-if2 : tie.Need-int-to-float-if2 Inv-loop μ-loop
-int-to-float-if2 c = fits-float _ (omega arith)
+is-reached-requires : tie.Need-is-reached-requires Inv-loop μ-loop
+is-reached-requires c κs = omega arith
 
 loop-less : tie.Need-loop-less Inv-loop μ-loop
 loop-less c = omega arith
 
 loop-again : tie.Need-loop-again Inv-loop μ-loop
-unfolding reaches
-loop-again c = (omega arith, omega arith, inr (c .if2 .taken), c .before .before .before .loop .inv .3)
+loop-again c =
+    (omega arith, omega arith, inr (sym (c .before .is-reached .ensures) ∙ c .if2 .taken), c .before .before .before .loop .inv .3)
 
 loop-less-2 : tie.Need-loop-less-2 Inv-loop μ-loop
 loop-less-2 c = omega arith
 
 loop-again-2 : tie.Need-loop-again-2 Inv-loop μ-loop
-unfolding reaches
 loop-again-2 c =
     let l = c .before .before .before .loop in
-    let s = c .before .before .before .before .before .before .before .args in (
+    let s = c .before .before .before .before .before .before .before .args in
+    let missed = sym (c .before .is-reached .ensures) ∙ c .if2 .left in (
       omega arith,
       omega arith,
       l .inv .2,
-      (λ n a b. misses (s .v) (l .lo + (l .hi - l .lo) / 2) n (s .max) (omega arith) a b (omega arith) (c .if2 .left)),
+      (λ n a b. misses (s .v) (l .lo + (l .hi - l .lo) / 2) n (s .max) (omega arith) a b (omega arith) missed),
     )
 
 returns : tie.Need-returns Inv-loop μ-loop
@@ -77,7 +77,7 @@ greatest-reached-spec =
     sub-if1
     sub-mid
     add-mid
-    int-to-float-if2
+    is-reached-requires
     loop-less
     loop-again
     loop-less-2

@@ -7,7 +7,7 @@ use Rattle.code_questions.specs.Answers as count
 use Rattle.weights.specs.declared.WeightOfP.{WeightOfP}
 use Rattle.weights.specs.Answers.{said}
 use Rattle.verdicts.specs.declared.Verdict.{Verdict}
-use Rattle.verdicts.specs.Sanity.{refusalNumber, verdictNumber, firstValue, secondValue}
+use Rattle.verdicts.specs.Sanity as sanity
 use Rattle.code_access.specs.declared.ListCount.{ListCount}
 use Rattle.code_access.specs.declared.SyndromeCounts.{SyndromeCounts}
 use Rattle.vertex_marks.specs.declared.Truth.{Truth}
@@ -33,10 +33,10 @@ pub record ReportsWeighed (a : WeightOfP) (r : WeighedReport) : Type 0 where
   pub weight : r .weight ≡ said a .values
 
 pub record ReportsVerdict (a : Verdict) (r : VerdictReport) : Type 0 where
-  pub number : r .number ≡ refusalNumber a
-  pub verdict : r .verdict ≡ verdictNumber a
-  pub first : r .first ≡ firstValue a
-  pub second : r .second ≡ secondValue a
+  pub number : r .number ≡ sanity.said a .number
+  pub verdict : r .verdict ≡ sanity.said a .values .0
+  pub first : r .first ≡ sanity.said a .values .1
+  pub second : r .second ≡ sanity.said a .values .2
 
 pub record ReportsList (a : ListCount) (r : OneCount) : Type 0 where
   pub number : r .number ≡ listSaid a .number

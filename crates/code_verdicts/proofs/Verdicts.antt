@@ -3,7 +3,7 @@ use mathlib.Core.Path.{_≡_, refl, sym, ap, _∙_, subst}
 use mathlib.Core.Logic.{_⊎_, inl, inr}
 use mathlib.Core.Bool.{Bool, true, false}
 use mathlib.Core.List.{List, map}
-use Prim.Native.Nat.{ℕ, zero, suc, _+_, _*_, _≤_, _<_}
+use Prim.Native.Nat.{ℕ, _+_, _*_, _≤_, _<_}
 use native.Mathlib.Omega.{arith}
 use lib.ListN.{length, getD, take}
 use lib.Ieee.{Float}
@@ -20,12 +20,15 @@ use Rattle.layers.proofs.Accepted.{Accepted, accepted, buildable}
 use Rattle.layers.proofs.Counted.{edges-counted}
 use Rattle.code_graphs.proofs.Sound.{first-over, second-over, first-is, second-is, built}
 use Rattle.code_graphs.proofs.Lists.{Touches, vertex-touched}
+use Rattle.answers.proofs.Said.{same-answer}
 use Rattle.verdicts.specs.declared.Verdict.{Verdict}
-use Rattle.verdicts.specs.Sanity.{verdictOf, sanityAnswer, SanityChecked}
+use Rattle.verdicts.specs.declared.Verdict.the-variants.{Sound}
+use Rattle.verdicts.specs.Sanity.{said, SanityChecked}
+use Rattle.vertices.proofs.Verdicts.{sanityAnswer, checked}
 use Rattle.vertices.proofs.Theorems.{EndsEdge, sound-verdict}
 use Rattle.diagonals.specs.declared.DiagonalProbability.{DiagonalProbability}
 use Rattle.example_codes.specs.declared.Created.{Created}
-use Rattle.example_codes.specs.declared.Created.the-variants.{Code, Refused}
+use Rattle.example_codes.specs.declared.Created.the-variants.{Refused}
 use Rattle.example_codes.specs.Columns.{CodeColumns}
 use Rattle.example_codes.specs.CreateCode.{refusal, refusalIn, newColumns}
 use Rattle.example_codes.proofs.Cases.{code-case}
@@ -93,7 +96,7 @@ module _ (kind d rounds : ℕ) (ok : Accepted kind d rounds) where
     numbers-are : take (length (lists a b e v)) (over ns n₀) ≡ lists a b e v
     numbers-are = ap (λ (l : List ℕ). take (length l) (over ns n₀)) same-lists ∙ take-over ns n₀ (length ns) refl ∙ sym same-lists
 
-    pub gets-zero : sanityAnswer v e a b (over ls l₀) (over ns n₀) ≡ verdictOf 0 0 0
+    pub gets-zero : sanityAnswer v e a b (over ls l₀) (over ns n₀) ≡ Sound
     gets-zero = sound-verdict v e a b (over ls l₀) (over ns n₀) (built kind d rounds ok .graph a₀ b₀) some ends lengths-are numbers-are
 
 -- columns that were written hold the code
@@ -102,10 +105,11 @@ module _ (kind d rounds q : ℕ) (lent back : CodeColumns) (z : q ≡ 0) (v e : 
       → back .listLengths ≡ after q (newColumns kind d rounds .listLengths) (lent .listLengths) → back .neighborNumbers ≡ after q (newColumns kind d rounds .neighborNumbers) (lent .neighborNumbers)
       → GetsZero v e back
   written-zero a b l n r s =
-      s .answers
-      ∙ (λ i. sanityAnswer (ve i) (ee i) ((a ∙ after-accepted q (newColumns kind d rounds .endsA) (lent .endsA) z) i) ((b ∙ after-accepted q (newColumns kind d rounds .endsB) (lent .endsB) z) i)
+      same-answer (s .answers) (checked v e (back .endsA) (back .endsB) (back .listLengths) (back .neighborNumbers) _ refl .answers)
+      ∙ ap said
+      ((λ i. sanityAnswer (ve i) (ee i) ((a ∙ after-accepted q (newColumns kind d rounds .endsA) (lent .endsA) z) i) ((b ∙ after-accepted q (newColumns kind d rounds .endsB) (lent .endsB) z) i)
       ((l ∙ after-accepted q (newColumns kind d rounds .listLengths) (lent .listLengths) z) i) ((n ∙ after-accepted q (newColumns kind d rounds .neighborNumbers) (lent .neighborNumbers) z) i))
-      ∙ gets-zero kind d rounds ok (lent .endsA) (lent .endsB) (lent .listLengths) (lent .neighborNumbers)
+      ∙ gets-zero kind d rounds ok (lent .endsA) (lent .endsB) (lent .listLengths) (lent .neighborNumbers))
 
 pub created-codes-are-sound : CreatedCodesAreSound
 unfolding refusal

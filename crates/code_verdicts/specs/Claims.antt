@@ -3,8 +3,9 @@ use Prim.Native.Nat.{ℕ}
 use mathlib.Core.Path.{_≡_}
 use lib.Ieee.{Float}
 use Rattle.diagonals.specs.declared.DiagonalProbability.{DiagonalProbability}
+use Rattle.answers.specs.Said.{accepts}
 use Rattle.verdicts.specs.declared.Verdict.{Verdict}
-use Rattle.verdicts.specs.Sanity.{verdictOf, SanityChecked}
+use Rattle.verdicts.specs.Sanity.{said, SanityChecked}
 use Rattle.example_codes.specs.declared.Created.{Created}
 use Rattle.example_codes.specs.declared.Created.the-variants.{Code}
 use Rattle.example_codes.specs.Columns.{CodeColumns}
@@ -13,7 +14,7 @@ use Rattle.weighted_codes.specs.NewCode.{WeightedCode}
 
 -- whatever `sanity_check` answers to the columns of a code of v vertices and e edges is verdict 0
 abbrev pub GetsZero : (v e : ℕ) → CodeColumns → Type 0
-GetsZero v e back = (r : Verdict) → SanityChecked v e (back .endsA) (back .endsB) (back .listLengths) (back .neighborNumbers) r → r ≡ verdictOf 0 0 0
+GetsZero v e back = (r : Verdict) → SanityChecked v e (back .endsA) (back .endsB) (back .listLengths) (back .neighborNumbers) r → said r ≡ accepts (0, 0, 0)
 
 -- of the columns that an accepted `create_code` hands back, whatever was lent
 abbrev pub CreatedCodesAreSound : Type 0

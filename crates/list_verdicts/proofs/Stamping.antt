@@ -10,8 +10,8 @@ use lib.Dec.{eqb}
 use lib.ListN.{length, getD, set, take, drop, length-set, length-take, length-drop}
 use lib.Seq.{getD-set-same, getD-set-other, getD-take, getD-drop}
 use Rattle.verdicts.specs.declared.Verdict.{Verdict}
-use Rattle.verdicts.specs.declared.Verdict.the-variants.{Sound}
-use Rattle.verdicts.specs.Sanity.{verdictOf, firstOf, foundIf, twice, atVertex, listAt, total}
+use Rattle.verdicts.specs.declared.Verdict.the-variants.{Sound, NoEdges, EdgeTwice}
+use Rattle.verdicts.specs.Sanity.{edgeNumbered, vertexNumbered, firstOf, foundIf, twice, atVertex, listAt, total}
 use Rattle.verdicts.specs.Steps.{isSound}
 use Rattle.list_verdicts.specs.Steps.{Seen, Stamped, Below}
 use Rattle.verdicts.proofs.Scans.{first-next, first-stop, first-all, first-any, first-same, found-true, found-false}
@@ -92,7 +92,7 @@ part numbers start len = take len (drop start numbers)
 
 -- the finding at place i of a vertex's list
 finding : (list : List ℕ) (v i : ℕ) → Verdict
-finding list v i = firstOf i (λ j. foundIf (eqb (getD list j 0) (getD list i 0)) (verdictOf 4 (getD list i 0) v))
+finding list v i = firstOf i (λ j. foundIf (eqb (getD list j 0) (getD list i 0)) (EdgeTwice (edgeNumbered (getD list i 0)) (vertexNumbered v)))
 
 -- no finding at the first i places
 pub NoneTwice : (list : List ℕ) (v i : ℕ) → Type 0
@@ -114,19 +114,19 @@ module _ (numbers : List ℕ) (start len v : ℕ) (fits : start + len ≤ length
     unfolding finding
     finding-none s = first-all _ i (λ j l. found-false _ _ (ne-eqb (getD (part numbers start len) j 0) (getD (part numbers start len) i 0) (λ q. s .no refl j l (sym (list-at j (omega arith)) ∙ q ∙ list-at i h ∙ e))))
 
-    finding-some : Seen numbers start i x true → finding (part numbers start len) v i ≡ verdictOf 4 x v
+    finding-some : Seen numbers start i x true → finding (part numbers start len) v i ≡ EdgeTwice (edgeNumbered x) (vertexNumbered v)
     unfolding finding
     finding-some s =
         let list = part numbers start len in
         let (j, (l, q)) = s .yes refl in
-        first-any (λ j. eqb (getD list j 0) (getD list i 0)) (verdictOf 4 (getD list i 0) v) i j l (eq-eqb _ _ (list-at j (omega arith) ∙ q ∙ sym e ∙ sym (list-at i h)))
-        ∙ ap (λ (y : ℕ). verdictOf 4 y v) (list-at i h ∙ e)
+        first-any (λ j. eqb (getD list j 0) (getD list i 0)) (EdgeTwice (edgeNumbered (getD list i 0)) (vertexNumbered v)) i j l (eq-eqb _ _ (list-at j (omega arith) ∙ q ∙ sym e ∙ sym (list-at i h)))
+        ∙ ap (λ (y : ℕ). EdgeTwice (edgeNumbered y) (vertexNumbered v)) (list-at i h ∙ e)
 
     pub none-next : {r : Bool} → Seen numbers start i x r → r ≡ false → NoneTwice (part numbers start len) v i → NoneTwice (part numbers start len) v (i + 1)
     unfolding NoneTwice
     none-next {r} s f n = first-next (finding (part numbers start len) v) i n (finding-none (subst (Seen numbers start i x) f s))
 
-    pub twice-stop : {r : Bool} → Seen numbers start i x r → r ≡ true → NoneTwice (part numbers start len) v i → verdictOf 4 x v ≡ twice (part numbers start len) v
+    pub twice-stop : {r : Bool} → Seen numbers start i x r → r ≡ true → NoneTwice (part numbers start len) v i → EdgeTwice (edgeNumbered x) (vertexNumbered v) ≡ twice (part numbers start len) v
     unfolding NoneTwice twice finding
     twice-stop {r} s t n =
         let it = finding-some (subst (Seen numbers start i x) t s) in
@@ -138,13 +138,13 @@ module _ (numbers : List ℕ) (start len v : ℕ) (fits : start + len ≤ length
 
 -- ---- the finding at a vertex
 
-pub no-edges : (list : List ℕ) (len v : ℕ) → len ≡ 0 → verdictOf 3 v 0 ≡ atVertex list len v
+pub no-edges : (list : List ℕ) (len v : ℕ) → len ≡ 0 → NoEdges (vertexNumbered v) ≡ atVertex list len v
 unfolding atVertex
-no-edges list len v e = ap (λ (t : Bool). cond t (verdictOf 3 v 0) (twice list v)) (sym (eq-eqb len 0 e))
+no-edges list len v e = ap (λ (t : Bool). cond t (NoEdges (vertexNumbered v)) (twice list v)) (sym (eq-eqb len 0 e))
 
 pub some-edges : (list : List ℕ) (len v : ℕ) → (len ≡ 0 → ⊥) → twice list v ≡ atVertex list len v
 unfolding atVertex
-some-edges list len v f = ap (λ (t : Bool). cond t (verdictOf 3 v 0) (twice list v)) (sym (ne-eqb len 0 f))
+some-edges list len v f = ap (λ (t : Bool). cond t (NoEdges (vertexNumbered v)) (twice list v)) (sym (ne-eqb len 0 f))
 
 -- the finding at vertex v, from where its list starts and its length
 pub vertex-is : (lengths numbers : List ℕ) (v : ℕ) {len start : ℕ} {r : Verdict} → len ≡ getD lengths v 0 → start ≡ total (take v lengths)

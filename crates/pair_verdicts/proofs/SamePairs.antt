@@ -12,8 +12,8 @@ use Rattle.columns.proofs.Tests.{every-at, every-more}
 use Rattle.edge_pairs.specs.Pairs.{samePair, pairsApart, FirstRepeat}
 use Rattle.edge_pairs.proofs.Chains.{fresh-not, fresh-all, le-or-lt}
 use Rattle.verdicts.specs.declared.Verdict.{Verdict}
-use Rattle.verdicts.specs.declared.Verdict.the-variants.{Sound}
-use Rattle.verdicts.specs.Sanity.{verdictOf, firstOf, foundIf, duplicate}
+use Rattle.verdicts.specs.declared.Verdict.the-variants.{Sound, DuplicateEdge}
+use Rattle.verdicts.specs.Sanity.{edgeNumbered, firstOf, foundIf, duplicate}
 use Rattle.verdicts.specs.Steps.{isSound}
 use Rattle.pair_verdicts.specs.Steps.{FirstSame}
 use Rattle.verdicts.proofs.Scans.{first-next, first-stop, first-all, found-true, found-false}
@@ -34,33 +34,33 @@ module _ {a b : List ℕ} {i r : ℕ} (s : FirstSame a b i r) where
 
   none-same : (r < i → ⊥) → duplicate a b i ≡ Sound
   unfolding duplicate
-  none-same f = first-all _ i (λ m h. found-false (samePair a b m i) (verdictOf 2 m i) (before m (omega (arith, s .within))))
+  none-same f = first-all _ i (λ m h. found-false (samePair a b m i) (DuplicateEdge (edgeNumbered m) (edgeNumbered i)) (before m (omega (arith, s .within))))
 
-  some-same : r < i → duplicate a b i ≡ verdictOf 2 r i
+  some-same : r < i → duplicate a b i ≡ DuplicateEdge (edgeNumbered r) (edgeNumbered i)
   unfolding duplicate
   some-same h =
-      let f : ℕ → Verdict = λ j. foundIf (samePair a b j i) (verdictOf 2 j i) in
-      let it : f r ≡ verdictOf 2 r i = found-true (samePair a b r i) (verdictOf 2 r i) (here h) in
-      first-stop f i r h (first-all f r (λ m l. found-false (samePair a b m i) (verdictOf 2 m i) (before m l))) (ap isSound it) ∙ it
+      let f : ℕ → Verdict = λ j. foundIf (samePair a b j i) (DuplicateEdge (edgeNumbered j) (edgeNumbered i)) in
+      let it : f r ≡ DuplicateEdge (edgeNumbered r) (edgeNumbered i) = found-true (samePair a b r i) (DuplicateEdge (edgeNumbered r) (edgeNumbered i)) (here h) in
+      first-stop f i r h (first-all f r (λ m l. found-false (samePair a b m i) (DuplicateEdge (edgeNumbered m) (edgeNumbered i)) (before m l))) (ap isSound it) ∙ it
 
   -- the loop over the edges: a turn, and the edge that ends it
   pub scan-more : firstOf i (duplicate a b) ≡ Sound → (r < i → ⊥) → firstOf (i + 1) (duplicate a b) ≡ Sound
   scan-more p f = first-next (duplicate a b) i p (none-same f)
 
-  pub scan-stop : (n : ℕ) → i < n → firstOf i (duplicate a b) ≡ Sound → r < i → verdictOf 2 r i ≡ firstOf n (duplicate a b)
+  pub scan-stop : (n : ℕ) → i < n → firstOf i (duplicate a b) ≡ Sound → r < i → DuplicateEdge (edgeNumbered r) (edgeNumbered i) ≡ firstOf n (duplicate a b)
   scan-stop n h p l = sym (first-stop (duplicate a b) n i h p (ap isSound (some-same l)) ∙ some-same l)
 
 -- by the first edge that joins the pair of an earlier one
 module _ (a b : List ℕ) (n r : ℕ) (s : FirstRepeat a b n r) where
   none-before : firstOf r (duplicate a b) ≡ Sound
   unfolding duplicate pairsApart
-  none-before = first-all (duplicate a b) r (λ k h. first-all _ k (λ m l. found-false (samePair a b m k) (verdictOf 2 m k)
+  none-before = first-all (duplicate a b) r (λ k h. first-all _ k (λ m l. found-false (samePair a b m k) (DuplicateEdge (edgeNumbered m) (edgeNumbered k))
       (not-true (samePair a b m k) (every-at (λ j. not (samePair a b j k)) k (every-at (λ k. every k (λ j. not (samePair a b j k))) r (s .apart) k h) m l))))
 
   pub repeat-none : n ≤ r → firstOf n (duplicate a b) ≡ Sound
   repeat-none h = let e : r ≡ n = omega (arith, s .within) in rw e at none-before
 
-  pub repeat-found : (q : ℕ) → r < n → FirstSame a b r q → verdictOf 2 q r ≡ firstOf n (duplicate a b)
+  pub repeat-found : (q : ℕ) → r < n → FirstSame a b r q → DuplicateEdge (edgeNumbered q) (edgeNumbered r) ≡ firstOf n (duplicate a b)
   repeat-found q h f = scan-stop f n h none-before (⊎-elim
       (λ (l : r ≤ q). absurd (false≢true (sym (s .repeats h) ∙ fresh-all a b r r (λ m o. f .none m (omega arith)))))
       (λ (l : q < r). l)

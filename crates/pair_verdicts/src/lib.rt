@@ -2,7 +2,7 @@
 ghost use mathlib.Core.Path.{_≡_};
 ghost use Prim.Native.Nat.{_<_, _≤_};
 ghost use lib.ListN.{length};
-ghost use Rattle.edge_pairs.specs.Pairs.{lowAt, highAt, FirstRepeat};
+ghost use Rattle.edge_pairs.specs.Pairs.{FirstRepeat};
 ghost use Rattle.verdicts.specs.Sanity.{firstOf, duplicate};
 ghost use Rattle.pair_verdicts.specs.Steps.{FirstSame};
 use columns::EDGE_LIMIT;

@@ -22,12 +22,12 @@ use Rattle.neighbors.proofs.Ends.{GraphSound, graph-says}
 use Rattle.neighbors.proofs.Placing.{length-hit, length-more, length-within, lists-more, lists-count, list-of, neighbours-chosen}
 use Rattle.marks.proofs.Listing.{chosen-ascends}
 use Rattle.verdicts.specs.declared.Verdict.{Verdict}
-use Rattle.verdicts.specs.declared.Verdict.the-variants.{Sound, Refused}
-use Rattle.verdicts.specs.Sanity.{verdictOf, orElse, firstOf, foundIf, duplicate, twice, atVertex, listAt, total, verdict, sanityLong, sanityAnswer}
+use Rattle.verdicts.specs.declared.Verdict.the-variants.{Sound, DuplicateEdge, EdgeTwice, Refused}
+use Rattle.verdicts.specs.Sanity.{edgeNumbered, vertexNumbered, orElse, firstOf, foundIf, duplicate, twice, atVertex, listAt, total, verdict, sanityLong}
 use Rattle.verdicts.proofs.Scans.{first-all, found-false, or-sound}
 use Rattle.verdicts.proofs.Sums.{total-none, total-more}
 use Rattle.list_verdicts.proofs.Stamping.{some-edges}
-use Rattle.vertices.proofs.Verdicts.{scanned, long-from}
+use Rattle.vertices.proofs.Verdicts.{sanityAnswer, scanned, long-from}
 
 -- edge k ends at vertex u
 pub record EndsEdge (a b : List ℕ) (e u : ℕ) : Type 0 where
@@ -52,7 +52,7 @@ some-number a b e u s = go (s .at-u)
 -- no number stands twice in a list that ascends
 ascending-once : (list : List ℕ) (u : ℕ) → ((i j : ℕ) → i < j → j < length list → getD list i 0 < getD list j 0) → twice list u ≡ Sound
 unfolding twice
-ascending-once list u f = first-all _ (length list) (λ i h. first-all _ i (λ j l. found-false _ (verdictOf 4 (getD list i 0) u) (ne-eqb (getD list j 0) (getD list i 0) (λ q. omega (arith, f j i l h)))))
+ascending-once list u f = first-all _ (length list) (λ i h. first-all _ i (λ j l. found-false _ (EdgeTwice (edgeNumbered (getD list i 0)) (vertexNumbered u)) (ne-eqb (getD list j 0) (getD list i 0) (λ q. omega (arith, f j i l h)))))
 
 module _ (v e : ℕ) (a b lengths numbers : List ℕ) (sound : graphSound v e a b ≡ true)
     (some-edge : 1 ≤ e) (all-end : (u : ℕ) → u < v → EndsEdge a b e u)
@@ -86,7 +86,7 @@ module _ (v e : ℕ) (a b lengths numbers : List ℕ) (sound : graphSound v e a 
   unfolding duplicate pairsApart
   no-duplicate k h =
       let p = every-at (λ k. every k (λ j. not (samePair a b j k))) e (at-apart a b e (graph .apart)) k h in
-      first-all _ k (λ j l. found-false _ (verdictOf 2 j k) (not-true (samePair a b j k) (every-at (λ j. not (samePair a b j k)) k p j l)))
+      first-all _ k (λ j l. found-false _ (DuplicateEdge (edgeNumbered j) (edgeNumbered k)) (not-true (samePair a b j k) (every-at (λ j. not (samePair a b j k)) k p j l)))
 
   no-finding : (u : ℕ) → u < v → atVertex (listAt lengths numbers u) (getD lengths u 0) u ≡ Sound
   no-finding u h =

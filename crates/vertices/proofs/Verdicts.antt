@@ -1,55 +1,70 @@
 -- The verdict from its parts, and what question 6 says. Assumes nothing.
-use mathlib.Core.Path.{_≡_, refl, sym, ap, _∙_}
-use mathlib.Core.Bool.{Bool, true, false, _&&_, _||_, cond}
+use mathlib.Core.Path.{_≡_, refl, sym, ap, _∙_, subst}
+use mathlib.Core.Bool.{Bool, true, false, _&&_, _||_, cond, false≢true}
 use mathlib.Core.List.{List}
 use Prim.Native.Nat.{ℕ, zero, suc, _*_, _≤_, _<_}
+use native.Mathlib.Omega.{arith}
 use lib.Dec.{eqb, leb}
 use lib.ListN.{length, getD, take}
 use borrow.Author.Tests.{eq-eqb, ne-eqb, leb-true, le-leb}
+use Rattle.columns.specs.Questions.{ask}
 use Rattle.columns.proofs.Tests.{and-both, both-and}
+use Rattle.answers.specs.Said.{Said, accepts, Answered}
+use Rattle.answers.proofs.Said.{accepts-of, refuses-of}
 use Rattle.edge_pairs.specs.Pairs.{samePair}
 use Rattle.verdicts.specs.declared.Verdict.{Verdict}
 use Rattle.verdicts.specs.declared.Verdict.the-variants.{Sound, Empty, DuplicateEdge, NoEdges, EdgeTwice, Refused}
-use Rattle.verdicts.specs.Sanity.{verdictOf, verdictNumber, refusalNumber, firstValue, secondValue, orElse, firstOf, foundIf, duplicate, twice, atVertex, listAt, total, verdict, sanityLong, sanityAnswer, SanityChecked}
+use Rattle.verdicts.specs.Sanity.{edgeNumbered, vertexNumbered, said, orElse, firstOf, foundIf, duplicate, twice, atVertex, listAt, total, verdict, sanityLong, SanityChecked}
 
--- ---- no finding is a refusal
+-- ---- a verdict is no refusal
 
-or-refusal : (x y : Verdict) → refusalNumber x ≡ 0 → refusalNumber y ≡ 0 → refusalNumber (orElse x y) ≡ 0
-or-refusal Sound y p q = q
-or-refusal Empty y p q = p
-or-refusal (DuplicateEdge j k) y p q = p
-or-refusal (NoEdges v) y p q = p
-or-refusal (EdgeTwice j v) y p q = p
-or-refusal (Refused n) y p q = p
+or-finding : (x y : Verdict) → said x .accepted ≡ true → said y .accepted ≡ true → said (orElse x y) .accepted ≡ true
+or-finding Sound y p q = q
+or-finding Empty y p q = p
+or-finding (DuplicateEdge j k) y p q = p
+or-finding (NoEdges v) y p q = p
+or-finding (EdgeTwice j v) y p q = p
+or-finding (Refused n) y p q = p
 
-first-refusal : (n : ℕ) (f : ℕ → Verdict) → ((i : ℕ) → refusalNumber (f i) ≡ 0) → refusalNumber (firstOf n f) ≡ 0
+first-finding : (n : ℕ) (f : ℕ → Verdict) → ((i : ℕ) → said (f i) .accepted ≡ true) → said (firstOf n f) .accepted ≡ true
 unfolding firstOf
-first-refusal zero f h = refl
-first-refusal (suc n) f h = or-refusal (firstOf n f) (f n) (first-refusal n f h) (h n)
+first-finding zero f h = refl
+first-finding (suc n) f h = or-finding (firstOf n f) (f n) (first-finding n f h) (h n)
 
-pick-refusal : (b : Bool) (x y : Verdict) → refusalNumber x ≡ 0 → refusalNumber y ≡ 0 → refusalNumber (cond b x y) ≡ 0
-pick-refusal true x y p q = p
-pick-refusal false x y p q = q
+pick-finding : (b : Bool) (x y : Verdict) → said x .accepted ≡ true → said y .accepted ≡ true → said (cond b x y) .accepted ≡ true
+pick-finding true x y p q = p
+pick-finding false x y p q = q
 
-pair-refusal : (a b : List ℕ) (k : ℕ) → refusalNumber (duplicate a b k) ≡ 0
+pair-finding : (a b : List ℕ) (k : ℕ) → said (duplicate a b k) .accepted ≡ true
 unfolding duplicate
-pair-refusal a b k =
-    first-refusal k (λ j. foundIf (samePair a b j k) (verdictOf 2 j k)) (λ j. pick-refusal (samePair a b j k) (verdictOf 2 j k) Sound refl refl)
+pair-finding a b k =
+    first-finding k (λ j. foundIf (samePair a b j k) (DuplicateEdge (edgeNumbered j) (edgeNumbered k))) (λ j. pick-finding (samePair a b j k) (DuplicateEdge (edgeNumbered j) (edgeNumbered k)) Sound refl refl)
 
-vertex-refusal : (list : List ℕ) (n v : ℕ) → refusalNumber (atVertex list n v) ≡ 0
+vertex-finding : (list : List ℕ) (n v : ℕ) → said (atVertex list n v) .accepted ≡ true
 unfolding atVertex twice
-vertex-refusal list n v =
-    pick-refusal (eqb n 0) (verdictOf 3 v 0) (twice list v) refl
-    (first-refusal (length list) (λ i. firstOf i (same i)) (λ i.
-    first-refusal i (same i) (λ j. pick-refusal (eqb (getD list j 0) (getD list i 0)) (verdictOf 4 (getD list i 0) v) Sound refl refl)))
+vertex-finding list n v =
+    pick-finding (eqb n 0) (NoEdges (vertexNumbered v)) (twice list v) refl
+    (first-finding (length list) (λ i. firstOf i (same i)) (λ i.
+    first-finding i (same i) (λ j. pick-finding (eqb (getD list j 0) (getD list i 0)) (EdgeTwice (edgeNumbered (getD list i 0)) (vertexNumbered v)) Sound refl refl)))
   where
     same : ℕ → ℕ → Verdict
-    same i j = foundIf (eqb (getD list j 0) (getD list i 0)) (verdictOf 4 (getD list i 0) v)
+    same i j = foundIf (eqb (getD list j 0) (getD list i 0)) (EdgeTwice (edgeNumbered (getD list i 0)) (vertexNumbered v))
 
--- a value of one of two cases
-through : (f : Verdict → ℕ) (b : Bool) (x y : Verdict) → f (cond b x y) ≡ cond b (f x) (f y)
-through f true x y = refl
-through f false x y = refl
+accepted-said : (x : Verdict) → said x .accepted ≡ true → said x ≡ accepts (said x .values)
+accepted-said Sound e = refl
+accepted-said Empty e = refl
+accepted-said (DuplicateEdge j k) e = refl
+accepted-said (NoEdges v) e = refl
+accepted-said (EdgeTwice j v) e = refl
+accepted-said (Refused n) e = absurd (false≢true e)
+
+-- the verdict, or question 6
+said-of : (long : Bool) (x r : Verdict) → said x .accepted ≡ true → r ≡ cond long x (Refused 6)
+    → Answered (said r) (ask long 6 0) (said x .values) (0, 0, 0)
+said-of true x r f e =
+    subst (λ (s : Said (ℕ × ℕ × ℕ)). Answered s 0 (said x .values) (0, 0, 0)) (sym (ap said e ∙ accepted-said x f)) (accepts-of refl)
+said-of false x r f e =
+    subst (λ (y : Verdict). Answered (said y) 6 (said x .values) (0, 0, 0)) (sym e) (refuses-of refl (λ z. absurd (omega arith)))
 
 module _ (v e : ℕ) (a b lengths numbers : List ℕ) where
   -- what the two scans find
@@ -92,22 +107,16 @@ module _ (v e : ℕ) (a b lengths numbers : List ℕ) where
       both-and (both-and (le-leb _ _ (l .a-long)) (both-and (le-leb _ _ (l .b-long)) (le-leb _ _ (l .lengths-long))))
       (both-and (le-leb _ _ (l .twice-long)) (le-leb _ _ (l .sum-long)))
 
-  not-refused : refusalNumber (verdict v e a b lengths numbers) ≡ 0
+  not-refused : said (verdict v e a b lengths numbers) .accepted ≡ true
   unfolding verdict
   not-refused =
-      pick-refusal (eqb v 0 || eqb e 0) Empty scans refl
-      (or-refusal (firstOf e (duplicate a b)) (firstOf v (λ u. atVertex (listAt lengths numbers u) (getD lengths u 0) u)) (first-refusal e (duplicate a b) (pair-refusal a b))
-      (first-refusal v (λ u. atVertex (listAt lengths numbers u) (getD lengths u 0) u) (λ u. vertex-refusal (listAt lengths numbers u) (getD lengths u 0) u)))
+      pick-finding (eqb v 0 || eqb e 0) Empty scans refl
+      (or-finding (firstOf e (duplicate a b)) (firstOf v (λ u. atVertex (listAt lengths numbers u) (getD lengths u 0) u)) (first-finding e (duplicate a b) (pair-finding a b))
+      (first-finding v (λ u. atVertex (listAt lengths numbers u) (getD lengths u 0) u) (λ u. vertex-finding (listAt lengths numbers u) (getD lengths u 0) u)))
 
-  -- the answer in document 01's numbers
-  pub checked : (r : Verdict) → r ≡ sanityAnswer v e a b lengths numbers → SanityChecked v e a b lengths numbers r
-  checked r q =
-      let long = sanityLong v e a b lengths numbers in
-      let x = verdict v e a b lengths numbers in
-      record {
-        answers = q;
-        refuses = ap refusalNumber q ∙ through refusalNumber long x (Refused 6) ∙ ap (λ (n : ℕ). cond long n 6) not-refused;
-        number = ap verdictNumber q ∙ through verdictNumber long x (Refused 6);
-        first = ap firstValue q ∙ through firstValue long x (Refused 6);
-        second = ap secondValue q ∙ through secondValue long x (Refused 6);
-      }
+  -- the answer by cases, and in document 01's numbers
+  abbrev pub sanityAnswer : Verdict
+  sanityAnswer = cond (sanityLong v e a b lengths numbers) (verdict v e a b lengths numbers) (Refused 6)
+
+  pub checked : (r : Verdict) → r ≡ sanityAnswer → SanityChecked v e a b lengths numbers r
+  checked r q = record { answers = said-of (sanityLong v e a b lengths numbers) (verdict v e a b lengths numbers) r not-refused q }

@@ -36,16 +36,16 @@ abbrev pub pathColumns : List ℕ → List ℕ → PathColumns
 pathColumns vertices steps = record { vertices = vertices; steps = steps }
 
 -- a table query that returned, with a named end or none: the engine lent, the source, the end, the answer, the table's columns and scratch before and after
-pub data TableCalled : Engine → (source : ℕ) → Option ℕ → Done → (columns₀ columns : TableColumns) → (scratch₀ scratch : ScratchColumns) → Type 0 where
+pub data TableReturned : Engine → (source : ℕ) → Option ℕ → Done → (columns₀ columns : TableColumns) → (scratch₀ scratch : ScratchColumns) → Type 0 where
   to-end : (κs : Lfts 15) (a : Dens κs end-kinds.ps) (r : Done) (s : AtExit (endedOf 15 end-kinds.ps end-kinds.r) κs) → end-reads.Learnt κs a r s
-      → TableCalled
+      → TableReturned
       (engine (a .0) (now (a .1 .0)) (now (a .1 .1 .0)) (now (a .1 .1 .1 .0)) (now (a .1 .1 .1 .1 .0)) (now (a .1 .1 .1 .1 .1 .0)) (now (a .1 .1 .1 .1 .1 .1 .0)))
       (a .1 .1 .1 .1 .1 .1 .1 .0 .0) (endIn (a .1 .1 .1 .1 .1 .1 .1 .1 .0)) r
       (tableColumns (now (a .1 .1 .1 .1 .1 .1 .1 .1 .1 .0)) (now (a .1 .1 .1 .1 .1 .1 .1 .1 .1 .1 .0))) (tableColumns (now (s .1 .1 .1 .1 .1 .1 .1 .1 .1 .0)) (now (s .1 .1 .1 .1 .1 .1 .1 .1 .1 .1 .0)))
       (scratchOf (now (a .1 .1 .1 .1 .1 .1 .1 .1 .1 .1 .1 .0)) (now (a .1 .1 .1 .1 .1 .1 .1 .1 .1 .1 .1 .1 .0)) (now (a .1 .1 .1 .1 .1 .1 .1 .1 .1 .1 .1 .1 .1 .0)) (now (a .1 .1 .1 .1 .1 .1 .1 .1 .1 .1 .1 .1 .1 .1 .0)) (now (a .1 .1 .1 .1 .1 .1 .1 .1 .1 .1 .1 .1 .1 .1 .1 .0)) (now (a .1 .1 .1 .1 .1 .1 .1 .1 .1 .1 .1 .1 .1 .1 .1 .1 .0)) (now (a .1 .1 .1 .1 .1 .1 .1 .1 .1 .1 .1 .1 .1 .1 .1 .1 .1 .0)))
       (scratchOf (now (s .1 .1 .1 .1 .1 .1 .1 .1 .1 .1 .1 .0)) (now (s .1 .1 .1 .1 .1 .1 .1 .1 .1 .1 .1 .1 .0)) (now (s .1 .1 .1 .1 .1 .1 .1 .1 .1 .1 .1 .1 .1 .0)) (now (s .1 .1 .1 .1 .1 .1 .1 .1 .1 .1 .1 .1 .1 .1 .0)) (now (s .1 .1 .1 .1 .1 .1 .1 .1 .1 .1 .1 .1 .1 .1 .1 .0)) (now (s .1 .1 .1 .1 .1 .1 .1 .1 .1 .1 .1 .1 .1 .1 .1 .1 .0)) (now (s .1 .1 .1 .1 .1 .1 .1 .1 .1 .1 .1 .1 .1 .1 .1 .1 .1 .0)))
   of-all : (κs : Lfts 15) (a : Dens κs all-kinds.ps) (r : Done) (s : AtExit (endedOf 15 all-kinds.ps all-kinds.r) κs) → all-reads.Learnt κs a r s
-      → TableCalled
+      → TableReturned
       (engine (a .0) (now (a .1 .0)) (now (a .1 .1 .0)) (now (a .1 .1 .1 .0)) (now (a .1 .1 .1 .1 .0)) (now (a .1 .1 .1 .1 .1 .0)) (now (a .1 .1 .1 .1 .1 .1 .0)))
       (a .1 .1 .1 .1 .1 .1 .1 .0 .0) none r
       (tableColumns (now (a .1 .1 .1 .1 .1 .1 .1 .1 .0)) (now (a .1 .1 .1 .1 .1 .1 .1 .1 .1 .0))) (tableColumns (now (s .1 .1 .1 .1 .1 .1 .1 .1 .0)) (now (s .1 .1 .1 .1 .1 .1 .1 .1 .1 .0)))
@@ -53,9 +53,9 @@ pub data TableCalled : Engine → (source : ℕ) → Option ℕ → Done → (co
       (scratchOf (now (s .1 .1 .1 .1 .1 .1 .1 .1 .1 .1 .0)) (now (s .1 .1 .1 .1 .1 .1 .1 .1 .1 .1 .1 .0)) (now (s .1 .1 .1 .1 .1 .1 .1 .1 .1 .1 .1 .1 .0)) (now (s .1 .1 .1 .1 .1 .1 .1 .1 .1 .1 .1 .1 .1 .0)) (now (s .1 .1 .1 .1 .1 .1 .1 .1 .1 .1 .1 .1 .1 .1 .0)) (now (s .1 .1 .1 .1 .1 .1 .1 .1 .1 .1 .1 .1 .1 .1 .1 .0)) (now (s .1 .1 .1 .1 .1 .1 .1 .1 .1 .1 .1 .1 .1 .1 .1 .1 .0)))
 
 -- a path query that returned: the engine lent, both vertices, the answer, the path's columns and scratch before and after
-pub data PathCalled : Engine → (a b : ℕ) → PathAnswer → (columns₀ columns : PathColumns) → (scratch₀ scratch : ScratchColumns) → Type 0 where
+pub data PathReturned : Engine → (a b : ℕ) → PathAnswer → (columns₀ columns : PathColumns) → (scratch₀ scratch : ScratchColumns) → Type 0 where
   walked : (κs : Lfts 15) (a : Dens κs path-kinds.ps) (r : PathAnswer) (s : AtExit (endedOf 15 path-kinds.ps path-kinds.r) κs) → path-reads.Learnt κs a r s
-      → PathCalled
+      → PathReturned
       (engine (a .0) (now (a .1 .0)) (now (a .1 .1 .0)) (now (a .1 .1 .1 .0)) (now (a .1 .1 .1 .1 .0)) (now (a .1 .1 .1 .1 .1 .0)) (now (a .1 .1 .1 .1 .1 .1 .0)))
       (a .1 .1 .1 .1 .1 .1 .1 .0 .0) (a .1 .1 .1 .1 .1 .1 .1 .1 .0 .0) r
       (pathColumns (now (a .1 .1 .1 .1 .1 .1 .1 .1 .1 .0)) (now (a .1 .1 .1 .1 .1 .1 .1 .1 .1 .1 .0))) (pathColumns (now (s .1 .1 .1 .1 .1 .1 .1 .1 .1 .0)) (now (s .1 .1 .1 .1 .1 .1 .1 .1 .1 .1 .0)))
@@ -63,9 +63,9 @@ pub data PathCalled : Engine → (a b : ℕ) → PathAnswer → (columns₀ colu
       (scratchOf (now (s .1 .1 .1 .1 .1 .1 .1 .1 .1 .1 .1 .0)) (now (s .1 .1 .1 .1 .1 .1 .1 .1 .1 .1 .1 .1 .0)) (now (s .1 .1 .1 .1 .1 .1 .1 .1 .1 .1 .1 .1 .1 .0)) (now (s .1 .1 .1 .1 .1 .1 .1 .1 .1 .1 .1 .1 .1 .1 .0)) (now (s .1 .1 .1 .1 .1 .1 .1 .1 .1 .1 .1 .1 .1 .1 .1 .0)) (now (s .1 .1 .1 .1 .1 .1 .1 .1 .1 .1 .1 .1 .1 .1 .1 .1 .0)) (now (s .1 .1 .1 .1 .1 .1 .1 .1 .1 .1 .1 .1 .1 .1 .1 .1 .1 .0)))
 
 -- a crossing that returned: the engine lent, the answer, the weight column and scratch before and after
-pub data CrossingCalled : Engine → CrossingReply → (weights₀ weights : List ℤ) → (scratch₀ scratch : ScratchColumns) → Type 0 where
+pub data CrossingReturned : Engine → CrossingReply → (weights₀ weights : List ℤ) → (scratch₀ scratch : ScratchColumns) → Type 0 where
   crossed : (κs : Lfts 14) (a : Dens κs crossing-kinds.ps) (r : CrossingReply) (s : AtExit (endedOf 14 crossing-kinds.ps crossing-kinds.r) κs) → crossing-reads.Learnt κs a r s
-      → CrossingCalled
+      → CrossingReturned
       (engine (a .0) (now (a .1 .0)) (now (a .1 .1 .0)) (now (a .1 .1 .1 .0)) (now (a .1 .1 .1 .1 .0)) (now (a .1 .1 .1 .1 .1 .0)) (now (a .1 .1 .1 .1 .1 .1 .0)))
       r (now (a .1 .1 .1 .1 .1 .1 .1 .0)) (now (s .1 .1 .1 .1 .1 .1 .1 .0))
       (scratchOf (now (a .1 .1 .1 .1 .1 .1 .1 .1 .0)) (now (a .1 .1 .1 .1 .1 .1 .1 .1 .1 .0)) (now (a .1 .1 .1 .1 .1 .1 .1 .1 .1 .1 .0)) (now (a .1 .1 .1 .1 .1 .1 .1 .1 .1 .1 .1 .0)) (now (a .1 .1 .1 .1 .1 .1 .1 .1 .1 .1 .1 .1 .0)) (now (a .1 .1 .1 .1 .1 .1 .1 .1 .1 .1 .1 .1 .1 .0)) (now (a .1 .1 .1 .1 .1 .1 .1 .1 .1 .1 .1 .1 .1 .1 .0)))

@@ -19,7 +19,7 @@ use Rattle.crossing_answers.specs.Crossing.{replyNumber, replyWeight}
 use Rattle.paths.specs.declared.PathAnswer.{PathAnswer}
 use Rattle.paths.specs.GetPath.{lengthOf, totalOf}
 use Rattle.paths.specs.GetPath as P
-use Rattle.query_claims.specs.Called.{PathColumns, TableCalled, PathCalled, CrossingCalled}
+use Rattle.query_claims.specs.Called.{PathColumns, TableReturned, PathReturned, CrossingReturned}
 use Rattle.query_claims.specs.Met.{TableMet, PathMet, CrossingMet}
 
 -- Engine, Settling and Table; questions at the door, 6, 7 and 13: accepted exactly where these are met. The columns' first places then are the table of the graph and the
@@ -50,14 +50,14 @@ pub record CrossingSays (e : Engine) (r : CrossingReply) (weights₀ weights : L
 abbrev pub AllEdgesIsLeast : Type 0
 AllEdgesIsLeast =
     (e : Engine) (source : ℕ) (end : Option ℕ) (r : Done) (columns₀ columns : TableColumns) (scratch₀ scratch : ScratchColumns)
-    → TableCalled e source end r columns₀ columns scratch₀ scratch → TableSays e source end r columns₀ columns scratch₀
+    → TableReturned e source end r columns₀ columns scratch₀ scratch → TableSays e source end r columns₀ columns scratch₀
 
 abbrev pub GetPathIsLeast : Type 0
 GetPathIsLeast =
     (e : Engine) (a b : ℕ) (r : PathAnswer) (columns₀ columns : PathColumns) (scratch₀ scratch : ScratchColumns)
-    → PathCalled e a b r columns₀ columns scratch₀ scratch → PathSays e a b r columns₀ columns scratch₀
+    → PathReturned e a b r columns₀ columns scratch₀ scratch → PathSays e a b r columns₀ columns scratch₀
 
 abbrev pub CrossingCallIsLeast : Type 0
 CrossingCallIsLeast =
     (e : Engine) (r : CrossingReply) (weights₀ weights : List ℤ) (scratch₀ scratch : ScratchColumns)
-    → CrossingCalled e r weights₀ weights scratch₀ scratch → CrossingSays e r weights₀ weights scratch₀
+    → CrossingReturned e r weights₀ weights scratch₀ scratch → CrossingSays e r weights₀ weights scratch₀

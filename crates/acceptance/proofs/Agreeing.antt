@@ -14,7 +14,7 @@ use Rattle.columns.specs.Questions.{ask}
 use Rattle.columns.proofs.Columns.{over-in, after-accepted}
 use Rattle.engine_columns.specs.declared.EngineCounts.{EngineCounts}
 use Rattle.engine_columns.specs.Records.{Engine}
-use Rattle.engine_columns.specs.Door.{longEnough, sound}
+use Rattle.engine_columns.specs.Door.{sound}
 use Rattle.tally.specs.Tally.{Tally, Fed, Lengths, lengthsOf, tallyLong, tallied, accepts, tallyStep, tallyAfter}
 use Rattle.engine_columns.specs.Step.{Call, loadErasures, loadWeights, reset}
 use Rattle.tally.proofs.Agreement.{Agrees, long-same}

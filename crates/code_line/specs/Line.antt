@@ -1,6 +1,6 @@
 -- Document 01, "The program `codelist`": one line kind,d,rounds,p,M ending in byte 0a, nothing after it; decimals of 1 to 9 digits
 -- without leading zeros (0 alone is well formed), p as 16 lowercase hexadecimal digits.
-use Prim.Native.Nat.{ℕ, zero, suc, _+_, _-_, _*_, _<_, _≤_}
+use Prim.Native.Nat.{ℕ, suc, _+_, _-_, _*_, _<_, _≤_}
 use mathlib.Core.Bool.{Bool, not, _&&_, _||_, cond}
 use mathlib.Core.List.{List, [], _∷_}
 use lib.Dec.{leb, eqb}

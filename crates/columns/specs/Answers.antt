@@ -3,11 +3,6 @@ use Prim.Native.Nat.{ℕ, zero, suc}
 use Rattle.columns.specs.declared.Done.{Done}
 use Rattle.columns.specs.declared.Done.the-variants.{Accepted, Refused}
 
--- document 01's number for each case: 0 where the call was accepted
-abbrev pub numberOf : Done → ℕ
-numberOf Accepted = 0
-numberOf (Refused number) = number
-
 -- the case for each number; no refusal has the number 0
 abbrev pub done : ℕ → Done
 done zero = Accepted

@@ -12,7 +12,7 @@ use Rattle.prebuilt_complete_graph.specs.declared.nearest.BoundaryAnswer
 use Rattle.prebuilt_complete_graph.specs.declared.nearest.BoundaryAnswer.the-variants.{Nearest, NoBoundary, Refused}
 use Rattle.prebuilt_entries.specs.Nearest.{amount, boundaryIn}
 
--- document 01's number and values for each case: 1 where there is a virtual vertex, its number and the weight; 0 where there is none and where the call was refused
+-- document 01's number for each case, and the values: 1 where there is a virtual vertex, its number and the weight; 0 where there is none and where the call was refused
 abbrev pub said : BoundaryAnswer → Said (ℕ × ℕ × ℕ)
 said (Nearest u weight) = accepts (1, u .0, weight)
 said NoBoundary = accepts (0, 0, 0)

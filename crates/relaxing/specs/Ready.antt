@@ -1,4 +1,4 @@
--- Settling over columns: the state, the keys of the vertices that wait, and the neighbour lists. No public call's contract needs more than `walks`.
+-- Settling over columns: the state, the keys of the vertices that wait, and the neighbour lists. Of a public call, only what it promises of scratch needs this.
 use Prim.Native.Nat.{ℕ, zero, suc, _+_, _*_, _<_, _≤_}
 use mathlib.Core.Path.{_≡_}
 use mathlib.Core.Logic.{_⊎_}

@@ -1,2 +1,2 @@
--- Search: what a search needs of its columns.
+-- Search: what a search needs of its columns, and what it leaves in them.
 pub mod Search

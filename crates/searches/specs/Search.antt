@@ -1,4 +1,4 @@
--- What a search needs of its columns: the functions below the queries cite it.
+-- What a search needs of its columns, and what it leaves in them: the functions below the queries cite it.
 use Prim.Native.Nat.{ℕ, _+_, _*_, _<_, _≤_}
 use mathlib.Core.Path.{_≡_}
 use mathlib.Core.List.{List}

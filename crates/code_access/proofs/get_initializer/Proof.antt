@@ -1,6 +1,6 @@
 -- `code_access::get_initializer` meets its contract. Assumes nothing.
-use mathlib.Core.Path.{_≡_, refl, sym, ap, _∙_}
-use lib.ListN.{length, take}
+use mathlib.Core.Path.{_≡_, refl, sym, _∙_}
+use lib.ListN.{take}
 use Rattle.columns.proofs.Columns.{copy-after, after-accepted, after-refused}
 use Rattle.marks.specs.Marks.{listed}
 use Rattle.whole_weights.specs.Weights.{weights}

@@ -1,6 +1,5 @@
 -- `code_access::get_named` meets its contract. Assumes nothing.
-use mathlib.Core.Path.{_≡_, refl, sym, ap, _∙_}
-use lib.ListN.{length}
+use mathlib.Core.Path.{_≡_, refl, sym, _∙_}
 use Rattle.columns.proofs.Columns.{after-accepted, after-refused}
 use Rattle.marks.specs.Marks.{listed}
 use Rattle.code_access.specs.Calls.{getDoor}

@@ -1,5 +1,5 @@
 -- `edge_modifier::open` meets its contract. Assumes nothing.
-use mathlib.Core.Path.{_≡_, refl, sym, ap, _∙_}
+use mathlib.Core.Path.{_≡_, refl, sym, _∙_}
 use lib.ListN.{take}
 use Rattle.columns.proofs.Columns.{copy-after, after-refused}
 use Rattle.answers.proofs.Said.{accepts-of, refuses-of}

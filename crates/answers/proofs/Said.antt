@@ -28,11 +28,3 @@ module _ {Values : Type 0} where
 
   pub refused-of : {n q : ℕ} {w v z : Values} → Answered (refuses n w) q v z → q ≡ 0 → ⊥
   refused-of {n} {q} {w} {v} {z} a e = false≢true (a .accepted-is ∙ eq-eqb q 0 e)
-
-  -- two answers to the same say the same
-  pub same-answer : {s t : Said Values} {q : ℕ} {v z : Values} → Answered s q v z → Answered t q v z → s ≡ t
-  same-answer a b = λ i. record {
-    accepted = (a .accepted-is ∙ sym (b .accepted-is)) i;
-    number = (a .number-is ∙ sym (b .number-is)) i;
-    values = (a .values-are ∙ sym (b .values-are)) i;
-  }

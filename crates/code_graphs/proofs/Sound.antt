@@ -14,7 +14,7 @@ use Rattle.columns.proofs.Tests.{at-within}
 use Rattle.neighbors.specs.Lists.{neighbours, chosen, endsAt}
 use Rattle.neighbors.specs.Sound.{graphSound}
 use Rattle.neighbors.proofs.Ends.{GraphSound, says-graph}
-use Rattle.edge_pairs.proofs.Chains.{OnePair}
+use Rattle.edge_pairs.proofs.PairTests.{OnePair}
 use Rattle.neighbors.proofs.Placing.{neighbours-chosen}
 use Rattle.code_columns.specs.declared.CodeVertex.{CodeVertex}
 use Rattle.code_columns.specs.Edges.{Ends, firsts, seconds, boundaries}

@@ -20,11 +20,10 @@ use Rattle.layers.proofs.Accepted.{Accepted, accepted, buildable}
 use Rattle.layers.proofs.Counted.{edges-counted}
 use Rattle.code_graphs.proofs.Sound.{first-over, second-over, first-is, second-is, built}
 use Rattle.code_graphs.proofs.Lists.{Touches, vertex-touched}
-use Rattle.answers.proofs.Said.{same-answer}
 use Rattle.verdicts.specs.declared.Verdict.{Verdict}
 use Rattle.verdicts.specs.declared.Verdict.the-variants.{Sound}
 use Rattle.verdicts.specs.Sanity.{said, SanityChecked}
-use Rattle.vertices.proofs.Verdicts.{sanityAnswer, checked}
+use Rattle.vertices.proofs.Verdicts.{sanityAnswer}
 use Rattle.vertices.proofs.Theorems.{EndsEdge, sound-verdict}
 use Rattle.diagonals.specs.declared.DiagonalProbability.{DiagonalProbability}
 use Rattle.example_codes.specs.declared.Created.{Created}
@@ -105,9 +104,9 @@ module _ (kind d rounds q : ℕ) (lent back : CodeColumns) (z : q ≡ 0) (v e : 
       → back .listLengths ≡ after q (newColumns kind d rounds .listLengths) (lent .listLengths) → back .neighborNumbers ≡ after q (newColumns kind d rounds .neighborNumbers) (lent .neighborNumbers)
       → GetsZero v e back
   written-zero a b l n r s =
-      same-answer (s .answers) (checked v e (back .endsA) (back .endsB) (back .listLengths) (back .neighborNumbers) _ refl .answers)
-      ∙ ap said
-      ((λ i. sanityAnswer (ve i) (ee i) ((a ∙ after-accepted q (newColumns kind d rounds .endsA) (lent .endsA) z) i) ((b ∙ after-accepted q (newColumns kind d rounds .endsB) (lent .endsB) z) i)
+      ap said
+      (s .case-is
+      ∙ (λ i. sanityAnswer (ve i) (ee i) ((a ∙ after-accepted q (newColumns kind d rounds .endsA) (lent .endsA) z) i) ((b ∙ after-accepted q (newColumns kind d rounds .endsB) (lent .endsB) z) i)
       ((l ∙ after-accepted q (newColumns kind d rounds .listLengths) (lent .listLengths) z) i) ((n ∙ after-accepted q (newColumns kind d rounds .neighborNumbers) (lent .neighborNumbers) z) i))
       ∙ gets-zero kind d rounds ok (lent .endsA) (lent .endsB) (lent .listLengths) (lent .neighborNumbers))
 

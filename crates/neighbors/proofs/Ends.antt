@@ -14,7 +14,7 @@ use Rattle.columns.proofs.Tests.{and-both, both-and, below-first, at-below}
 use Rattle.neighbors.specs.Sound.{endsInRange, graphSound}
 use Rattle.edge_pairs.specs.Pairs.{endsDiffer, pairsApart, Ascending}
 use Rattle.neighbors.specs.Steps.{InRange}
-use Rattle.edge_pairs.proofs.Chains.{OnePair, differ-at, at-differ, apart-at, at-apart}
+use Rattle.edge_pairs.proofs.PairTests.{OnePair, differ-at, at-differ, apart-at, at-apart}
 
 pub record GraphSound (v e : ℕ) (a b : List ℕ) : Type 0 where
   pub some-vertex : 1 ≤ v

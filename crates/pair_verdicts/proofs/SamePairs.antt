@@ -10,7 +10,7 @@ use lib.Dec.{eqb}
 use Rattle.columns.specs.Questions.{every}
 use Rattle.columns.proofs.Tests.{every-at, every-more}
 use Rattle.edge_pairs.specs.Pairs.{samePair, pairsApart, FirstRepeat}
-use Rattle.edge_pairs.proofs.Chains.{fresh-not, fresh-all, le-or-lt}
+use Rattle.edge_pairs.proofs.PairTests.{fresh-not, fresh-all, le-or-lt}
 use Rattle.verdicts.specs.declared.Verdict.{Verdict}
 use Rattle.verdicts.specs.declared.Verdict.the-variants.{Sound, DuplicateEdge}
 use Rattle.verdicts.specs.Sanity.{edgeNumbered, firstOf, foundIf, duplicate}

@@ -18,7 +18,7 @@ use Rattle.columns.proofs.Columns.{getD-any, after-accepted, over-in, length-ov
 use Rattle.columns.proofs.Tests.{both-and, within-first, at-within}
 use Rattle.neighbors.specs.Lists.{chosen}
 use Rattle.neighbors.specs.Sound.{graphSound}
-use Rattle.edge_pairs.proofs.Chains.{OnePair}
+use Rattle.edge_pairs.proofs.PairTests.{OnePair}
 use Rattle.neighbors.proofs.Ends.{GraphSound, says-graph}
 use Rattle.walks.specs.Graph.{Graph, edges, endA, endB, Joins, Walk, stay, step}
 use Rattle.syndromes.specs.Records.{CodeGraph, codeGraph, codeSound}

@@ -1,5 +1,6 @@
 -- The verdict of sanity_check, as the Rust gives it.
 use Prim.Native.Nat.{ℕ, zero, suc, _+_, _*_}
+use mathlib.Core.Path.{_≡_}
 use mathlib.Core.Bool.{Bool, _&&_, _||_, cond}
 use mathlib.Core.List.{List, [], _∷_}
 use lib.Dec.{eqb, leb}
@@ -89,6 +90,7 @@ sanityLong v e a b lengths numbers =
     (leb e (length a) && (leb e (length b) && leb v (length lengths)))
     && (leb (2 * e) (length numbers) && leb (total (take v lengths)) (length numbers))
 
--- the call: only question 6 is asked; the verdict's number and values
+-- the call: only question 6 is asked; its case, and in document 01's numbers the question, the verdict and its values
 pub record SanityChecked (v e : ℕ) (a b lengths numbers : List ℕ) (answer : Verdict) : Type 0 where
+  pub case-is : answer ≡ cond (sanityLong v e a b lengths numbers) (verdict v e a b lengths numbers) (Refused 6)
   pub answers : Answered (said answer) (ask (sanityLong v e a b lengths numbers) 6 0) (said (verdict v e a b lengths numbers) .values) (0, 0, 0)

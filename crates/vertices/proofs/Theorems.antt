@@ -17,7 +17,7 @@ use Rattle.columns.proofs.Tests.{every-at}
 use Rattle.neighbors.specs.Lists.{hits, neighbours, lists, degrees, chosen, endsAt}
 use Rattle.edge_pairs.specs.Pairs.{samePair, pairsApart}
 use Rattle.neighbors.specs.Sound.{graphSound}
-use Rattle.edge_pairs.proofs.Chains.{at-apart}
+use Rattle.edge_pairs.proofs.PairTests.{at-apart}
 use Rattle.neighbors.proofs.Ends.{GraphSound, graph-says}
 use Rattle.neighbors.proofs.Placing.{length-hit, length-more, length-within, lists-more, lists-count, list-of, neighbours-chosen}
 use Rattle.marks.proofs.Listing.{chosen-ascends}

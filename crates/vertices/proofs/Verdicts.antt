@@ -119,4 +119,4 @@ module _ (v e : ℕ) (a b lengths numbers : List ℕ) where
   sanityAnswer = cond (sanityLong v e a b lengths numbers) (verdict v e a b lengths numbers) (Refused 6)
 
   pub checked : (r : Verdict) → r ≡ sanityAnswer → SanityChecked v e a b lengths numbers r
-  checked r q = record { answers = said-of (sanityLong v e a b lengths numbers) (verdict v e a b lengths numbers) r not-refused q }
+  checked r q = record { case-is = q; answers = said-of (sanityLong v e a b lengths numbers) (verdict v e a b lengths numbers) r not-refused q }

@@ -2,7 +2,7 @@
 use Prim.Native.Nat.{ℕ}
 use native.Mathlib.Omega.{arith}
 use lib.ListN.{length-replicate}
-use Rattle.edge_pairs.proofs.Chains.{zeros-at}
+use Rattle.edge_pairs.proofs.PairTests.{zeros-at}
 use borrow.Author.Needs.{needs}
 use Rattle.list_verdicts.proofs.vertices_checked.Statement.{statement}
 use Rattle.list_verdicts.proofs.vertices_checked.Tie as tie

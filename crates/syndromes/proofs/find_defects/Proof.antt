@@ -1,5 +1,5 @@
 -- `syndromes::find_defects` meets its contract. Assumes nothing.
-use Rattle.edge_pairs.proofs.Chains.{zeros-at, zeros-room}
+use Rattle.edge_pairs.proofs.PairTests.{zeros-at, zeros-room}
 use Prim.Native.Nat.{ℕ}
 use native.Mathlib.Omega.{arith}
 use borrow.Author.Needs.{needs}

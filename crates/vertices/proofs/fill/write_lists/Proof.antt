@@ -1,5 +1,5 @@
 -- `vertices::fill::write_lists` meets its contract. Assumes nothing.
-use Rattle.edge_pairs.proofs.Chains.{zeros-room}
+use Rattle.edge_pairs.proofs.PairTests.{zeros-room}
 use borrow.Author.Needs.{needs}
 use Rattle.vertices.proofs.fill.write_lists.Statement.{statement}
 use Rattle.vertices.proofs.fill.write_lists.Tie as tie

@@ -1,4 +1,4 @@
-"""Usage: python3 vectors/codelist.py (at the repository's root): writes crates/codelist_cases/stdin and crates/codelist_cases/stdout.
+"""Usage: python3 vectors/codelist.py (at the repository's root): writes crates/test_codelist/stdin and crates/test_codelist/stdout.
 
 stdin has inputs of `codelist`, each ended by the byte 7c. stdout has for each the first line of the text that document 01 wants, its number of bytes and a
 checksum of them. Written from document 01; the codes are those of vectors/codes.py, the crossing is found by Dijkstra's algorithm over a heap."""
@@ -147,9 +147,9 @@ cases += [b'', b'\n', b',', b',,,,\n', line[:-1], line + b'\n', line + b' ', b' 
           line + line, line.replace(b'1,3', b'/,3'), line.replace(b'1,3', b':,3'), line.replace(b'3fc0', b'3fc`'), line.replace(b'3fc0', b'3fc/'), line.replace(b'3fc0', b'3fc:'), line[1:], b'a' * 58, b'1' * 300,
           b'9' * 57, b'000000000,000000000,000000000,0000000000000000,000000000\n', b'999999999,999999999,999999999,ffffffffffffffff,999999999\n', b'\n' + line]
 assert all(b'|' not in c for c in cases) and len(cases) >= 60
-with open('crates/codelist_cases/stdin', 'wb') as f:
+with open('crates/test_codelist/stdin', 'wb') as f:
     f.write(b''.join(c + b'|' for c in cases))
-with open('crates/codelist_cases/stdout', 'w') as f:
+with open('crates/test_codelist/stdout', 'w') as f:
     for case in cases:
         t, h = text(case), 1
         for x in t.encode():

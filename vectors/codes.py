@@ -1,6 +1,6 @@
-"""Writes what crates/codes_vectors prints: the six codes of the Rust text example_codes.rs, `create_code`, made again in Python.
+"""Writes what crates/test_codes prints: the six codes of the Rust text example_codes.rs, `create_code`, made again in Python.
 
-Usage: python3 vectors/codes.py > crates/codes_vectors/stdout"""
+Usage: python3 vectors/codes.py > crates/test_codes/stdout"""
 import struct
 
 ROOT2 = struct.unpack('>d', bytes.fromhex('3ff6a09e667f3bcd'))[0]

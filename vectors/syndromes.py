@@ -1,5 +1,5 @@
 #!/usr/bin/env python3
-"""Prints what the program syndromes_vectors must print: an own model of document 01's sampling, errors, syndromes and reordering."""
+"""Prints what the program test_sampling must print: an own model of document 01's sampling, errors, syndromes and reordering."""
 import struct
 
 M = (1 << 64) - 1

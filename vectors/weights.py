@@ -1,5 +1,5 @@
 #!/usr/bin/env python3
-"""Usage: python3 vectors/weights.py (at the repository's root): writes crates/weights_vectors/stdin and crates/weights_vectors/stdout.
+"""Usage: python3 vectors/weights.py (at the repository's root): writes crates/test_weights/stdin and crates/test_weights/stdout.
 
 Each line of stdin has the bits of two probabilities p and q and a largest half weight M, in hexadecimal. Each line of stdout has the answer of weight_of_p
 to p (16 digits, or r and the refusing question), that of compute_weights to the edges p, q (two half weights and the untouched third place, or r and the
@@ -127,7 +127,7 @@ def main():
     print(len(patterns()), 'patterns,', len(given), 'cases', file=sys.stderr)
     assert 43 * len(given) <= 65536
     for name, lines in (('stdin', given), ('stdout', expected)):
-        with open('crates/weights_vectors/' + name, 'w') as f:
+        with open('crates/test_weights/' + name, 'w') as f:
             f.write('\n'.join(lines) + '\n')
 
 

@@ -1169,7 +1169,7 @@ fn line<T: ToString>(numbers: impl IntoIterator<Item = T>) -> String {
     text
 }
 
-/// the numbers that crates/replay_engine reads, and what it is to write
+/// the numbers that crates/test_replay_engine reads, and what it is to write
 fn replay_engine(inputs: &mut Inputs) -> (String, String) {
     let (mut input, mut output) = (String::new(), String::new());
     let mut cases = 0;
@@ -1231,7 +1231,7 @@ fn replay_engine(inputs: &mut Inputs) -> (String, String) {
     (line([cases + 6]) + &input, output)
 }
 
-/// the numbers that crates/replay_codes reads, and what it is to write
+/// the numbers that crates/test_replay_codes reads, and what it is to write
 fn replay_codes(inputs: &mut Inputs) -> (String, String) {
     let (mut input, mut output) = (String::new(), String::new());
     let mut cases = 0;
@@ -1284,7 +1284,7 @@ fn replay_codes(inputs: &mut Inputs) -> (String, String) {
 
 fn replay(crates: &str) {
     let mut inputs = Inputs(7);
-    for (name, (input, output)) in [("replay_engine", replay_engine(&mut inputs)), ("replay_codes", replay_codes(&mut inputs))] {
+    for (name, (input, output)) in [("test_replay_engine", replay_engine(&mut inputs)), ("test_replay_codes", replay_codes(&mut inputs))] {
         assert!(input.len() < 65_536, "{name}: too long for the program's buffer");
         std::fs::write(format!("{crates}/{name}/stdin"), &input).unwrap();
         std::fs::write(format!("{crates}/{name}/stdout"), &output).unwrap();

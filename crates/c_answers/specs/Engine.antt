@@ -3,8 +3,8 @@ use Prim.Native.Nat.{ℕ, zero, suc}
 use mathlib.Core.Path.{_≡_}
 use Rattle.engine_columns.specs.declared.EngineAnswer.{EngineAnswer}
 use Rattle.engine_columns.specs.Records.{said}
-use Rattle.complete_graph.specs.declared.End.{End}
-use Rattle.complete_graph.specs.declared.End.the-variants.{None, At}
+use Rattle.query_tables.specs.declared.End.{End}
+use Rattle.query_tables.specs.declared.End.the-variants.{None, At}
 use Rattle.c_answers.specs.declared.engine.EngineReport.{EngineReport}
 
 pub record ReportsEngine (a : EngineAnswer) (r : EngineReport) : Type 0 where

@@ -1,10 +1,10 @@
 -- What is handed to C for the answers of the syndrome and reordering calls.
 use mathlib.Core.Path.{_≡_}
-use Rattle.syndromes.specs.declared.SyndromeAnswer.{SyndromeAnswer}
-use Rattle.syndromes.specs.declared.ListAnswer.{ListAnswer}
-use Rattle.syndromes.specs.Answers as syndromes
-use Rattle.reorder.specs.declared.TranslatedAnswer.{TranslatedAnswer}
-use Rattle.reorder.specs.Numbers as translated
+use Rattle.sampling_calls.specs.declared.SyndromeAnswer.{SyndromeAnswer}
+use Rattle.sampling_calls.specs.declared.ListAnswer.{ListAnswer}
+use Rattle.sampling_calls.specs.Answers as syndromes
+use Rattle.reorder_calls.specs.declared.TranslatedAnswer.{TranslatedAnswer}
+use Rattle.reorder_calls.specs.Numbers as translated
 use Rattle.c_reports.specs.declared.OneCount.{OneCount}
 use Rattle.c_reports.specs.declared.TwoCounts.{TwoCounts}
 use Rattle.c_answers.specs.declared.errors.LongCount.{LongCount}

@@ -1,7 +1,7 @@
 // Answers as structs of numbers, and enum arguments from numbers.
 use columns::VertexIndex;
-use complete_graph::End;
 use engine_columns::EngineAnswer;
+use query_tables::End;
 ghost use mathlib.Core.Path.{_≡_};
 ghost use Rattle.c_answers.specs.Engine.{ReportsEngine, endOf};
 

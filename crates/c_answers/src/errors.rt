@@ -1,9 +1,9 @@
 // Answers as structs of numbers.
 use c_reports::OneCount;
 use c_reports::TwoCounts;
-use reorder::TranslatedAnswer;
-use syndromes::ListAnswer;
-use syndromes::SyndromeAnswer;
+use reorder_calls::TranslatedAnswer;
+use sampling_calls::ListAnswer;
+use sampling_calls::SyndromeAnswer;
 ghost use Rattle.c_answers.specs.Errors.{ReportsSyndrome, ReportsFound, ReportsTranslated};
 
 #[repr(C)]

@@ -1,18 +1,18 @@
 -- What is handed to C for each kind of answer.
 use mathlib.Core.Path.{_≡_}
-use Rattle.example_codes.specs.declared.Created.{Created}
-use Rattle.example_codes.specs.CreateCode as created
-use Rattle.code_questions.specs.declared.Count.{Count}
-use Rattle.code_questions.specs.Answers as count
-use Rattle.weights.specs.declared.WeightOfP.{WeightOfP}
-use Rattle.weights.specs.Answers.{said}
-use Rattle.verdicts.specs.declared.Verdict.{Verdict}
-use Rattle.verdicts.specs.Sanity as sanity
-use Rattle.code_access.specs.declared.ListCount.{ListCount}
-use Rattle.code_access.specs.declared.SyndromeCounts.{SyndromeCounts}
-use Rattle.vertex_marks.specs.declared.Truth.{Truth}
-use Rattle.code_access.specs.Answers.{listSaid, syndromeSaid}
-use Rattle.vertex_marks.specs.Marked as marked
+use Rattle.codes_calls.specs.declared.Created.{Created}
+use Rattle.codes_calls.specs.CreateCode as created
+use Rattle.codes_questions.specs.declared.Count.{Count}
+use Rattle.codes_questions.specs.Answers as count
+use Rattle.weights_calls.specs.declared.WeightOfP.{WeightOfP}
+use Rattle.weights_calls.specs.Answers.{said}
+use Rattle.sanity_verdicts.specs.declared.Verdict.{Verdict}
+use Rattle.sanity_verdicts.specs.Sanity as sanity
+use Rattle.access_calls.specs.declared.ListCount.{ListCount}
+use Rattle.access_calls.specs.declared.SyndromeCounts.{SyndromeCounts}
+use Rattle.access_vertices.specs.declared.Truth.{Truth}
+use Rattle.access_calls.specs.Answers.{listSaid, syndromeSaid}
+use Rattle.access_vertices.specs.Marked as marked
 use Rattle.c_reports.specs.declared.OneCount.{OneCount}
 use Rattle.c_reports.specs.declared.TwoCounts.{TwoCounts}
 use Rattle.c_codes.specs.declared.reports.WeighedReport.{WeighedReport}

@@ -1,8 +1,8 @@
 ghost use Rattle.c_reports.specs.Reports.{Reported, ReportsDone};
 ghost use Rattle.c_codes.specs.Reports.{ReportsCounts, ReportsList, ReportsTruth};
-ghost use Rattle.code_positions.specs.Positions.{positions, GotPositions};
-ghost use Rattle.code_access.specs.Calls.{code, initializer, GotInitializer, SetMarks, syndrome, SetSyndrome, GotMarks, GotSyndrome};
-ghost use Rattle.vertex_marks.specs.Marked.{IsMarked};
+ghost use Rattle.access_positions.specs.Positions.{positions, GotPositions};
+ghost use Rattle.access_calls.specs.Calls.{code, initializer, GotInitializer, SetMarks, syndrome, SetSyndrome, GotMarks, GotSyndrome};
+ghost use Rattle.access_vertices.specs.Marked.{IsMarked};
 ghost use Rattle.columns.specs.Questions.{vertexCountSound, edgeCountSound, boundariesSound, marksSound};
 use super::reports::TruthReport;
 use super::reports::counts_report;
@@ -31,7 +31,7 @@ pub extern "C" fn moldingcress_get_positions(
         (positions (now («to_i» .exit)) (now («to_j» .exit)) (now («to_t» .exit)))
         r) q ⌝ }
 {
-    done_number(code_access::get_positions(vertex_num, pos_i, pos_j, pos_t, to_i, to_j, to_t))
+    done_number(access_calls::get_positions(vertex_num, pos_i, pos_j, pos_t, to_i, to_j, to_t))
 }
 
 // The ends and the weight of every edge, and the virtual vertices, ascending. How many virtual vertices there are.
@@ -54,7 +54,7 @@ pub extern "C" fn moldingcress_get_initializer(
         (initializer (now («to_a» .exit)) (now («to_b» .exit)) (now («to_weight» .exit)) (now («to_virtual» .exit)))
         r) q ⌝ }
 {
-    list_report(code_access::get_initializer(
+    list_report(access_calls::get_initializer(
         vertex_num,
         edge_num,
         ends_a,
@@ -77,7 +77,7 @@ pub extern "C" fn moldingcress_set_defect_vertices(
 ) -> u32
     ensures { λ q. ⌜ Reported ReportsDone (λ r. SetMarks (vertexCountSound «vertex_num») «vertex_num» (now (list .entry)) (now (defect .entry)) (now (defect .exit)) r) q ⌝ }
 {
-    done_number(code_access::set_defect_vertices(vertex_num, list, defect))
+    done_number(access_calls::set_defect_vertices(vertex_num, list, defect))
 }
 
 // Makes the edges of the list the erasures.
@@ -85,7 +85,7 @@ pub extern "C" fn moldingcress_set_defect_vertices(
 pub extern "C" fn moldingcress_set_erasures(edge_num: u32, list: &[u32], erasure: &mut [u8]) -> u32
     ensures { λ q. ⌜ Reported ReportsDone (λ r. SetMarks (edgeCountSound «edge_num») «edge_num» (now (list .entry)) (now (erasure .entry)) (now (erasure .exit)) r) q ⌝ }
 {
-    done_number(code_access::set_erasures(edge_num, list, erasure))
+    done_number(access_calls::set_erasures(edge_num, list, erasure))
 }
 
 // Makes the vertices of one list the defects and the edges of the other the erasures.
@@ -104,7 +104,7 @@ pub extern "C" fn moldingcress_set_syndrome(
         (syndrome (now (defect .exit)) (now (erasure .exit)))
         r) q ⌝ }
 {
-    done_number(code_access::set_syndrome(
+    done_number(access_calls::set_syndrome(
         vertex_num,
         edge_num,
         defect_list,
@@ -123,7 +123,7 @@ pub extern "C" fn moldingcress_get_defect_vertices(
 ) -> OneCount
     ensures { λ q. ⌜ Reported ReportsList (λ r. GotMarks (vertexCountSound «vertex_num») «vertex_num» (now (defect .entry)) (now (list .entry)) (now (list .exit)) r) q ⌝ }
 {
-    list_report(code_access::get_defect_vertices(vertex_num, defect, list))
+    list_report(access_calls::get_defect_vertices(vertex_num, defect, list))
 }
 
 // The erasures, ascending.
@@ -135,7 +135,7 @@ pub extern "C" fn moldingcress_get_erasures(
 ) -> OneCount
     ensures { λ q. ⌜ Reported ReportsList (λ r. GotMarks (edgeCountSound «edge_num») «edge_num» (now (erasure .entry)) (now (list .entry)) (now (list .exit)) r) q ⌝ }
 {
-    list_report(code_access::get_erasures(edge_num, erasure, list))
+    list_report(access_calls::get_erasures(edge_num, erasure, list))
 }
 
 // The defects and the erasures, each ascending.
@@ -154,7 +154,7 @@ pub extern "C" fn moldingcress_get_syndrome(
         (syndrome (now («defect_list» .exit)) (now («erasure_list» .exit)))
         r) q ⌝ }
 {
-    counts_report(code_access::get_syndrome(
+    counts_report(access_calls::get_syndrome(
         vertex_num,
         edge_num,
         defect,
@@ -173,7 +173,7 @@ pub extern "C" fn moldingcress_is_virtual(
 ) -> TruthReport
     ensures { λ q. ⌜ Reported ReportsTruth (IsMarked (boundariesSound «vertex_num» (now (boundary .entry))) «vertex_num» (now (boundary .entry)) vertex) q ⌝ }
 {
-    truth_report(code_access::is_virtual(vertex_num, boundary, VertexIndex(vertex)))
+    truth_report(access_calls::is_virtual(vertex_num, boundary, VertexIndex(vertex)))
 }
 
 // Whether a vertex is a defect.
@@ -181,5 +181,5 @@ pub extern "C" fn moldingcress_is_virtual(
 pub extern "C" fn moldingcress_is_defect(vertex_num: u32, defect: &[u8], vertex: u32) -> TruthReport
     ensures { λ q. ⌜ Reported ReportsTruth (IsMarked (marksSound «vertex_num» (now (defect .entry))) «vertex_num» (now (defect .entry)) vertex) q ⌝ }
 {
-    truth_report(code_access::is_defect(vertex_num, defect, VertexIndex(vertex)))
+    truth_report(access_calls::is_defect(vertex_num, defect, VertexIndex(vertex)))
 }

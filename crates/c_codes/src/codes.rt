@@ -1,6 +1,6 @@
 ghost use Rattle.c_reports.specs.Reports.{Reported};
 ghost use Rattle.c_codes.specs.Reports.{ReportsCreated};
-ghost use Rattle.example_codes.specs.CreateCode.{CreateCode};
+ghost use Rattle.codes_calls.specs.CreateCode.{CreateCode};
 use super::reports::created_report;
 use c_reports::TwoCounts;
 
@@ -26,7 +26,7 @@ pub extern "C" fn moldingcress_create_code(
 ) -> TwoCounts
     ensures { λ q. ⌜ Reported ReportsCreated (λ r. CreateCode kind d rounds (record { endsA = now («ends_a» .entry); endsB = now («ends_b» .entry); p = now (p .entry); pe = now (pe .entry); halfWeight = now («half_weight» .entry); erasure = now (erasure .entry); posI = now («pos_i» .entry); posJ = now («pos_j» .entry); posT = now («pos_t» .entry); boundary = now (boundary .entry); defect = now (defect .entry); listLengths = now («list_lengths» .entry); neighborNumbers = now («neighbor_numbers» .entry) }) (record { endsA = now («ends_a» .exit); endsB = now («ends_b» .exit); p = now (p .exit); pe = now (pe .exit); halfWeight = now («half_weight» .exit); erasure = now (erasure .exit); posI = now («pos_i» .exit); posJ = now («pos_j» .exit); posT = now («pos_t» .exit); boundary = now (boundary .exit); defect = now (defect .exit); listLengths = now («list_lengths» .exit); neighborNumbers = now («neighbor_numbers» .exit) }) r) q ⌝ }
 {
-    created_report(example_codes::create::create_code(
+    created_report(codes_calls::create::create_code(
         kind,
         d,
         rounds,

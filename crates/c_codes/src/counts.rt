@@ -1,6 +1,6 @@
 ghost use Rattle.c_reports.specs.Reports.{Reported};
 ghost use Rattle.c_codes.specs.Reports.{ReportsCount};
-ghost use Rattle.code_questions.specs.Answers.{CountsVertices, CountsEdges};
+ghost use Rattle.codes_questions.specs.Answers.{CountsVertices, CountsEdges};
 use super::reports::count_report;
 use c_reports::OneCount;
 
@@ -9,7 +9,7 @@ use c_reports::OneCount;
 pub extern "C" fn moldingcress_vertex_num(kind: u32, d: u32, rounds: u32) -> OneCount
     ensures { λ q. ⌜ Reported ReportsCount (CountsVertices kind d rounds) q ⌝ }
 {
-    count_report(example_codes::vertex_num(kind, d, rounds))
+    count_report(codes_calls::vertex_num(kind, d, rounds))
 }
 
 // How many edges a code has: questions 2 to 5.
@@ -17,5 +17,5 @@ pub extern "C" fn moldingcress_vertex_num(kind: u32, d: u32, rounds: u32) -> One
 pub extern "C" fn moldingcress_edge_num(kind: u32, d: u32, rounds: u32) -> OneCount
     ensures { λ q. ⌜ Reported ReportsCount (CountsEdges kind d rounds) q ⌝ }
 {
-    count_report(example_codes::edge_num(kind, d, rounds))
+    count_report(codes_calls::edge_num(kind, d, rounds))
 }

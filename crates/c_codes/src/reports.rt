@@ -1,13 +1,13 @@
 // Answers as structs of numbers.
+use access_calls::ListCount;
+use access_calls::SyndromeCounts;
+use access_calls::Truth;
 use c_reports::OneCount;
 use c_reports::TwoCounts;
-use code_access::ListCount;
-use code_access::SyndromeCounts;
-use code_access::Truth;
-use code_questions::Count;
-use example_codes::Created;
-use vertices::Verdict;
-use weights::WeightOfP;
+use codes_calls::Created;
+use codes_questions::Count;
+use sanity_calls::Verdict;
+use weights_calls::WeightOfP;
 ghost use Rattle.c_codes.specs.Reports.{ReportsCreated, ReportsCount, ReportsWeighed, ReportsVerdict, ReportsList, ReportsCounts, ReportsTruth};
 
 #[repr(C)]

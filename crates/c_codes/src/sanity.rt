@@ -1,6 +1,6 @@
 ghost use Rattle.c_reports.specs.Reports.{Reported};
 ghost use Rattle.c_codes.specs.Reports.{ReportsVerdict};
-ghost use Rattle.verdicts.specs.Sanity.{SanityChecked};
+ghost use Rattle.sanity_verdicts.specs.Sanity.{SanityChecked};
 use super::reports::VerdictReport;
 use super::reports::verdict_report;
 
@@ -16,7 +16,7 @@ pub extern "C" fn moldingcress_sanity_check(
 ) -> VerdictReport
     ensures { λ q. ⌜ Reported ReportsVerdict (λ r. SanityChecked «vertex_num» «edge_num» (now («ends_a» .entry)) (now («ends_b» .entry)) (now («list_lengths» .entry)) (now («neighbor_numbers» .entry)) r) q ⌝ }
 {
-    verdict_report(vertices::sanity::sanity_check(
+    verdict_report(sanity_calls::sanity::sanity_check(
         vertex_num,
         edge_num,
         ends_a,

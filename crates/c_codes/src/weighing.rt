@@ -1,12 +1,12 @@
 ghost use Rattle.c_reports.specs.Reports.{Reported, ReportsDone};
 ghost use Rattle.c_codes.specs.Reports.{ReportsWeighed};
-ghost use Rattle.answers.specs.Said.{Answered};
+ghost use Rattle.columns_answers.specs.Said.{Answered};
 ghost use Rattle.columns.specs.Places.{zeroFloat};
-ghost use Rattle.weights.specs.Answers.{said};
-ghost use Rattle.set_probabilities.specs.Calls.{SetEach};
-ghost use Rattle.weights.specs.Calls.{weightDoor, ComputedWeights};
-ghost use Rattle.edge_weights.specs.Logarithm.{edgeWeight};
-ghost use Rattle.edge_weights.specs.Probabilities.{isProbability, isErasureProbability};
+ghost use Rattle.weights_calls.specs.Answers.{said};
+ghost use Rattle.weights_setters.specs.Calls.{SetEach};
+ghost use Rattle.weights_calls.specs.Calls.{weightDoor, ComputedWeights};
+ghost use Rattle.weights_recipe.specs.Logarithm.{edgeWeight};
+ghost use Rattle.weights_recipe.specs.Probabilities.{isProbability, isErasureProbability};
 use super::reports::WeighedReport;
 use super::reports::weighed_report;
 use c_reports::done_number;
@@ -17,7 +17,7 @@ use columns::Weight;
 pub extern "C" fn moldingcress_weight_of_p(p: f64) -> WeighedReport
     ensures { λ q. ⌜ Reported ReportsWeighed (λ r. Answered (said r) (weightDoor p) (edgeWeight p) zeroFloat) q ⌝ }
 {
-    weighed_report(weights::weight_of_p(p))
+    weighed_report(weights_calls::weight_of_p(p))
 }
 
 // Sets the half weight of each edge from the edges' probabilities.
@@ -30,7 +30,7 @@ pub extern "C" fn moldingcress_compute_weights(
 ) -> u32
     ensures { λ q. ⌜ Reported ReportsDone (λ r. ComputedWeights «edge_num» (now (p .entry)) (now («half_weight» .entry)) «max_half_weight» (now («half_weight» .exit)) r) q ⌝ }
 {
-    done_number(weights::compute_weights(edge_num, p, half_weight, max_half_weight))
+    done_number(weights_calls::compute_weights(edge_num, p, half_weight, max_half_weight))
 }
 
 // Sets the probability of each edge.
@@ -38,7 +38,7 @@ pub extern "C" fn moldingcress_compute_weights(
 pub extern "C" fn moldingcress_set_probability(edge_num: u32, p: f64, column: &mut [f64]) -> u32
     ensures { λ q. ⌜ Reported ReportsDone (λ r. SetEach (isProbability p) «edge_num» p (now (column .entry)) (now (column .exit)) r) q ⌝ }
 {
-    done_number(weights::set_probability(edge_num, p, column))
+    done_number(weights_calls::set_probability(edge_num, p, column))
 }
 
 // Sets the erasure probability of each edge.
@@ -50,5 +50,5 @@ pub extern "C" fn moldingcress_set_erasure_probability(
 ) -> u32
     ensures { λ q. ⌜ Reported ReportsDone (λ r. SetEach (isErasureProbability pe) «edge_num» pe (now (column .entry)) (now (column .exit)) r) q ⌝ }
 {
-    done_number(weights::set_erasure_probability(edge_num, pe, column))
+    done_number(weights_calls::set_erasure_probability(edge_num, pe, column))
 }

@@ -6,8 +6,8 @@ use mathlib.Core.List.{List}
 use lib.IntN.{ℤ}
 use Rattle.columns.specs.declared.Done.{Done}
 use Rattle.engine_columns.specs.Records.{Engine}
-use Rattle.complete_graph.specs.declared.End.{End}
-use Rattle.complete_graph.specs.Steps.{TableStep}
+use Rattle.query_tables.specs.declared.End.{End}
+use Rattle.query_tables.specs.Steps.{TableStep}
 
 pub ended : {e : Engine} {scratch : Bool} {source : ℕ} {x y : End} {r : Done} {weights₀ : List ℤ} {previous₀ : List ℕ} {weights : List ℤ} {previous : List ℕ} → x ≡ y → TableStep e scratch source x r weights₀ previous₀ weights previous → TableStep e scratch source y r weights₀ previous₀ weights previous
 ended {e} {scratch} {source} {x} {y} {r} {weights₀} {previous₀} {weights} {previous} h s = subst (λ (t : End). TableStep e scratch source t r weights₀ previous₀ weights previous) h s

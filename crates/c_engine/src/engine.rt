@@ -28,7 +28,7 @@ pub extern "C" fn moldingcress_open(
         r
         (graphColumns (now («ends_a» .exit)) (now («ends_b» .exit)) (now (weights .exit)) (now (boundary .exit)))) q ⌝ }
 {
-    engine_report(edge_modifier::open(
+    engine_report(engine_calls::open(
         vertices,
         edges,
         in_a,
@@ -61,7 +61,7 @@ pub extern "C" fn moldingcress_load_erasures(
         r
         (engine (kept (counts vertices edges entries) r) (now («ends_a» .entry)) (now («ends_b» .entry)) (now (weights .exit)) (now (boundary .entry)) (now («log_edges» .exit)) (now («log_weights» .exit)))) q ⌝ }
 {
-    engine_report(edge_modifier::load_erasures(
+    engine_report(engine_calls::load_erasures(
         EngineCounts {
             vertices,
             edges,
@@ -97,7 +97,7 @@ pub extern "C" fn moldingcress_load_dynamic_weights(
         r
         (engine (kept (counts vertices edges entries) r) (now («ends_a» .entry)) (now («ends_b» .entry)) (now (weights .exit)) (now (boundary .entry)) (now («log_edges» .exit)) (now («log_weights» .exit)))) q ⌝ }
 {
-    engine_report(edge_modifier::load_dynamic_weights(
+    engine_report(engine_calls::load_dynamic_weights(
         EngineCounts {
             vertices,
             edges,
@@ -132,7 +132,7 @@ pub extern "C" fn moldingcress_reset(
         r
         (engine (kept (counts vertices edges entries) r) (now («ends_a» .entry)) (now («ends_b» .entry)) (now (weights .exit)) (now (boundary .entry)) (now («log_edges» .entry)) (now («log_weights» .entry)))) q ⌝ }
 {
-    engine_report(edge_modifier::reset(
+    engine_report(engine_calls::reset(
         EngineCounts {
             vertices,
             edges,

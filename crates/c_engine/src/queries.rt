@@ -1,7 +1,7 @@
 ghost use Rattle.c_reports.specs.Reports.{Reported, ReportsDone};
 ghost use Rattle.c_answers.specs.Engine.{endOf, noEnd};
 ghost use Rattle.query_questions.specs.Queries.{scratchLong};
-ghost use Rattle.complete_graph.specs.Steps.{TableStep};
+ghost use Rattle.query_tables.specs.Steps.{TableStep};
 ghost use Rattle.query_questions.specs.Scratch.{ScratchKept, scratchOf};
 ghost use Rattle.engine_columns.specs.Records.{engine, counts};
 ghost use lib.ListN.{length};
@@ -44,7 +44,7 @@ pub extern "C" fn moldingcress_all_edges_with_terminate(
         (scratchOf (now (numbers .entry)) (now («list_ends» .entry)) (now (status .entry)) (now (weight .entry)) (now (previous .entry)) (now (node .entry)) (now (leaf .entry)))
         (scratchOf (now (numbers .exit)) (now («list_ends» .exit)) (now (status .exit)) (now (weight .exit)) (now (previous .exit)) (now (node .exit)) (now (leaf .exit))))) q ⌝ }
 {
-    done_number(complete_graph::all_edges_with_terminate(
+    done_number(query_tables::all_edges_with_terminate(
         EngineCounts {
             vertices,
             edges,
@@ -99,7 +99,7 @@ pub extern "C" fn moldingcress_all_edges(
         (scratchOf (now (numbers .entry)) (now («list_ends» .entry)) (now (status .entry)) (now (weight .entry)) (now (previous .entry)) (now (node .entry)) (now (leaf .entry)))
         (scratchOf (now (numbers .exit)) (now («list_ends» .exit)) (now (status .exit)) (now (weight .exit)) (now (previous .exit)) (now (node .exit)) (now (leaf .exit))))) q ⌝ }
 {
-    done_number(complete_graph::all_edges(
+    done_number(query_tables::all_edges(
         EngineCounts {
             vertices,
             edges,

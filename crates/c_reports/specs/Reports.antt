@@ -3,7 +3,7 @@
 use Prim.Native.Nat.{ℕ}
 use mathlib.Core.Path.{_≡_}
 use Rattle.columns.specs.declared.Done.{Done}
-use Rattle.answers.specs.Done.{said}
+use Rattle.columns_answers.specs.Done.{said}
 
 -- a call of the library that meets its contract gave an answer, and r is what is reported of it
 pub record Reported {A : Type 0} {B : Type 0} (Reports : A → B → Type 0) (Call : A → Type 0) (r : B) : Type 0 where

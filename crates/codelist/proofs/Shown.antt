@@ -9,11 +9,11 @@ use borrow.Author.Tests.{le-leb}
 use Rattle.columns.specs.Lists.{over}
 use Rattle.columns.specs.Questions.{ask}
 use Rattle.columns.proofs.Columns.{after-accepted, take-over, length-over}
-use Rattle.code_text.specs.declared.Listed.{Listed}
-use Rattle.code_text.specs.declared.Listed.the-variants.{Text}
-use Rattle.code_text.specs.Answer.{answerText, textRoom, textDoor, said, CodeListed}
-use Rattle.code_text.proofs.Cases.{text-case}
-use Rattle.code_text.proofs.Sizes.{every-text-fits}
+use Rattle.text_answer.specs.declared.Listed.{Listed}
+use Rattle.text_answer.specs.declared.Listed.the-variants.{Text}
+use Rattle.text_answer.specs.Answer.{answerText, textRoom, textDoor, said, CodeListed}
+use Rattle.text_answer.proofs.Cases.{text-case}
+use Rattle.text_answer.proofs.Sizes.{every-text-fits}
 
 module _ (input text₀ text : List ℕ) (r : Listed) (h : textRoom ≤ length text₀) (s : CodeListed input text₀ text r) where
   open-door : textDoor text₀ ≡ 0

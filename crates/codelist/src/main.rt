@@ -2,15 +2,15 @@
 // Every byte that it writes goes through `print`, whose caller has to show that it lends the whole text for the input and nothing else. No contract can say
 // what a call of C reads or writes, so this is left to the reader: that `main` makes its one call, that `read_and_answer` hands on exactly the bytes
 // read, that `print` writes, and that `io::read_full` and `io::write_all` read and write what they are lent. Of an input longer than the buffer a part
-// is read, which is refused as the whole would be (`code_line::long_inputs_alike`).
-use code_text::Listed;
-use code_text::codelist;
+// is read, which is refused as the whole would be (`text_input::long_inputs_alike`).
 use libc::STDIN_FILENO;
 use libc::STDOUT_FILENO;
+use text_answer::Listed;
+use text_answer::codelist;
 ghost use mathlib.Core.Path.{_≡_};
 ghost use Prim.Native.Nat.{_≤_};
 ghost use lib.ListN.{length, take};
-ghost use Rattle.code_text.specs.Answer.{answerText, textRoom};
+ghost use Rattle.text_answer.specs.Answer.{answerText, textRoom};
 
 // Writes the text for an input; how many bytes it has.
 fn print(input: &[u8], text: &[u8]) -> usize

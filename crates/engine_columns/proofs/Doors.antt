@@ -11,8 +11,8 @@ use Rattle.columns.specs.Limits.{weightLimit}
 use Rattle.columns.specs.Lists.{after}
 use Rattle.columns.specs.Questions.{ask, allBelow, allWithin, weightsSound, boundariesSound}
 use Rattle.columns.proofs.Tests.{and-both, both-and, below-at, below-first}
-use Rattle.answers.proofs.Said.{accepts-of, refuses-of}
-use Rattle.neighbors.specs.Sound.{graphSound, logSound}
+use Rattle.columns_answers.proofs.Said.{accepts-of, refuses-of}
+use Rattle.columns_neighbors.specs.Sound.{graphSound, logSound}
 use Rattle.engine_columns.specs.declared.EngineCounts.{EngineCounts}
 use Rattle.engine_columns.specs.declared.EngineAnswer.{EngineAnswer}
 use Rattle.engine_columns.specs.declared.EngineAnswer.the-variants.{Counts, Refused}

@@ -5,7 +5,7 @@ use mathlib.Core.List.{List}
 use lib.ListN.{length}
 use lib.Dec.{leb}
 use Rattle.columns.specs.Questions.{weightsSound, boundariesSound}
-use Rattle.neighbors.specs.Sound.{graphSound, logSound}
+use Rattle.columns_neighbors.specs.Sound.{graphSound, logSound}
 use Rattle.engine_columns.specs.Records.{Engine}
 
 -- 6: ends, weights and boundary bytes as long as their counts

@@ -6,7 +6,7 @@ use mathlib.Core.List.{List}
 use lib.ListN.{take}
 use Rattle.columns.specs.Lists.{after}
 use Rattle.columns.specs.Questions.{ask}
-use Rattle.answers.specs.Said.{Answered}
+use Rattle.columns_answers.specs.Said.{Answered}
 use Rattle.engine_columns.specs.declared.EngineAnswer.{EngineAnswer}
 use Rattle.engine_columns.specs.Records.{counts, noCounts, said}
 use Rattle.engine_columns.specs.Door.{columnsLong, columnsSound}

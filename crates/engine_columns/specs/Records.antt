@@ -1,7 +1,7 @@
 -- The engine graph of document 01's "Records": the columns that a caller lends, with their counts.
 use Prim.Native.Nat.{ℕ}
 use mathlib.Core.List.{List}
-use Rattle.answers.specs.Said.{Said, accepts, refuses}
+use Rattle.columns_answers.specs.Said.{Said, accepts, refuses}
 use Rattle.engine_columns.specs.declared.EngineCounts.{EngineCounts}
 use Rattle.engine_columns.specs.declared.EngineAnswer.{EngineAnswer}
 use Rattle.engine_columns.specs.declared.EngineAnswer.the-variants.{Counts, Refused}

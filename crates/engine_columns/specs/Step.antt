@@ -1,4 +1,4 @@
--- What a load or a reset answers and what it leaves in every lent column: the relation that the contracts in edge_modifier cite.
+-- What a load or a reset answers and what it leaves in every lent column: the relation that the contracts in engine_calls cite.
 use Prim.Native.Nat.{ℕ}
 use mathlib.Core.Path.{_≡_}
 use mathlib.Core.Bool.{cond}
@@ -7,10 +7,10 @@ use lib.ListN.{length}
 use lib.Dec.{eqb}
 use Rattle.columns.specs.Limits.{weightLimit}
 use Rattle.columns.specs.Questions.{ask, allBelow, allWithin}
-use Rattle.answers.specs.Said.{Answered}
+use Rattle.columns_answers.specs.Said.{Answered}
 use Rattle.engine_columns.specs.declared.EngineAnswer.{EngineAnswer}
 use Rattle.engine_columns.specs.Records.{Engine, engine, counts, noCounts, said}
-use Rattle.edge_log.specs.Load.{loaded, earlier, named, undone, erased, given}
+use Rattle.engine_log.specs.Load.{loaded, earlier, named, undone, erased, given}
 use Rattle.engine_columns.specs.Door.{longEnough, sound}
 
 -- a load or a reset, with its arguments

@@ -8,10 +8,10 @@ use borrow.Author.Tests.{lt-ltb, le-leb, leb-true}
 use Rattle.columns.proofs.Tests.{and-both}
 use Rattle.engine_columns.specs.Records.{Engine}
 use Rattle.engine_columns.proofs.Doors.{long-from, sound-from}
-use Rattle.complete_graph.specs.declared.End.the-variants.{None}
+use Rattle.query_tables.specs.declared.End.the-variants.{None}
 use Rattle.query_questions.specs.Queries.{scratchLong}
-use Rattle.complete_graph.specs.Steps.{tableDoor}
-use Rattle.searches.proofs.Asked.{query-of}
+use Rattle.query_tables.specs.Steps.{tableDoor}
+use Rattle.query_search.proofs.Asked.{query-of}
 use Rattle.prebuilt_boundaries.specs.Steps.{Fillable}
 use Rattle.prebuilt_boundaries.specs.Boundaries.{boundariesDoor}
 

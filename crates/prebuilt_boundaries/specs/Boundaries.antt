@@ -8,13 +8,13 @@ use lib.ListN.{length}
 use lib.Dec.{leb}
 use lib.IntN.{ℤ}
 use Rattle.columns.specs.Lists.{each, after}
-use Rattle.answers.specs.Said.{Answered}
-use Rattle.answers.specs.Done.{said}
+use Rattle.columns_answers.specs.Said.{Answered}
+use Rattle.columns_answers.specs.Done.{said}
 use Rattle.columns.specs.declared.Done.{Done}
 use Rattle.columns.specs.declared.Done.the-variants.{Accepted, Refused}
 use Rattle.engine_columns.specs.Records.{Engine}
-use Rattle.walks.specs.Graph.{Graph}
-use Rattle.walks.specs.Answers.{table}
+use Rattle.engine_walks.specs.Graph.{Graph}
+use Rattle.engine_walks.specs.Answers.{table}
 use Rattle.query_questions.specs.Queries.{graphIn, weightsIn, queryDoor}
 use Rattle.prebuilt_entries.specs.Nearest.{boundaryIn, weightTo, vertexTo}
 

@@ -14,11 +14,11 @@ use columns::VertexIndex;
 use columns::Weight;
 use columns::questions::at_most;
 use columns::questions::both;
-use complete_graph::all_edges;
 use engine_columns::EngineCounts;
 use prebuilt_entries::boundaries::store_boundary;
 use query_questions::query_door;
 use query_questions::scratch_long;
+use query_tables::all_edges;
 
 // The weight and the number of the nearest virtual vertex of v, by a search from v. The columns from `least` on are scratch.
 fn fill_one(

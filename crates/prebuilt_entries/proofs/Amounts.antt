@@ -13,8 +13,8 @@ use lib.IntN.{ℤ, pos, negsuc}
 use borrow.Author.Tests.{eq-eqb, ne-eqb}
 use Rattle.columns.specs.Lists.{over}
 use Rattle.columns.proofs.Columns.{take-over, length-over}
-use Rattle.walks.specs.Answers.{weightIn}
-use Rattle.walks.proofs.FirstLeast.{orElse, IsFirst, first-least, pass-by, pass-take, pass-keep}
+use Rattle.engine_walks.specs.Answers.{weightIn}
+use Rattle.engine_walks.proofs.FirstLeast.{orElse, IsFirst, first-least, pass-by, pass-take, pass-keep}
 use Rattle.prebuilt_entries.specs.Entries.{rank, isVirtual}
 use Rattle.prebuilt_entries.specs.Nearest.{isReached, amount, nearestIn}
 

@@ -9,8 +9,8 @@ use lib.ListN.{length, getD, List·getD-eq-default}
 use lib.Dec.{ltb}
 use lib.IntN.{ℤ, negsuc}
 use borrow.Author.Tests.{eq-eqb, ne-eqb, lt-ltb, le-ltb}
-use Rattle.walks.specs.Answers.{weightIn}
-use Rattle.walks.proofs.FirstLeast.{orElse, IsFirst, first-least}
+use Rattle.engine_walks.specs.Answers.{weightIn}
+use Rattle.engine_walks.proofs.FirstLeast.{orElse, IsFirst, first-least}
 use Rattle.prebuilt_entries.specs.Entries.{isVirtual}
 use Rattle.prebuilt_entries.specs.Nearest.{isReached, amount, nearestIn, boundaryIn, weightTo, vertexTo}
 

@@ -5,7 +5,7 @@ use mathlib.Core.List.{List}
 use lib.ListN.{getD}
 use lib.Dec.{ltb, eqb}
 use lib.IntN.{ℤ, pos, negsuc}
-use Rattle.walks.specs.Answers.{weightIn}
+use Rattle.engine_walks.specs.Answers.{weightIn}
 
 -- a weight of 0 or more counts one more than itself, -1 for none counts 0
 abbrev pub rank : ℤ → ℕ

@@ -5,8 +5,8 @@ use mathlib.Core.List.{List}
 use mathlib.Core.Option.{Option, some, none}
 use lib.ListN.{getD}
 use lib.IntN.{ℤ, pos, negsuc}
-use Rattle.walks.specs.Settling.{firstLeast}
-use Rattle.walks.specs.Answers.{weightIn}
+use Rattle.engine_walks.specs.Settling.{firstLeast}
+use Rattle.engine_walks.specs.Answers.{weightIn}
 use Rattle.prebuilt_entries.specs.Entries.{isVirtual}
 
 -- a weight of a table: whether there is one, and how much

@@ -4,8 +4,8 @@ ghost use mathlib.Core.Bool.{cond};
 ghost use Prim.Native.Nat.{_<_, _≤_};
 ghost use lib.ListN.{length, set};
 ghost use lib.Dec.{ltb};
-ghost use Rattle.walks.specs.Answers.{weightIn};
-ghost use Rattle.walks.proofs.FirstLeast.{orElse};
+ghost use Rattle.engine_walks.specs.Answers.{weightIn};
+ghost use Rattle.engine_walks.proofs.FirstLeast.{orElse};
 ghost use Rattle.prebuilt_entries.specs.Nearest.{boundaryIn, weightTo, vertexTo};
 use super::nearest::nearest_place;
 

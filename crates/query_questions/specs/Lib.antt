@@ -1,3 +1,3 @@
--- Queries: the engine graph as `walks` has it, and the questions of a query. Scratch: its scratch columns.
+-- Queries: the engine graph as `engine_walks` has it, and the questions of a query. Scratch: its scratch columns.
 pub mod Queries
 pub mod Scratch

@@ -6,7 +6,7 @@ use lib.Dec.{leb}
 use Rattle.columns.specs.Questions.{ask}
 use Rattle.engine_columns.specs.Records.{Engine}
 use Rattle.engine_columns.specs.Door.{longEnough, sound}
-use Rattle.walks.specs.Graph.{Graph}
+use Rattle.engine_walks.specs.Graph.{Graph}
 
 -- the graph in the columns, without the places past the counts
 abbrev pub graphIn : Engine → Graph

@@ -6,11 +6,11 @@ use mathlib.Core.List.{List}
 use lib.ListN.{length, drop}
 use lib.Dec.{eqb}
 use Rattle.columns.specs.Lists.{each, over}
-use Rattle.priority_queue.specs.Tree.{Tree}
-use Rattle.neighbors.specs.Lists.{lists}
-use Rattle.walks.specs.Graph.{Graph, edges}
-use Rattle.walks.specs.Settling.{State, statusAt, weightAt}
-use Rattle.relaxing.specs.Ready.{keyOf}
+use Rattle.query_queue.specs.Tree.{Tree}
+use Rattle.columns_neighbors.specs.Lists.{lists}
+use Rattle.engine_walks.specs.Graph.{Graph, edges}
+use Rattle.engine_walks.specs.Settling.{State, statusAt, weightAt}
+use Rattle.query_relaxing.specs.Ready.{keyOf}
 use Rattle.columns.specs.declared.Done.{Done}
 use Rattle.columns.specs.declared.Done.the-variants.{Accepted, Refused}
 

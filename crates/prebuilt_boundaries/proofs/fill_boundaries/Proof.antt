@@ -10,7 +10,7 @@ use Rattle.columns.proofs.Counting.{length-each}
 use Rattle.columns.proofs.Columns.{sets-over, after-accepted, after-refused}
 use Rattle.engine_columns.specs.Records.{Engine, engine}
 use Rattle.query_questions.specs.Queries.{graphIn, weightsIn, scratchLong, queryDoor}
-use Rattle.answers.proofs.Said.{accepts-of, refuses-of}
+use Rattle.columns_answers.proofs.Said.{accepts-of, refuses-of}
 use Rattle.prebuilt_boundaries.specs.Boundaries.{boundaryWeight, boundaryVertex, boundariesDoor}
 use Rattle.prebuilt_boundaries.specs.Steps.{Fillable}
 use Rattle.prebuilt_boundaries.proofs.Asked.{fillable}

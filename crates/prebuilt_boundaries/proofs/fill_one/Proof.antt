@@ -9,14 +9,14 @@ use lib.ListN.{length, getD, take, set}
 use lib.Seq.{length-take-le}
 use lib.IntN.{ℤ}
 use Rattle.columns.proofs.Columns.{after-accepted}
-use Rattle.neighbors.proofs.Ends.{GraphSound, graph-says}
+use Rattle.columns_neighbors.proofs.Ends.{GraphSound, graph-says}
 use Rattle.engine_columns.specs.Records.{Engine, engine}
-use Rattle.walks.specs.Answers.{table}
-use Rattle.complete_graph.specs.declared.End.the-variants.{None}
+use Rattle.engine_walks.specs.Answers.{table}
+use Rattle.query_tables.specs.declared.End.the-variants.{None}
 use Rattle.query_questions.specs.Queries.{graphIn, weightsIn, scratchLong}
-use Rattle.complete_graph.specs.Steps.{tableDoor}
-use Rattle.complete_graph.proofs.Tables.{TableAsked, table-of}
-use Rattle.complete_graph.proofs.Sources.{table-weights-length}
+use Rattle.query_tables.specs.Steps.{tableDoor}
+use Rattle.query_tables.proofs.Tables.{TableAsked, table-of}
+use Rattle.query_tables.proofs.Sources.{table-weights-length}
 use Rattle.prebuilt_entries.specs.Nearest.{boundaryIn, weightTo, vertexTo}
 use Rattle.prebuilt_entries.proofs.Amounts.{cut-fits}
 use Rattle.prebuilt_boundaries.proofs.Asked.{search-accepted}

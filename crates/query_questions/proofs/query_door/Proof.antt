@@ -11,8 +11,8 @@ use lib.IntN.{ℤ, pos, negsuc}
 use borrow.Author.Tests.{eq-eqb, ne-eqb, lt-ltb}
 use Rattle.columns.specs.Lists.{each}
 use Rattle.columns.proofs.Counting.{store-each, length-each}
-use Rattle.walks.specs.Answers.{tableWeight, tablePrevious}
-use Rattle.relaxing.specs.Ready.{stateOf, Ready, sumLimit}
+use Rattle.engine_walks.specs.Answers.{tableWeight, tablePrevious}
+use Rattle.query_relaxing.specs.Ready.{stateOf, Ready, sumLimit}
 use Rattle.query_questions.proofs.query_door.Statement.{statement}
 use Rattle.query_questions.proofs.query_door.Tie as tie
 

@@ -1,4 +1,4 @@
--- `c_codes::codes::moldingcress_create_code` meets its contract: it hands on what `example_codes` promises. Assumes nothing.
+-- `c_codes::codes::moldingcress_create_code` meets its contract: it hands on what `codes_calls` promises. Assumes nothing.
 use Rattle.c_codes.proofs.codes.moldingcress_create_code.Statement.{statement}
 use Rattle.c_codes.proofs.codes.moldingcress_create_code.Tie as tie
 

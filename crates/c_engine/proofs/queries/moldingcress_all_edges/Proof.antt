@@ -1,4 +1,4 @@
--- `c_engine::queries::moldingcress_all_edges` meets its contract: it hands on what `complete_graph` promises. Assumes nothing.
+-- `c_engine::queries::moldingcress_all_edges` meets its contract: it hands on what `query_tables` promises. Assumes nothing.
 use Rattle.c_engine.proofs.queries.moldingcress_all_edges.Statement.{statement}
 use Rattle.c_engine.proofs.queries.moldingcress_all_edges.Tie as tie
 

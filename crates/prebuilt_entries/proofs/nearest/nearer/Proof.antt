@@ -14,8 +14,8 @@ use mir.Syntax.{w32}
 use mir.Val.{SFits, toZ, ofZ}
 use mir.ValLaws.{toZ-ofZ}
 use Rattle.columns.proofs.Columns.{getD-any}
-use Rattle.walks.specs.Answers.{weightIn}
-use Rattle.walks.proofs.FirstLeast.{orElse, IsFirst, first-least}
+use Rattle.engine_walks.specs.Answers.{weightIn}
+use Rattle.engine_walks.proofs.FirstLeast.{orElse, IsFirst, first-least}
 use Rattle.prebuilt_entries.specs.Entries.{rank, isVirtual}
 use Rattle.prebuilt_entries.specs.Nearest.{isReached, amount, nearestIn}
 use Rattle.prebuilt_entries.proofs.Amounts.{amount-none, amount-some, reached-by, near-by, near-take, near-keep}

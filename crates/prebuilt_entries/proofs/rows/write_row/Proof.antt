@@ -16,7 +16,7 @@ use mir.Val.{SFits, toZ, ofZ}
 use mir.ValLaws.{toZ-ofZ}
 use lib.Dec.{eqb}
 use lib.Signed.{mag}
-use Rattle.walks.specs.Answers.{weightIn}
+use Rattle.engine_walks.specs.Answers.{weightIn}
 use Rattle.columns.proofs.Columns.{getD-any}
 use Rattle.prebuilt_entries.proofs.Ranks.{entry-fits}
 use borrow.Author.Needs.{needs}

@@ -1,0 +1,124 @@
+-- `access_calls::get_initializer` meets its contract. Assumes nothing.
+use mathlib.Core.Path.{_≡_, refl, sym, _∙_}
+use lib.ListN.{take}
+use Rattle.columns.proofs.Columns.{copy-after, after-accepted, after-refused}
+use Rattle.columns_marks.specs.Marks.{listed}
+use Rattle.access_weights.specs.Weights.{weights}
+use Rattle.access_calls.specs.Calls.{code, initializer, initializerDoor}
+use Rattle.columns_answers.proofs.Said.{accepts-of, refuses-of}
+use Rattle.access_calls.proofs.Doors.{initializer-met}
+use borrow.Author.Needs.{needs}
+use Rattle.access_calls.proofs.get_initializer.Statement.{statement}
+use Rattle.access_calls.proofs.get_initializer.Tie as tie
+
+initializer-door-requires : tie.Need-initializer-door-requires
+initializer-door-requires c κs = tt
+
+copy-u32-requires : tie.Need-copy-u32-requires
+copy-u32-requires c κs = tt
+
+copy-u32-requires-2 : tie.Need-copy-u32-requires-2
+copy-u32-requires-2 c κs = tt
+
+store-weights-requires : tie.Need-store-weights-requires
+store-weights-requires c κs =
+    let s = c .before .before .before .before .before .before .before .before .before .before .before .before .before .before .before .before .before .before .before .before .before .before .before .args in
+    let from = code (s .ends-a .now) (s .ends-b .now) (s .half-weight .now) (s .boundary .now) in
+    let to = initializer (s .to-a .now) (s .to-b .now) (s .to-weight .now) (s .to-virtual .now) in
+    let v = s .vertex-num in
+    let e = s .edge-num in
+    let m = initializer-met v e from to (sym (c .before .before .before .before .before .before .before .before .before .before .initializer-door .ensures) ∙ c .before .before .before .before .before .before .before .before .before .if1 .taken) in
+    ((m .half, m .to-weight), m .halves)
+
+list-set-requires : tie.Need-list-set-requires
+list-set-requires c κs =
+    let s = c .before .before .before .before .before .before .before .before .before .before .before .before .before .before .before .before .before .before .before .before .before .before .before .before .before .before .before .args in
+    let from = code (s .ends-a .now) (s .ends-b .now) (s .half-weight .now) (s .boundary .now) in
+    let to = initializer (s .to-a .now) (s .to-b .now) (s .to-weight .now) (s .to-virtual .now) in
+    let v = s .vertex-num in
+    let e = s .edge-num in
+    let m = initializer-met v e from to (sym (c .before .before .before .before .before .before .before .before .before .before .before .before .before .before .initializer-door .ensures) ∙ c .before .before .before .before .before .before .before .before .before .before .before .before .before .if1 .taken) in
+    (m .boundary, m .to-virtual)
+
+same-length : tie.Need-same-length
+same-length c = c .before .before .before .before .before .before .before .before .before .before .before .before .before .to-a .given
+
+same-length-2 : tie.Need-same-length-2
+same-length-2 c = c .before .before .before .before .before .before .before .before .before .to-b .given
+
+same-length-3 : tie.Need-same-length-3
+same-length-3 c = c .before .before .before .before .before .to-weight .given
+
+same-length-4 : tie.Need-same-length-4
+same-length-4 c = c .before .to-virtual .given
+
+returns : tie.Need-returns
+returns c =
+    let s = c .before .before .before .before .before .before .before .before .before .before .before .before .before .before .before .before .before .before .before .before .before .before .before .before .before .before .before .before .before .before .args in
+    let from = code (s .ends-a .now) (s .ends-b .now) (s .half-weight .now) (s .boundary .now) in
+    let to = initializer (s .to-a .now) (s .to-b .now) (s .to-weight .now) (s .to-virtual .now) in
+    let v = s .vertex-num in
+    let e = s .edge-num in
+    let q = initializerDoor v e from to in
+    let z : q ≡ 0 = sym (c .before .before .before .before .before .before .before .before .before .before .before .before .before .before .before .before .before .initializer-door .ensures) ∙ c .before .before .before .before .before .before .before .before .before .before .before .before .before .before .before .before .if1 .taken in
+    let m = initializer-met v e from to z in
+    let vs = listed v (s .boundary .now) in
+    let p = c .before .before .list-set .ensures in
+    record {
+      answers = rw (p .0) (accepts-of z);
+      endsA-left = c .before .before .before .before .before .before .before .before .before .before .before .before .before .before .copy-u32 .ensures ∙ copy-after e q (s .to-a .now) (s .ends-a .now) z (m .a) (m .to-a);
+      endsB-left = c .before .before .before .before .before .before .before .before .before .before .copy-u322 .ensures ∙ copy-after e q (s .to-b .now) (s .ends-b .now) z (m .b) (m .to-b);
+      weight-left = c .before .before .before .before .before .before .store-weights .ensures ∙ sym (after-accepted q (weights e (s .half-weight .now)) (s .to-weight .now) z);
+      virtual-left = p .1 ∙ sym (after-accepted q vs (s .to-virtual .now) z);
+    }
+
+same-length-5 : tie.Need-same-length-5
+same-length-5 c = search needs
+
+same-length-6 : tie.Need-same-length-6
+same-length-6 c = search needs
+
+same-length-7 : tie.Need-same-length-7
+same-length-7 c = search needs
+
+same-length-8 : tie.Need-same-length-8
+same-length-8 c = search needs
+
+returns-2 : tie.Need-returns-2
+returns-2 c =
+    let s = c .before .before .before .before .before .before .before .before .before .before .before .before .before .before .args in
+    let from = code (s .ends-a .now) (s .ends-b .now) (s .half-weight .now) (s .boundary .now) in
+    let to = initializer (s .to-a .now) (s .to-b .now) (s .to-weight .now) (s .to-virtual .now) in
+    let v = s .vertex-num in
+    let e = s .edge-num in
+    let q = initializerDoor v e from to in
+    let vs = listed v (s .boundary .now) in
+    let d = c .before .initializer-door .ensures in
+    let g : q ≡ 0 → ⊥ = λ x. c .if1 .left (d ∙ x) in
+    record {
+      answers = refuses-of d (c .if1 .left);
+      endsA-left = sym (after-refused q (take e (s .ends-a .now)) (s .to-a .now) g);
+      endsB-left = sym (after-refused q (take e (s .ends-b .now)) (s .to-b .now) g);
+      weight-left = sym (after-refused q (weights e (s .half-weight .now)) (s .to-weight .now) g);
+      virtual-left = sym (after-refused q vs (s .to-virtual .now) g);
+    }
+
+pub get-initializer-spec : {M : Type 1} → statement M
+get-initializer-spec =
+    tie.close
+    (tie.spec
+    initializer-door-requires
+    copy-u32-requires
+    copy-u32-requires-2
+    store-weights-requires
+    list-set-requires
+    same-length
+    same-length-2
+    same-length-3
+    same-length-4
+    returns
+    same-length-5
+    same-length-6
+    same-length-7
+    same-length-8
+    returns-2)

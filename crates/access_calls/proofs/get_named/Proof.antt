@@ -1,0 +1,82 @@
+-- `access_calls::get_named` meets its contract. Assumes nothing.
+use mathlib.Core.Path.{_≡_, refl, sym, _∙_}
+use Rattle.columns.proofs.Columns.{after-accepted, after-refused}
+use Rattle.columns_marks.specs.Marks.{listed}
+use Rattle.access_calls.specs.Calls.{getDoor}
+use Rattle.columns_answers.proofs.Said.{accepts-of, refuses-of}
+use Rattle.access_calls.proofs.Doors.{get-met}
+use Rattle.access_calls.proofs.get_named.Statement.{statement}
+use Rattle.access_calls.proofs.get_named.Tie as tie
+
+-- the number that the questions give
+number : (c : tie.After-asked2) → let s = c .before .before .before .before .before .before .before .before .before .args in c .asked2 .result ≡ getDoor (s .sound) (s .n) (s .column .now) (s .list .now)
+number c = cc
+
+at-most-requires : tie.Need-at-most-requires
+at-most-requires c κs = tt
+
+at-most-requires-2 : tie.Need-at-most-requires-2
+at-most-requires-2 c κs = tt
+
+marks-sound-requires : tie.Need-marks-sound-requires
+marks-sound-requires c κs = tt
+
+both-requires : tie.Need-both-requires
+both-requires c κs = tt
+
+both-requires-2 : tie.Need-both-requires-2
+both-requires-2 c κs = tt
+
+asked-requires : tie.Need-asked-requires
+asked-requires c κs = tt
+
+asked-requires-2 : tie.Need-asked-requires-2
+asked-requires-2 c κs = tt
+
+list-set-requires : tie.Need-list-set-requires
+list-set-requires c κs =
+    let s = c .before .before .before .before .before .before .before .before .before .before .before .args in
+    get-met (s .sound) (s .n) (s .column .now) (s .list .now) (sym (number (c .before .before)) ∙ c .before .if1 .taken)
+
+same-length : tie.Need-same-length
+same-length c = c .before .list .given
+
+returns : tie.Need-returns
+returns c =
+    let s = c .before .before .before .before .before .before .before .before .before .before .before .before .before .before .args in
+    let q = getDoor (s .sound) (s .n) (s .column .now) (s .list .now) in
+    let vs = listed (s .n) (s .column .now) in
+    let z : q ≡ 0 = sym (number (c .before .before .before .before .before)) ∙ c .before .before .before .before .if1 .taken in
+    let p = c .before .before .list-set .ensures in
+    record {
+      answers = rw (p .0) (accepts-of z);
+      left = p .1 ∙ sym (after-accepted q vs (s .list .now) z);
+    }
+
+returns-2 : tie.Need-returns-2
+returns-2 c =
+    let s = c .before .before .before .before .before .before .before .before .before .before .args in
+    let q = getDoor (s .sound) (s .n) (s .column .now) (s .list .now) in
+    let vs = listed (s .n) (s .column .now) in
+    let d = number (c .before) in
+    let g : q ≡ 0 → ⊥ = λ e. c .if1 .left (d ∙ e) in
+    record {
+      answers = refuses-of d (c .if1 .left);
+      left = sym (after-refused q vs (s .list .now) g);
+    }
+
+pub get-named-spec : {M : Type 1} → statement M
+get-named-spec =
+    tie.close
+    (tie.spec
+    at-most-requires
+    at-most-requires-2
+    marks-sound-requires
+    both-requires
+    both-requires-2
+    asked-requires
+    asked-requires-2
+    list-set-requires
+    same-length
+    returns
+    returns-2)

@@ -1,0 +1,78 @@
+-- `access_calls::set_named` meets its contract. Assumes nothing.
+use mathlib.Core.Path.{_≡_, refl, sym, ap, _∙_}
+use Rattle.columns.specs.Answers.{done}
+use Rattle.columns_answers.proofs.Said.{accepts-of}
+use Rattle.columns_answers.proofs.Done.{said-of}
+use Rattle.columns.proofs.Columns.{after-accepted, after-refused}
+use Rattle.columns_marks.specs.Marks.{marks}
+use Rattle.access_calls.specs.Calls.{setDoor}
+use Rattle.access_calls.proofs.Doors.{set-met}
+use Rattle.access_calls.proofs.set_named.Statement.{statement}
+use Rattle.access_calls.proofs.set_named.Tie as tie
+
+-- the number that the questions give
+number : (c : tie.After-asked3) → let s = c .before .before .before .before .before .before .before .args in c .asked3 .result ≡ setDoor (s .sound) (s .n) (s .list .now) (s .column .now)
+number c = cc
+
+at-most-requires : tie.Need-at-most-requires
+at-most-requires c κs = tt
+
+each-below-requires : tie.Need-each-below-requires
+each-below-requires c κs = tt
+
+asked-requires : tie.Need-asked-requires
+asked-requires c κs = tt
+
+asked-requires-2 : tie.Need-asked-requires-2
+asked-requires-2 c κs = tt
+
+asked-requires-3 : tie.Need-asked-requires-3
+asked-requires-3 c κs = tt
+
+set-marks-requires : tie.Need-set-marks-requires
+set-marks-requires c κs =
+    let s = c .before .before .before .before .before .before .before .before .before .args in
+    set-met (s .sound) (s .n) (s .list .now) (s .column .now) (sym (number (c .before .before)) ∙ c .before .if1 .taken)
+
+same-length : tie.Need-same-length
+same-length c = c .before .column .given
+
+returns : tie.Need-returns
+returns c =
+    let s = c .before .before .before .before .before .before .before .before .before .before .before .before .args in
+    let q = setDoor (s .sound) (s .n) (s .list .now) (s .column .now) in
+    let vs = marks (s .n) (s .list .now) in
+    let z : q ≡ 0 = sym (number (c .before .before .before .before .before)) ∙ c .before .before .before .before .if1 .taken in
+    record {
+      answers = accepts-of z;
+      left = c .before .before .set-marks .ensures ∙ sym (after-accepted q vs (s .column .now) z);
+    }
+
+done-of-requires : tie.Need-done-of-requires
+done-of-requires c κs = tt
+
+returns-2 : tie.Need-returns-2
+returns-2 c =
+    let s = c .before .before .before .before .before .before .before .before .before .args in
+    let q = setDoor (s .sound) (s .n) (s .list .now) (s .column .now) in
+    let vs = marks (s .n) (s .list .now) in
+    let d = number (c .before .before) in
+    record {
+      answers = said-of _ _ (c .done-of .ensures ∙ ap done d);
+      left = sym (after-refused q vs (s .column .now) (λ e. c .before .if1 .left (d ∙ e)));
+    }
+
+pub set-named-spec : {M : Type 1} → statement M
+set-named-spec =
+    tie.close
+    (tie.spec
+    at-most-requires
+    each-below-requires
+    asked-requires
+    asked-requires-2
+    asked-requires-3
+    set-marks-requires
+    same-length
+    returns
+    done-of-requires
+    returns-2)

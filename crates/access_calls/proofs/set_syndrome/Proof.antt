@@ -1,0 +1,96 @@
+-- `access_calls::set_syndrome` meets its contract. Assumes nothing.
+use mathlib.Core.Path.{_≡_, refl, sym, ap, _∙_}
+use Rattle.columns.specs.Answers.{done}
+use Rattle.columns_answers.proofs.Said.{accepts-of}
+use Rattle.columns_answers.proofs.Done.{said-of}
+use Rattle.columns.proofs.Columns.{after-accepted, after-refused}
+use Rattle.columns_marks.specs.Marks.{marks}
+use Rattle.access_calls.specs.Calls.{syndrome, setSyndromeDoor}
+use Rattle.access_calls.proofs.Doors.{set-syndrome-met}
+use borrow.Author.Needs.{needs}
+use Rattle.access_calls.proofs.set_syndrome.Statement.{statement}
+use Rattle.access_calls.proofs.set_syndrome.Tie as tie
+
+set-syndrome-door-requires : tie.Need-set-syndrome-door-requires
+set-syndrome-door-requires c κs = tt
+
+set-marks-requires : tie.Need-set-marks-requires
+set-marks-requires c κs =
+    let s = c .before .before .before .before .before .before .before .before .before .args in
+    let bytes = syndrome (s .defect .now) (s .erasure .now) in
+    let lists = syndrome (s .defect-list .now) (s .erasure-list .now) in
+    let v = s .vertex-num in
+    let e = s .edge-num in
+    let m = set-syndrome-met v e lists bytes (sym (c .before .before .set-syndrome-door .ensures) ∙ c .before .if1 .taken) in
+    (m .0 .0, m .1 .0)
+
+set-marks-requires-2 : tie.Need-set-marks-requires-2
+set-marks-requires-2 c κs =
+    let s = c .before .before .before .before .before .before .before .before .before .before .before .before .before .args in
+    let bytes = syndrome (s .defect .now) (s .erasure .now) in
+    let lists = syndrome (s .defect-list .now) (s .erasure-list .now) in
+    let v = s .vertex-num in
+    let e = s .edge-num in
+    let m = set-syndrome-met v e lists bytes (sym (c .before .before .before .before .before .before .set-syndrome-door .ensures) ∙ c .before .before .before .before .before .if1 .taken) in
+    (m .0 .1, m .1 .1)
+
+same-length : tie.Need-same-length
+same-length c = c .before .before .before .before .before .defect .given
+
+same-length-2 : tie.Need-same-length-2
+same-length-2 c = c .before .erasure .given
+
+returns : tie.Need-returns
+returns c =
+    let s = c .before .before .before .before .before .before .before .before .before .before .before .before .before .before .before .before .args in
+    let bytes = syndrome (s .defect .now) (s .erasure .now) in
+    let lists = syndrome (s .defect-list .now) (s .erasure-list .now) in
+    let v = s .vertex-num in
+    let e = s .edge-num in
+    let q = setSyndromeDoor v e lists bytes in
+    let z : q ≡ 0 = sym (c .before .before .before .before .before .before .before .before .before .set-syndrome-door .ensures) ∙ c .before .before .before .before .before .before .before .before .if1 .taken in
+    record {
+      answers = accepts-of z;
+      defects-left = c .before .before .before .before .before .before .set-marks .ensures ∙ sym (after-accepted q (marks v (lists .defects)) (s .defect .now) z);
+      erasures-left = c .before .before .set-marks2 .ensures ∙ sym (after-accepted q (marks e (lists .erasures)) (s .erasure .now) z);
+    }
+
+done-of-requires : tie.Need-done-of-requires
+done-of-requires c κs = tt
+
+same-length-3 : tie.Need-same-length-3
+same-length-3 c = search needs
+
+same-length-4 : tie.Need-same-length-4
+same-length-4 c = search needs
+
+returns-2 : tie.Need-returns-2
+returns-2 c =
+    let s = c .before .before .before .before .before .before .before .before .before .args in
+    let bytes = syndrome (s .defect .now) (s .erasure .now) in
+    let lists = syndrome (s .defect-list .now) (s .erasure-list .now) in
+    let v = s .vertex-num in
+    let e = s .edge-num in
+    let q = setSyndromeDoor v e lists bytes in
+    let d = c .before .before .set-syndrome-door .ensures in
+    let g : q ≡ 0 → ⊥ = λ x. c .before .if1 .left (d ∙ x) in
+    record {
+      answers = said-of _ _ (c .done-of .ensures ∙ ap done d);
+      defects-left = sym (after-refused q (marks v (lists .defects)) (s .defect .now) g);
+      erasures-left = sym (after-refused q (marks e (lists .erasures)) (s .erasure .now) g);
+    }
+
+pub set-syndrome-spec : {M : Type 1} → statement M
+set-syndrome-spec =
+    tie.close
+    (tie.spec
+    set-syndrome-door-requires
+    set-marks-requires
+    set-marks-requires-2
+    same-length
+    same-length-2
+    returns
+    done-of-requires
+    same-length-3
+    same-length-4
+    returns-2)

@@ -1,0 +1,72 @@
+-- `access_vertices::is_marked` meets its contract. Assumes nothing.
+use mathlib.Core.Path.{_≡_, sym, ap, _∙_}
+use native.Mathlib.Omega.{arith}
+use mathlib.Core.Bool.{_&&_}
+use lib.ListN.{length}
+use lib.Dec.{leb}
+use Rattle.columns.specs.Questions.{ask, vertexCountSound}
+use Rattle.access_vertices.specs.Marked.{isDoor}
+use Rattle.columns_answers.proofs.Said.{accepts-of, refuses-of}
+use Rattle.access_vertices.proofs.Below.{is-met}
+use Rattle.access_vertices.proofs.is_marked.Statement.{statement}
+use Rattle.access_vertices.proofs.is_marked.Tie as tie
+
+-- the number that the questions give
+number : (c : tie.After-asked3) → let s = c .before .before .before .before .before .before .before .args in c .asked3 .result ≡ isDoor (s .sound) (s .vertex-num) (s .column .now) (s .vertex)
+number c =
+    let s = c .before .before .before .before .before .before .before .args in
+    let sounds = c .before .before .before .both .ensures ∙ ap (λ b. b && s .sound) (c .before .before .before .before .vertex-count-sound .ensures) in
+    let last = c .before .asked2 .ensures ∙ ap (λ b. ask b 7 (c .before .before .asked .result)) sounds ∙ ap (ask (vertexCountSound (s .vertex-num) && s .sound) 7) (c .before .before .asked .ensures) in
+    c .asked3 .ensures ∙ ap (λ b. ask b 6 (c .before .asked2 .result)) (c .before .before .before .before .before .at-most .ensures) ∙ ap (ask (leb (s .vertex-num) (length (s .column .now))) 6) last
+
+at-most-requires : tie.Need-at-most-requires
+at-most-requires c κs = tt
+
+vertex-count-sound-requires : tie.Need-vertex-count-sound-requires
+vertex-count-sound-requires c κs = tt
+
+both-requires : tie.Need-both-requires
+both-requires c κs = tt
+
+asked-requires : tie.Need-asked-requires
+asked-requires c κs = tt
+
+asked-requires-2 : tie.Need-asked-requires-2
+asked-requires-2 c κs = tt
+
+asked-requires-3 : tie.Need-asked-requires-3
+asked-requires-3 c κs = tt
+
+shared-slice-read-is-set : tie.Need-shared-slice-read-is-set
+shared-slice-read-is-set c =
+    let s = c .before .before .before .before .before .before .before .before .before .args in
+    let z : isDoor (s .sound) (s .vertex-num) (s .column .now) (s .vertex) ≡ 0 = sym (number (c .before .before)) ∙ c .before .if1 .taken in
+    omega (arith, is-met (s .sound) (s .vertex-num) (s .column .now) (s .vertex) z)
+
+is-set-requires : tie.Need-is-set-requires
+is-set-requires c κs = tt
+
+returns : tie.Need-returns
+returns c =
+    let s = c .before .before .before .before .before .before .before .before .before .before .args in
+    let q = isDoor (s .sound) (s .vertex-num) (s .column .now) (s .vertex) in
+    let z : q ≡ 0 = sym (number (c .before .before .before)) ∙ c .before .before .if1 .taken in
+    rw (c .is-set .ensures) (accepts-of z)
+
+returns-2 : tie.Need-returns-2
+returns-2 c = refuses-of (number (c .before)) (c .if1 .left)
+
+pub is-marked-spec : {M : Type 1} → statement M
+is-marked-spec =
+    tie.close
+    (tie.spec
+    at-most-requires
+    vertex-count-sound-requires
+    both-requires
+    asked-requires
+    asked-requires-2
+    asked-requires-3
+    shared-slice-read-is-set
+    is-set-requires
+    returns
+    returns-2)

@@ -1,0 +1,23 @@
+-- is_virtual, is_defect: which question refuses (0 for none), and the answer.
+use Prim.Native.Nat.{ℕ}
+use mathlib.Core.Bool.{Bool, false, _&&_}
+use mathlib.Core.List.{List}
+use lib.Dec.{leb, ltb}
+use lib.ListN.{length, getD}
+use Rattle.columns.specs.Questions.{ask, vertexCountSound}
+use Rattle.columns_answers.specs.Said.{Said, accepts, refuses, Answered}
+use Rattle.columns_marks.specs.Marks.{isSet}
+use Rattle.access_vertices.specs.declared.Truth.{Truth}
+use Rattle.access_vertices.specs.declared.Truth.the-variants as truth
+
+-- document 01's number and value for each case of the answer: 0 where the call was accepted; the value is false where it was refused
+abbrev pub said : Truth → Said Bool
+said (truth.Is value) = accepts value
+said (truth.Refused number) = refuses number false
+
+-- `sound` is question 7 of the bytes
+abbrev pub isDoor : (sound : Bool) (v : ℕ) (column : List ℕ) (vertex : ℕ) → ℕ
+isDoor sound v column vertex = ask (leb v (length column)) 6 (ask (vertexCountSound v && sound) 7 (ask (ltb vertex v) 13 0))
+
+abbrev pub IsMarked : (sound : Bool) (v : ℕ) (column : List ℕ) (vertex : ℕ) → Truth → Type 0
+IsMarked sound v column vertex r = Answered (said r) (isDoor sound v column vertex) (isSet (getD column vertex 0)) false

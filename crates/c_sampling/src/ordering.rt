@@ -1,0 +1,66 @@
+ghost use Rattle.c_reports.specs.Reports.{Reported, ReportsDone};
+ghost use Rattle.c_answers.specs.Errors.{ReportsTranslated};
+ghost use Rattle.reorder_calls.specs.Columns.{codeColumns, ReorderedVertices};
+ghost use Rattle.reorder_calls.specs.Numbers.{BuiltOldToNew, TranslatedDefects};
+use c_answers::errors::LongCount;
+use c_answers::errors::translated_report;
+use c_reports::done_number;
+
+// Stores the new number of each old vertex.
+#[no_mangle]
+pub extern "C" fn moldingcress_build_old_to_new(order: &[u32], column: &mut [u32]) -> u32
+    ensures { λ q. ⌜ Reported ReportsDone (λ r. BuiltOldToNew (now (order .entry)) (now (column .entry)) r (now (column .exit))) q ⌝ }
+{
+    done_number(reorder_calls::build_old_to_new(order, column))
+}
+
+// Stores the new number of each listed old vertex, in the list's order.
+#[no_mangle]
+pub extern "C" fn moldingcress_translated_defect_to_reordered(
+    order: &[u32],
+    list: &[u32],
+    column: &mut [u32],
+) -> LongCount
+    ensures { λ q. ⌜ Reported ReportsTranslated (λ r. TranslatedDefects (now (order .entry)) (now (list .entry)) (now (column .entry)) r (now (column .exit))) q ⌝ }
+{
+    translated_report(reorder_calls::translated_defect_to_reordered(order, list, column))
+}
+
+// Renumbers the vertices: new vertex k is the old vertex that the order names at place k. What belongs to a vertex moves with it, edge ends are renamed.
+#[no_mangle]
+pub extern "C" fn moldingcress_reorder_vertices(
+    vertex_num: u32,
+    edge_num: u32,
+    order: &[u32],
+    ends_a: &mut [u32],
+    ends_b: &mut [u32],
+    boundary: &mut [u8],
+    defect: &mut [u8],
+    is: &mut [f64],
+    js: &mut [f64],
+    ts: &mut [f64],
+    lengths: &mut [u32],
+    numbers: &mut [u32],
+    scratch: &mut [u32],
+) -> u32
+    ensures { λ q. ⌜ Reported ReportsDone (λ r. ReorderedVertices «vertex_num» «edge_num» (now (order .entry))
+        (codeColumns (now («ends_a» .entry)) (now («ends_b» .entry)) (now (boundary .entry)) (now (defect .entry)) (now (is .entry)) (now (js .entry)) (now (ts .entry)) (now (lengths .entry)) (now (numbers .entry)) (now (scratch .entry)))
+        r
+        (codeColumns (now («ends_a» .exit)) (now («ends_b» .exit)) (now (boundary .exit)) (now (defect .exit)) (now (is .exit)) (now (js .exit)) (now (ts .exit)) (now (lengths .exit)) (now (numbers .exit)) (now (scratch .exit)))) q ⌝ }
+{
+    done_number(reorder_calls::reorder_vertices(
+        vertex_num,
+        edge_num,
+        order,
+        ends_a,
+        ends_b,
+        boundary,
+        defect,
+        is,
+        js,
+        ts,
+        lengths,
+        numbers,
+        scratch,
+    ))
+}

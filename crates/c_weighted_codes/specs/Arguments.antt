@@ -1,9 +1,0 @@
--- An enum argument from numbers: whether there is a diagonal probability, any number but 0 for yes, and its value.
-use Prim.Native.Nat.{ℕ, zero, suc}
-use lib.Ieee.{Float}
-use Rattle.diagonals.specs.declared.DiagonalProbability.{DiagonalProbability}
-use Rattle.diagonals.specs.declared.DiagonalProbability.the-variants.{None, Given}
-
-abbrev pub diagonalFrom : ℕ → Float → DiagonalProbability
-diagonalFrom zero x = None
-diagonalFrom (suc n) x = Given x

@@ -1,0 +1,10 @@
+-- `claim_demand_3::demand_3` meets its contract. Assumes nothing.
+use Rattle.claim_demand_3.proofs.Proved.{demand-3}
+use Rattle.claim_demand_3.proofs.demand_3.Statement.{statement}
+use Rattle.claim_demand_3.proofs.demand_3.Tie as tie
+
+returns : tie.Need-returns
+returns c = demand-3
+
+pub demand-3-spec : {M : Type 1} → statement M
+demand-3-spec = tie.close (tie.spec returns)

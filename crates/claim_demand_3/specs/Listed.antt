@@ -1,0 +1,67 @@
+-- A list of load-erasures, load-weights, reset and crossing calls, as the tally is fed it: arguments, and the lengths of the columns lent.
+use Prim.Native.Nat.{ℕ}
+use mathlib.Core.Bool.{Bool, _&&_}
+use mathlib.Core.List.{List, [], _∷_}
+use lib.ListN.{getD}
+use lib.Dec.{leb}
+use Rattle.columns.specs.Questions.{ask}
+use Rattle.engine_columns.specs.declared.EngineCounts.{EngineCounts}
+use Rattle.engine_tally.specs.Tally.{Lengths, Tally, Fed, tallyLong, tallyDoor, tallyStep, tallyAfter}
+use Rattle.engine_walks.specs.Graph.{Graph}
+use Rattle.engine_walks.specs.Answers.{crossing}
+use Rattle.query_questions.specs.Queries.{scratchLong}
+use Rattle.query_crossing_answer.specs.Crossing.{isJoined}
+
+-- the lengths of the columns that only a crossing is lent: the weight column and scratch
+pub record OwnLengths : Type 0 where
+  pub weights : ℕ
+  pub numbers : ℕ
+  pub listEnds : ℕ
+  pub status : ℕ
+  pub weight : ℕ
+  pub previous : ℕ
+  pub node : ℕ
+  pub leaf : ℕ
+
+-- one call: a load or a reset, or a crossing
+pub data ListedCall : Type 0 where
+  modifies : Fed → ListedCall
+  crosses : Lengths → OwnLengths → ListedCall
+
+-- the graph that the tally holds, and the weight of each edge
+abbrev pub graphIn : Tally → Graph
+graphIn t = record { vertices = t .counts .vertices; endsA = t .endsA; endsB = t .endsB; boundary = t .boundary }
+
+abbrev pub weightsIn : Tally → ℕ → ℕ
+weightsIn t k = getD (t .weights) k 0
+
+-- 6 of a crossing, from the lengths
+abbrev pub crossingLong : Lengths → OwnLengths → EngineCounts → Bool
+crossingLong k o c =
+    tallyLong 0 k c
+    && (leb (c .vertices) (o .weights)
+    && scratchLong (c .vertices) (c .edges) (o .numbers) (o .listEnds) (o .status) (o .weight) (o .previous) (o .node) (o .leaf))
+
+-- the question of a crossing before 18: 7 is always met
+abbrev pub before18 : Lengths → OwnLengths → Tally → ℕ
+before18 k o t = ask (crossingLong k o (t .counts)) 6 0
+
+-- 6, then 18
+abbrev pub crossingNumber : Lengths → OwnLengths → Tally → ℕ
+crossingNumber k o t = ask (crossingLong k o (t .counts)) 6 (ask (isJoined (crossing (graphIn t) (weightsIn t))) 18 0)
+
+-- the loads and resets of a list
+abbrev pub modifying : List ListedCall → List Fed
+modifying [] = []
+modifying (modifies f ∷ cs) = f ∷ modifying cs
+modifying (crosses k o ∷ cs) = modifying cs
+
+-- the tally at a list's end: crossings leave it
+abbrev pub tallyAtEnd : List ListedCall → Tally → Tally
+tallyAtEnd cs t = tallyAfter (modifying cs) t
+
+-- the tally's answer to each call of a list: its number, 0 where it is accepted
+abbrev pub numbers : List ListedCall → Tally → List ℕ
+numbers [] t = []
+numbers (modifies f ∷ cs) t = tallyDoor (f .call) (f .lent) t ∷ numbers cs (tallyStep f t)
+numbers (crosses k o ∷ cs) t = crossingNumber k o t ∷ numbers cs t

@@ -1,0 +1,10 @@
+-- `claim_prebuilt::prebuilt_rows` meets its contract. Assumes nothing.
+use Rattle.claim_prebuilt.proofs.Rows.{prebuilt-rows}
+use Rattle.claim_prebuilt.proofs.prebuilt_rows.Statement.{statement}
+use Rattle.claim_prebuilt.proofs.prebuilt_rows.Tie as tie
+
+returns : tie.Need-returns
+returns c = prebuilt-rows
+
+pub prebuilt-rows-spec : {M : Type 1} → statement M
+prebuilt-rows-spec = tie.close (tie.spec returns)

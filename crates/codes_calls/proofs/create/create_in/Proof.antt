@@ -1,0 +1,135 @@
+-- `codes_calls::create::create_in` meets its contract. Assumes nothing.
+use mathlib.Core.Path.{_≡_, refl, sym, _∙_}
+use native.Mathlib.Omega.{arith}
+use Rattle.codes_layers.proofs.Accepted.{edges-few}
+use Rattle.codes_calls.specs.Columns.{CodeColumns}
+use Rattle.codes_calls.specs.CreateCode.{refusalIn}
+use Rattle.codes_calls.proofs.Outcome.{told, Open, opened, edges-long, vertices-long, lists-fit, refused, built}
+use Rattle.codes_calls.proofs.create.create_in.Statement.{statement}
+use Rattle.codes_calls.proofs.create.create_in.Tie as tie
+
+-- the columns as they were lent
+abbrev lent : tie.Start → CodeColumns
+lent s = record {
+  endsA = s .args .ends-a .now;
+  endsB = s .args .ends-b .now;
+  p = s .args .p .now;
+  pe = s .args .pe .now;
+  halfWeight = s .args .half-weight .now;
+  erasure = s .args .erasure .now;
+  posI = s .args .pos-i .now;
+  posJ = s .args .pos-j .now;
+  posT = s .args .pos-t .now;
+  boundary = s .args .boundary .now;
+  defect = s .args .defect .now;
+  listLengths = s .args .list-lengths .now;
+  neighborNumbers = s .args .neighbor-numbers .now;
+}
+
+-- the question's number, by the columns' lengths
+q-is : (c : tie.After-refusal-of) → c .refusal-of .result ≡ refusalIn (c .before .before .before .before .before .before .before .before .before .before .before .before .before .before .before .before .before .args .kind) (c .before .before .before .before .before .before .before .before .before .before .before .before .before .before .before .before .before .args .d) (c .before .before .before .before .before .before .before .before .before .before .before .before .before .before .before .before .before .args .rounds) (lent (c .before .before .before .before .before .before .before .before .before .before .before .before .before .before .before .before .before))
+q-is c = told _ _ _ _ _ _ _ _ _ _ (c .refusal-of .ensures) (c .before .shortest-of2 .ensures) (c .before .before .shortest-of .ensures) refl
+
+open′ : (c : tie.Else1) → Open (c .before .before .before .before .before .before .before .before .before .before .before .before .before .before .before .before .before .before .args .kind) (c .before .before .before .before .before .before .before .before .before .before .before .before .before .before .before .before .before .before .args .d) (c .before .before .before .before .before .before .before .before .before .before .before .before .before .before .before .before .before .before .args .rounds) (lent (c .before .before .before .before .before .before .before .before .before .before .before .before .before .before .before .before .before .before))
+open′ c = opened _ _ _ _ (sym (q-is (c .before)) ∙ c .if1 .left)
+
+shortest-of-requires : tie.Need-shortest-of-requires
+shortest-of-requires c κs = tt
+
+shortest-of-requires-2 : tie.Need-shortest-of-requires-2
+shortest-of-requires-2 c κs = tt
+
+refusal-of-requires : tie.Need-refusal-of-requires
+refusal-of-requires c κs = tt
+
+returns : tie.Need-returns
+returns c = refused _ _ _ _ _ (lent (c .before .before .before .before .before .before .before .before .before .before .before .before .before .before .before .before .before .before)) (q-is (c .before)) (c .if1 .taken)
+
+fill-edges-requires : tie.Need-fill-edges-requires
+fill-edges-requires c κs = (open′ (c .before .before .before .before .before .before) .code, edges-long _ _ _ (lent (c .before .before .before .before .before .before .before .before .before .before .before .before .before .before .before .before .before .before .before .before .before .before .before .before)) (open′ (c .before .before .before .before .before .before)))
+
+fill-vertices-requires : tie.Need-fill-vertices-requires
+fill-vertices-requires c κs = (open′ (c .before .before .before .before .before .before .before .before .before .before .before .before .before .before .before .before .before .before .before .before .before .before .before .before) .code, vertices-long _ _ _ (lent (c .before .before .before .before .before .before .before .before .before .before .before .before .before .before .before .before .before .before .before .before .before .before .before .before .before .before .before .before .before .before .before .before .before .before .before .before .before .before .before .before .before .before)) (open′ (c .before .before .before .before .before .before .before .before .before .before .before .before .before .before .before .before .before .before .before .before .before .before .before .before)))
+
+fill-lists-requires : tie.Need-fill-lists-requires
+fill-lists-requires c κs = lists-fit _ _ _ (lent (c .before .before .before .before .before .before .before .before .before .before .before .before .before .before .before .before .before .before .before .before .before .before .before .before .before .before .before .before .before .before .before .before .before .before .before .before .before .before .before .before .before .before .before .before .before .before .before .before .before .before .before .before .before .before .before .before .before .before)) (open′ (c .before .before .before .before .before .before .before .before .before .before .before .before .before .before .before .before .before .before .before .before .before .before .before .before .before .before .before .before .before .before .before .before .before .before .before .before .before .before .before .before)) _ _ (c .before .before .before .before .before .before .before .before .before .before .before .before .before .before .before .before .before .before .before .before .before .before .before .before .before .before .before .before .before .before .before .before .before .before .before .before .before .before .before .before .before .before .before .before .before .before .before .before .before .before .before .before .before .before .before .before .before .before .args .list-ends .now) _ _ (c .before .before .before .before .before .before .before .before .before .before .before .before .before .before .before .before .before .before .before .before .before .before .before .before .before .before .before .before .before .before .before .before .before .fill-edges .ensures .in-a) (c .before .before .before .before .before .before .before .before .before .before .before .before .before .before .before .before .before .before .before .before .before .before .before .before .before .before .before .before .before .before .before .before .before .fill-edges .ensures .in-b) (c .before .before .before .before .before .before .before .before .before .before .before .before .before .before .before .before .before .before .before .before .before .before .before .before .before .before .before .before .before .before .before .before .before .fill-edges .ensures .count) (c .before .before .before .before .before .before .before .before .before .before .before .before .before .before .before .fill-vertices .ensures .count) (c .before .before .before .before .before .before .before .before .before .before .before .before .before .before .before .before .before .before .before .before .before .before .before .before .before .before .before .before .before .before .before .before .before .before .before .before .before .before .before .before .before .before .before .before .before .before .before .before .before .before .before .before .before .before .before .before .before .before .pre)
+
+cast-t63 : tie.Need-cast-t63
+cast-t63 c = omega (arith, c .before .before .before .before .before .before .before .before .before .before .before .before .before .before .before .before .before .before .before .before .before .before .fill-vertices .ensures .count, open′ (c .before .before .before .before .before .before .before .before .before .before .before .before .before .before .before .before .before .before .before .before .before .before .before .before .before .before .before .before .before .before .before .before .before .before .before .before .before .before .before .before .before .before .before .before .before .before .before) .ok .few-vertices)
+
+cast-t64 : tie.Need-cast-t64
+cast-t64 c = omega (arith, c .before .before .before .before .before .before .before .before .before .before .before .before .before .before .before .before .before .before .before .before .before .before .before .before .before .before .before .before .before .before .before .before .before .before .before .before .before .before .before .before .fill-edges .ensures .count, edges-few (c .before .before .before .before .before .before .before .before .before .before .before .before .before .before .before .before .before .before .before .before .before .before .before .before .before .before .before .before .before .before .before .before .before .before .before .before .before .before .before .before .before .before .before .before .before .before .before .before .before .before .before .before .before .before .before .before .before .before .before .before .before .before .before .before .before .args .kind) (c .before .before .before .before .before .before .before .before .before .before .before .before .before .before .before .before .before .before .before .before .before .before .before .before .before .before .before .before .before .before .before .before .before .before .before .before .before .before .before .before .before .before .before .before .before .before .before .before .before .before .before .before .before .before .before .before .before .before .before .before .before .before .before .before .before .args .d) (c .before .before .before .before .before .before .before .before .before .before .before .before .before .before .before .before .before .before .before .before .before .before .before .before .before .before .before .before .before .before .before .before .before .before .before .before .before .before .before .before .before .before .before .before .before .before .before .before .before .before .before .before .before .before .before .before .before .before .before .before .before .before .before .before .before .args .rounds) (open′ (c .before .before .before .before .before .before .before .before .before .before .before .before .before .before .before .before .before .before .before .before .before .before .before .before .before .before .before .before .before .before .before .before .before .before .before .before .before .before .before .before .before .before .before .before .before .before .before) .ok))
+
+same-length : tie.Need-same-length
+same-length c = c .before .before .before .before .before .before .before .before .before .before .before .before .before .before .before .before .before .before .before .before .before .before .before .before .before .before .before .before .before .before .before .before .before .before .before .before .before .before .before .ends-a .given
+
+same-length-2 : tie.Need-same-length-2
+same-length-2 c = c .before .before .before .before .before .before .before .before .before .before .before .before .before .before .before .before .before .before .before .before .before .before .before .before .before .before .before .before .before .before .before .before .before .before .before .before .before .ends-b .given
+
+same-length-3 : tie.Need-same-length-3
+same-length-3 c = c .before .before .before .before .before .before .before .before .before .before .before .before .before .before .before .before .before .before .before .before .before .before .before .before .before .before .before .before .before .before .before .before .before .before .before .p .given
+
+same-length-4 : tie.Need-same-length-4
+same-length-4 c = c .before .before .before .before .before .before .before .before .before .before .before .before .before .before .before .before .before .before .before .before .before .before .before .before .before .before .before .before .before .before .before .before .before .pe .given
+
+same-length-5 : tie.Need-same-length-5
+same-length-5 c = c .before .before .before .before .before .before .before .before .before .before .before .before .before .before .before .before .before .before .before .before .before .before .before .before .before .before .before .before .before .before .before .half-weight .given
+
+same-length-6 : tie.Need-same-length-6
+same-length-6 c = c .before .before .before .before .before .before .before .before .before .before .before .before .before .before .before .before .before .before .before .before .before .before .before .before .before .before .before .before .before .erasure .given
+
+same-length-7 : tie.Need-same-length-7
+same-length-7 c = c .before .before .before .before .before .before .before .before .before .before .before .before .before .before .before .before .before .before .before .before .before .pos-i .given
+
+same-length-8 : tie.Need-same-length-8
+same-length-8 c = c .before .before .before .before .before .before .before .before .before .before .before .before .before .before .before .before .before .before .before .pos-j .given
+
+same-length-9 : tie.Need-same-length-9
+same-length-9 c = c .before .before .before .before .before .before .before .before .before .before .before .before .before .before .before .before .before .pos-t .given
+
+same-length-10 : tie.Need-same-length-10
+same-length-10 c = c .before .before .before .before .before .before .before .before .before .before .before .before .before .before .before .boundary .given
+
+same-length-11 : tie.Need-same-length-11
+same-length-11 c = c .before .before .before .before .before .before .before .before .before .before .before .before .before .defect .given
+
+same-length-12 : tie.Need-same-length-12
+same-length-12 c = c .before .before .before .before .before .list-lengths .given
+
+same-length-13 : tie.Need-same-length-13
+same-length-13 c = c .before .before .before .neighbor-numbers .given
+
+same-length-14 : tie.Need-same-length-14
+same-length-14 c = c .before .list-ends .given
+
+returns-2 : tie.Need-returns-2
+returns-2 c = built _ _ _ _ (lent (c .before .before .before .before .before .before .before .before .before .before .before .before .before .before .before .before .before .before .before .before .before .before .before .before .before .before .before .before .before .before .before .before .before .before .before .before .before .before .before .before .before .before .before .before .before .before .before .before .before .before .before .before .before .before .before .before .before .before .before .before .before .before .before .before .before)) _ (sym (q-is (c .before .before .before .before .before .before .before .before .before .before .before .before .before .before .before .before .before .before .before .before .before .before .before .before .before .before .before .before .before .before .before .before .before .before .before .before .before .before .before .before .before .before .before .before .before .before .before .before)) ∙ c .before .before .before .before .before .before .before .before .before .before .before .before .before .before .before .before .before .before .before .before .before .before .before .before .before .before .before .before .before .before .before .before .before .before .before .before .before .before .before .before .before .before .before .before .before .before .before .if1 .left) (open′ (c .before .before .before .before .before .before .before .before .before .before .before .before .before .before .before .before .before .before .before .before .before .before .before .before .before .before .before .before .before .before .before .before .before .before .before .before .before .before .before .before .before .before .before .before .before .before .before)) _ _ _ (c .before .before .before .before .before .before .before .before .before .before .before .before .before .before .before .before .before .before .before .before .before .before .before .before .before .before .before .before .before .before .before .before .before .before .before .before .before .before .before .before .fill-edges .ensures) (c .before .before .before .before .before .before .before .before .before .before .before .before .before .before .before .before .before .before .before .before .before .before .fill-vertices .ensures) (c .before .before .before .before .before .before .fill-lists .ensures)
+
+pub create-in-spec : {M : Type 1} → statement M
+create-in-spec =
+    tie.close
+    (tie.spec
+    shortest-of-requires
+    shortest-of-requires-2
+    refusal-of-requires
+    returns
+    fill-edges-requires
+    fill-vertices-requires
+    fill-lists-requires
+    cast-t63
+    cast-t64
+    same-length
+    same-length-2
+    same-length-3
+    same-length-4
+    same-length-5
+    same-length-6
+    same-length-7
+    same-length-8
+    same-length-9
+    same-length-10
+    same-length-11
+    same-length-12
+    same-length-13
+    same-length-14
+    returns-2)

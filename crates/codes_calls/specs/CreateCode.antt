@@ -1,0 +1,68 @@
+-- `create_code`: questions 2 to 6, the answer, and each column afterwards.
+use Prim.Native.Nat.{ℕ}
+use mathlib.Core.Path.{_≡_}
+use mathlib.Core.List.{List}
+use lib.ListN.{length, replicate}
+use Rattle.columns.specs.Lists.{after}
+use Rattle.columns.specs.Places.{zeroFloat}
+use Rattle.columns.specs.Questions.{ask}
+use Rattle.columns_answers.specs.Said.{Said, accepts, refuses, Answered}
+use Rattle.columns_neighbors.specs.Lists.{degrees, lists}
+use Rattle.codes_writers.specs.Edges.{firsts, seconds, boundaries, positionsI, positionsJ, positionsT}
+use Rattle.codes_layers.specs.Codes.{edgesOf, verticesOf}
+use Rattle.codes_layers.specs.Counts.{vertexNum, edgeNum}
+use Rattle.codes_layers.specs.Accepts.{codeRefusal}
+use Rattle.codes_calls.specs.declared.Created.{Created}
+use Rattle.codes_calls.specs.declared.Created.the-variants.{Code, Refused}
+use Rattle.codes_calls.specs.Columns.{CodeColumns, edgeRoom, vertexRoom, longEnough}
+
+-- document 01's number for each case, and the values: 0 where the call was refused
+abbrev pub said : Created → Said (ℕ × ℕ)
+said (Code vertices edges) = accepts (vertices, edges)
+said (Refused number) = refuses number (0, 0)
+
+-- questions 2 to 6 in order: the number of the first that is answered no, 0 if there is none
+unfoldable pub refusal : (kind d rounds vertexRoom edgeRoom numbers : ℕ) → ℕ
+refusal kind d rounds vertexRoom edgeRoom numbers =
+    codeRefusal kind d rounds (ask (longEnough (vertexNum kind d rounds) (edgeNum kind d rounds) vertexRoom edgeRoom numbers) 6 0)
+
+abbrev pub refusalIn : (kind d rounds : ℕ) → CodeColumns → ℕ
+refusalIn kind d rounds c = refusal kind d rounds (vertexRoom c) (edgeRoom c) (length (c .neighborNumbers))
+
+-- the columns of a new code: p, pe, half weight and erasure 0, no defect, neighbour lists in vertex order
+abbrev pub newColumns : (kind d rounds : ℕ) → CodeColumns
+newColumns kind d rounds = record {
+  endsA = firsts (edgesOf kind d rounds);
+  endsB = seconds (edgesOf kind d rounds);
+  p = replicate (edgeNum kind d rounds) zeroFloat;
+  pe = replicate (edgeNum kind d rounds) zeroFloat;
+  halfWeight = replicate (edgeNum kind d rounds) 0;
+  erasure = replicate (edgeNum kind d rounds) 0;
+  posI = positionsI (verticesOf kind d rounds);
+  posJ = positionsJ (verticesOf kind d rounds);
+  posT = positionsT (verticesOf kind d rounds);
+  boundary = boundaries (verticesOf kind d rounds);
+  defect = replicate (vertexNum kind d rounds) 0;
+  listLengths = degrees (firsts (edgesOf kind d rounds)) (seconds (edgesOf kind d rounds)) (edgeNum kind d rounds) (vertexNum kind d rounds);
+  neighborNumbers = lists (firsts (edgesOf kind d rounds)) (seconds (edgesOf kind d rounds)) (edgeNum kind d rounds) (vertexNum kind d rounds);
+}
+
+-- the answer, and the columns as they were lent and as they are handed back; q is the question's number
+pub record CodeCreated (kind d rounds q : ℕ) (lent back : CodeColumns) (r : Created) : Type 0 where
+  pub answer : Answered (said r) q (vertexNum kind d rounds, edgeNum kind d rounds) (0, 0)
+  pub ends-a : back .endsA ≡ after q (newColumns kind d rounds .endsA) (lent .endsA)
+  pub ends-b : back .endsB ≡ after q (newColumns kind d rounds .endsB) (lent .endsB)
+  pub p : back .p ≡ after q (newColumns kind d rounds .p) (lent .p)
+  pub pe : back .pe ≡ after q (newColumns kind d rounds .pe) (lent .pe)
+  pub half-weight : back .halfWeight ≡ after q (newColumns kind d rounds .halfWeight) (lent .halfWeight)
+  pub erasure : back .erasure ≡ after q (newColumns kind d rounds .erasure) (lent .erasure)
+  pub pos-i : back .posI ≡ after q (newColumns kind d rounds .posI) (lent .posI)
+  pub pos-j : back .posJ ≡ after q (newColumns kind d rounds .posJ) (lent .posJ)
+  pub pos-t : back .posT ≡ after q (newColumns kind d rounds .posT) (lent .posT)
+  pub boundary : back .boundary ≡ after q (newColumns kind d rounds .boundary) (lent .boundary)
+  pub defect : back .defect ≡ after q (newColumns kind d rounds .defect) (lent .defect)
+  pub list-lengths : back .listLengths ≡ after q (newColumns kind d rounds .listLengths) (lent .listLengths)
+  pub neighbor-numbers : back .neighborNumbers ≡ after q (newColumns kind d rounds .neighborNumbers) (lent .neighborNumbers)
+
+abbrev pub CreateCode : (kind d rounds : ℕ) (lent back : CodeColumns) (r : Created) → Type 0
+CreateCode kind d rounds lent back r = CodeCreated kind d rounds (refusalIn kind d rounds lent) lent back r

@@ -1,0 +1,109 @@
+-- `codes_edges::gap_edges` meets its contract. Assumes nothing.
+use mathlib.Core.Path.{sym}
+use Prim.Native.Nat.{_+_}
+use native.Mathlib.Nat.{mul-comm}
+use native.Mathlib.Omega.{arith}
+use Rattle.codes_writers.proofs.Wrote.{room-as, wrote-as, wrote-none}
+use Rattle.codes_planar.specs.Planar.{planarGap}
+use Rattle.codes_rotated.specs.Rotated.{rotatedWidth, rotatedGap}
+use Rattle.codes_layers.proofs.ByKind.{planar-rows, rotated-rows, planar-gaps, circuit-gaps, rotated-gaps, no-gaps}
+use borrow.Author.Needs.{needs}
+use Rattle.codes_edges.proofs.gap_edges.Statement.{statement}
+use Rattle.codes_edges.proofs.gap_edges.Tie as tie
+
+sub-straight-rows : tie.Need-sub-straight-rows
+sub-straight-rows c = search needs
+
+add-straight-rows : tie.Need-add-straight-rows
+add-straight-rows c = search needs
+
+add-straight-rows-2 : tie.Need-add-straight-rows-2
+add-straight-rows-2 c = search needs
+
+mul-straight-rows : tie.Need-mul-straight-rows
+mul-straight-rows c = omega (arith, planar-rows (c .before .before .before .before .before .args .kind) (c .before .before .before .before .before .args .d) (λ q. omega arith) (omega arith))
+
+straight-rows-requires : tie.Need-straight-rows-requires
+unfolding planarGap
+straight-rows-requires c κs = (room-as (planar-gaps (c .before .before .before .before .before .args .kind) (c .before .before .before .before .before .args .d) (c .before .before .before .before .before .args .base) (c .before .before .if1 .taken)) (c .before .before .before .before .before .pre .0), omega (arith, planar-rows (c .before .before .before .before .before .args .kind) (c .before .before .before .before .before .args .d) (λ q. omega arith) (omega arith)))
+
+same-length : tie.Need-same-length
+same-length c = c .before .before .before .ends-a .given
+
+same-length-2 : tie.Need-same-length-2
+same-length-2 c = c .before .ends-b .given
+
+returns : tie.Need-returns
+unfolding planarGap
+returns c = wrote-as (sym (planar-gaps (c .before .before .before .before .before .before .before .before .before .before .args .kind) (c .before .before .before .before .before .before .before .before .before .before .args .d) (c .before .before .before .before .before .before .before .before .before .before .args .base) (c .before .before .before .before .before .before .before .if1 .taken))) (c .before .before .before .before .straight-rows .ensures)
+
+circuit-gap-requires : tie.Need-circuit-gap-requires
+circuit-gap-requires c κs = (room-as (circuit-gaps (c .before .before .before .before .before .before .args .kind) (c .before .before .before .before .before .before .args .d) (c .before .before .before .before .before .before .args .base) (c .before .before .if2 .taken)) (c .before .before .before .before .before .before .pre .0), omega (arith, planar-rows (c .before .before .before .before .before .before .args .kind) (c .before .before .before .before .before .before .args .d) (λ q. omega arith) (omega arith)))
+
+same-length-3 : tie.Need-same-length-3
+same-length-3 c = c .before .before .before .ends-a2 .given
+
+same-length-4 : tie.Need-same-length-4
+same-length-4 c = c .before .ends-b2 .given
+
+returns-2 : tie.Need-returns-2
+returns-2 c = wrote-as (sym (circuit-gaps (c .before .before .before .before .before .before .before .before .before .before .before .args .kind) (c .before .before .before .before .before .before .before .before .before .before .before .args .d) (c .before .before .before .before .before .before .before .before .before .before .before .args .base) (c .before .before .before .before .before .before .before .if2 .taken))) (c .before .before .before .before .circuit-gap .ensures)
+
+sub-w : tie.Need-sub-w
+sub-w c = search needs
+
+add-w : tie.Need-add-w
+add-w c = search needs
+
+add-straight-rows-3 : tie.Need-add-straight-rows-3
+add-straight-rows-3 c = search needs
+
+add-straight-rows-4 : tie.Need-add-straight-rows-4
+add-straight-rows-4 c = search needs
+
+mul-straight-rows-2 : tie.Need-mul-straight-rows-2
+mul-straight-rows-2 c = omega (arith, rotated-rows (c .before .before .before .before .before .before .before .args .kind) (c .before .before .before .before .before .before .before .args .d) (omega arith), mul-comm (rotatedWidth (c .before .before .before .before .before .before .before .args .d)) (c .before .before .before .before .before .before .before .args .d + 1))
+
+straight-rows-requires-2 : tie.Need-straight-rows-requires-2
+unfolding rotatedGap
+straight-rows-requires-2 c κs = (room-as (rotated-gaps (c .before .before .before .before .before .before .before .args .kind) (c .before .before .before .before .before .before .before .args .d) (c .before .before .before .before .before .before .before .args .base) (c .before .before .if3 .taken)) (c .before .before .before .before .before .before .before .pre .0), omega (arith, rotated-rows (c .before .before .before .before .before .before .before .args .kind) (c .before .before .before .before .before .before .before .args .d) (omega arith), mul-comm (rotatedWidth (c .before .before .before .before .before .before .before .args .d)) (c .before .before .before .before .before .before .before .args .d + 1)))
+
+same-length-5 : tie.Need-same-length-5
+same-length-5 c = c .before .before .before .ends-a3 .given
+
+same-length-6 : tie.Need-same-length-6
+same-length-6 c = c .before .ends-b3 .given
+
+returns-3 : tie.Need-returns-3
+unfolding rotatedGap
+returns-3 c = wrote-as (sym (rotated-gaps (c .before .before .before .before .before .before .before .before .before .before .before .before .args .kind) (c .before .before .before .before .before .before .before .before .before .before .before .before .args .d) (c .before .before .before .before .before .before .before .before .before .before .before .before .args .base) (c .before .before .before .before .before .before .before .if3 .taken))) (c .before .before .before .before .straight-rows2 .ensures)
+
+returns-4 : tie.Need-returns-4
+returns-4 c = wrote-as (sym (no-gaps (c .before .before .before .before .before .args .kind) (c .before .before .before .before .before .args .d) (c .before .before .before .before .before .args .base) (c .before .before .if1 .left) (c .before .if2 .left) (c .if3 .left))) wrote-none
+
+pub gap-edges-spec : {M : Type 1} → statement M
+gap-edges-spec =
+    tie.close
+    (tie.spec
+    sub-straight-rows
+    add-straight-rows
+    add-straight-rows-2
+    mul-straight-rows
+    straight-rows-requires
+    same-length
+    same-length-2
+    returns
+    circuit-gap-requires
+    same-length-3
+    same-length-4
+    returns-2
+    sub-w
+    add-w
+    add-straight-rows-3
+    add-straight-rows-4
+    mul-straight-rows-2
+    straight-rows-requires-2
+    same-length-5
+    same-length-6
+    returns-3
+    returns-4)

@@ -1,0 +1,26 @@
+-- `codes_edges::layer_size` meets its contract. Assumes nothing.
+use mathlib.Core.Path.{_≡_}
+use Prim.Native.Nat.{_*_}
+use native.Mathlib.Omega.{arith}
+use Rattle.codes_layers.specs.Codes.{rows, width}
+use Prim.Native.Nat.{_*_}
+use borrow.Author.Needs.{needs}
+use Rattle.codes_edges.proofs.layer_size.Statement.{statement}
+use Rattle.codes_edges.proofs.layer_size.Tie as tie
+
+rows-of-requires : tie.Need-rows-of-requires
+rows-of-requires c κs = search needs
+
+width-of-requires : tie.Need-width-of-requires
+width-of-requires c κs = search needs
+
+mul-result : tie.Need-mul-result
+mul-result c =
+    let e : c .before .rows-of .result * c .width-of .result ≡ rows (c .before .before .args .kind) (c .before .before .args .d) * width (c .before .before .args .kind) (c .before .before .args .d) = (λ k. c .before .rows-of .ensures k * c .width-of .ensures .0 k) in
+    omega arith
+
+returns : tie.Need-returns
+returns c = (λ k. c .before .rows-of .ensures k * c .width-of .ensures .0 k)
+
+pub layer-size-spec : {M : Type 1} → statement M
+layer-size-spec = tie.close (tie.spec rows-of-requires width-of-requires mul-result returns)

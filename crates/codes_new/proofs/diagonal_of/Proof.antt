@@ -1,0 +1,24 @@
+-- `codes_new::diagonal_of` meets its contract. Assumes nothing.
+use mathlib.Core.Path.{_≡_, refl, sym, ap, _∙_}
+use mathlib.Core.Bool.{Bool, cond}
+use borrow.Author.Tests.{eq-eqb, ne-eqb}
+use Rattle.weights_diagonal.specs.Diagonal.{newDiagonal}
+use Rattle.weights_diagonal.specs.declared.DiagonalProbability.the-variants.{None}
+use Rattle.codes_new.proofs.diagonal_of.Statement.{statement}
+use Rattle.codes_new.proofs.diagonal_of.Tie as tie
+
+new-diagonal-probability-requires : tie.Need-new-diagonal-probability-requires
+new-diagonal-probability-requires c κs = tt
+
+returns : tie.Need-returns
+returns c =
+    let s = c .before .before .args in
+    c .new-diagonal-probability .ensures ∙ sym (ap (λ (b : Bool). cond b (newDiagonal (s .p)) None) (eq-eqb (s .kind) 4 (c .before .if1 .taken)))
+
+returns-2 : tie.Need-returns-2
+returns-2 c =
+    let s = c .before .args in
+    sym (ap (λ (b : Bool). cond b (newDiagonal (s .p)) None) (ne-eqb (s .kind) 4 (c .if1 .left)))
+
+pub diagonal-of-spec : {M : Type 1} → statement M
+diagonal-of-spec = tie.close (tie.spec new-diagonal-probability-requires returns returns-2)

@@ -1,0 +1,17 @@
+-- `codes_new::edge_count` meets its contract. Assumes nothing.
+use native.Mathlib.Omega.{arith}
+use Rattle.codes_layers.proofs.Accepted.{accepted}
+use borrow.Author.Needs.{needs}
+use Rattle.codes_new.proofs.edge_count.Statement.{statement}
+use Rattle.codes_new.proofs.edge_count.Tie as tie
+
+edge-num-requires : tie.Need-edge-num-requires
+edge-num-requires c κs =
+    let ok = accepted (c .args .kind) (c .args .d) (c .args .rounds) 0 (c .pre) .0 in
+    omega (arith, ok .distance .three, ok .distance .few, ok .few-rounds)
+
+returns : tie.Need-returns
+returns c = search needs
+
+pub edge-count-spec : {M : Type 1} → statement M
+edge-count-spec = tie.close (tie.spec edge-num-requires returns)

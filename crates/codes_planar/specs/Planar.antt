@@ -1,0 +1,58 @@
+-- CodeCapacityRepetitionCode, CodeCapacityPlanarCode, PhenomenologicalPlanarCode: rows of d + 1 places, in the order of the Rust.
+-- Places 0 to d - 2 of a row are inner, place d - 1 is right, place d is left.
+use Prim.Native.Nat.{ℕ, _+_, _-_, _*_}
+use mathlib.Core.Bool.{cond}
+use mathlib.Core.List.{List, [], _∷_, _++_}
+use lib.Dec.{eqb, ltb}
+use lib.Ieee.{Float, binary64, ofBits, add, neg}
+use Rattle.columns.specs.Limits.{inner, left, right}
+use Rattle.columns.specs.Lists.{each, joined}
+use Rattle.columns.specs.Places.{zeroFloat, position}
+use Rattle.codes_writers.specs.declared.CodeVertex.{CodeVertex}
+use Rattle.codes_writers.specs.Edges.{Ends, float, straightEdges, straightRows}
+
+-- vertices of a layer: d rows
+abbrev pub planarSize : ℕ → ℕ
+planarSize d = d * (d + 1)
+
+-- the edges along a row that starts at vertex bias, then the left most edge; kind 1 is one such row
+unfoldable pub rowEdges : (d bias : ℕ) → List Ends
+rowEdges d bias = each (d - 1) (λ i. (bias + i, bias + i + 1)) ++ ((bias, bias + d) ∷ [])
+
+-- a row of a layer that starts at vertex base, and the edges from its inner places to the next row
+unfoldable pub planarRow : (d base row : ℕ) → List Ends
+planarRow d base row =
+    rowEdges d (base + row * (d + 1)) ++ cond (ltb (row + 1) d) (straightEdges (d - 1) (base + row * (d + 1)) (d + 1)) []
+
+-- the layer
+unfoldable pub planarLayer : (d base : ℕ) → List Ends
+planarLayer d base = joined d (λ row. planarRow d base row)
+
+-- kind 3: from each inner place of the layer to the same place of the next layer
+unfoldable pub planarGap : (d base : ℕ) → List Ends
+planarGap d base = straightRows d (d - 1) (d + 1) base (planarSize d)
+
+-- ---- vertices
+
+-- the boundary byte of place j of a row
+unfoldable pub planarBoundary : (d j : ℕ) → ℕ
+planarBoundary d j = cond (eqb j d) left (cond (eqb (j + 1) d) right inner)
+
+-- 1 and 1/2
+abbrev pub one : Float
+one = ofBits binary64 0x3ff0000000000000
+
+abbrev pub half : Float
+half = ofBits binary64 0x3fe0000000000000
+
+-- where place j is across: the left one before the first
+unfoldable pub planarAcross : (d j : ℕ) → Float
+planarAcross d j = cond (eqb j d) (neg one) (float j)
+
+-- kinds 1 and 2: place j of a row
+unfoldable pub flatVertex : (d row j : ℕ) → CodeVertex
+flatVertex d row j = record { boundary = planarBoundary d j; position = position (float row) (planarAcross d j) zeroFloat }
+
+-- kinds 3 and 4: the same in layer t, shifted across by 1/2
+unfoldable pub deepVertex : (d row j t : ℕ) → CodeVertex
+deepVertex d row j t = record { boundary = planarBoundary d j; position = position (float row) (add binary64 (planarAcross d j) half) (float t) }

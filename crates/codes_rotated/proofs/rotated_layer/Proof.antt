@@ -1,0 +1,59 @@
+-- `codes_rotated::rotated_layer` meets its contract. Assumes nothing.
+use borrow.Author.Needs.{needs}
+use Prim.Native.Nat.{_+_, _-_, _≤_}
+use native.Mathlib.Nat.{mul-comm}
+use native.Mathlib.Omega.{arith}
+use Rattle.columns.specs.Lists.{joined}
+use Rattle.codes_writers.specs.Steps.{Wrote}
+use Rattle.codes_writers.proofs.Wrote.{wrote-none, wrote-a, wrote-b, joined-fits, joined-turn, joined-end, row-room}
+use Rattle.codes_rotated.specs.Rotated.{rotatedWidth, rotatedRow, rotatedLayer}
+use Rattle.codes_rotated.proofs.rotated_layer.Statement.{statement}
+use Rattle.codes_rotated.proofs.rotated_layer.Tie as tie
+
+abbrev Inv-loop : tie.InvT-loop
+Inv-loop ends-a₀ ends-b₀ at d base next₀ row₀ ends-a ends-b next row = (row ≤ d) × Wrote ends-a₀ ends-b₀ at (joined row (λ k. rotatedRow d base k)) ends-a ends-b next
+
+abbrev μ-loop : tie.MeasureT-loop
+μ-loop ends-a₀ ends-b₀ at d base next₀ row₀ ends-a ends-b next row = d - row
+
+loop-holds : tie.Need-loop-holds Inv-loop μ-loop
+unfolding joined
+loop-holds c = (omega arith, wrote-none)
+
+rotated-row-requires : tie.Need-rotated-row-requires Inv-loop μ-loop
+unfolding rotatedLayer
+rotated-row-requires c κs = (joined-fits (λ k. rotatedRow (c .before .before .before .before .before .before .args .d) (c .before .before .before .before .before .before .args .base) k) (c .before .before .before .before .before .before .args .d) (c .before .before .before .before .before .before .pre .0) (c .before .before .before .loop .inv .1) (c .before .before .loop-test .taken), omega (arith, c .before .before .before .before .before .before .pre .1, row-room (c .before .before .before .before .before .before .args .d) (rotatedWidth (c .before .before .before .before .before .before .args .d)) (c .before .before .loop-test .taken), mul-comm (rotatedWidth (c .before .before .before .before .before .before .args .d)) (c .before .before .before .before .before .before .args .d + 1)))
+
+add-row : tie.Need-add-row Inv-loop μ-loop
+add-row c = search needs
+
+loop-less : tie.Need-loop-less Inv-loop μ-loop
+loop-less c = search needs
+
+loop-again : tie.Need-loop-again Inv-loop μ-loop
+loop-again c = (omega arith, joined-turn (λ k. rotatedRow (c .before .before .before .before .before .before .before .before .before .before .before .args .d) (c .before .before .before .before .before .before .before .before .before .before .before .args .base) k) (c .before .before .before .before .before .before .before .before .loop .inv .1) (c .before .before .before .before .rotated-row .ensures))
+
+same-length : tie.Need-same-length Inv-loop μ-loop
+same-length c = wrote-a (c .before .loop .inv .1)
+
+same-length-2 : tie.Need-same-length-2 Inv-loop μ-loop
+same-length-2 c = wrote-b (c .before .loop .inv .1)
+
+returns : tie.Need-returns Inv-loop μ-loop
+unfolding rotatedLayer
+returns c = joined-end _ (c .before .loop .inv .1) (c .before .loop .inv .0) (c .loop-test .left)
+
+pub rotated-layer-spec : {M : Type 1} → statement M
+rotated-layer-spec =
+    tie.close
+    (tie.spec
+    Inv-loop
+    μ-loop
+    loop-holds
+    rotated-row-requires
+    add-row
+    loop-less
+    loop-again
+    same-length
+    same-length-2
+    returns)

@@ -1,0 +1,72 @@
+-- `columns_marked::all_zero` meets its contract: while each byte is 0, no number is added. Assumes nothing.
+use borrow.Author.Needs.{needs}
+use mathlib.Core.Path.{_≡_, sym, ap, _∙_}
+use mathlib.Core.Bool.{true}
+use Prim.Native.Nat.{ℕ, _≤_, _-_, _+_}
+use native.Mathlib.Nat.{add-zero}
+use native.Mathlib.Omega.{arith}
+use lib.ListN.{getD}
+use lib.Dec.{eqb}
+use Rattle.columns.proofs.Tests.{and-both}
+use Rattle.columns_marked.specs.Marked.{marked}
+use Rattle.columns_marked.proofs.Marks.{marked-zero}
+use Rattle.columns_marked.proofs.all_zero.Statement.{statement}
+use Rattle.columns_marked.proofs.all_zero.Tie as tie
+
+abbrev Inv-loop : tie.InvT-loop
+Inv-loop bytes at zero₀ i₀ zero i = (i ≤ 8) × (zero ≡ true → marked (at + i) bytes ≡ marked at bytes)
+
+abbrev μ-loop : tie.MeasureT-loop
+μ-loop bytes at zero₀ i₀ zero i = 8 - i
+
+loop-holds : tie.Need-loop-holds Inv-loop μ-loop
+loop-holds c = (search needs, λ e. ap (λ (n : ℕ). marked n (c .before .args .bytes .now)) (add-zero (c .before .args .at)))
+
+add-both : tie.Need-add-both Inv-loop μ-loop
+add-both c = search needs
+
+shared-slice-read-both : tie.Need-shared-slice-read-both Inv-loop μ-loop
+shared-slice-read-both c = search needs
+
+both-requires : tie.Need-both-requires Inv-loop μ-loop
+both-requires c κs = search needs
+
+add-i : tie.Need-add-i Inv-loop μ-loop
+add-i c = search needs
+
+loop-less : tie.Need-loop-less Inv-loop μ-loop
+loop-less c = search needs
+
+loop-again : tie.Need-loop-again Inv-loop μ-loop
+loop-again c =
+    let s = c .before .before .before .before .before .args in
+    let at = c .before .before .before .loop in
+    let here : ℕ = s .at + at .i in
+    let next : s .at + (at .i + 1) ≡ here + 1 = omega arith in (
+      omega arith,
+      λ e.
+          let h = and-both (at .zero) (eqb (getD (s .bytes .now) here 0) 0) (sym (c .both .ensures) ∙ e) in
+          ap (λ (n : ℕ). marked n (s .bytes .now)) next ∙ marked-zero (s .bytes .now) here (h .1) ∙ at .inv .1 (h .0),
+    )
+
+returns : tie.Need-returns Inv-loop μ-loop
+returns c =
+    let s = c .before .before .before .args in
+    let at = c .before .loop in
+    let last : s .at + 8 ≡ s .at + at .i = omega (arith, at .inv .0) in
+    λ e. ap (λ (n : ℕ). marked n (s .bytes .now)) last ∙ at .inv .1 e
+
+pub all-zero-spec : {M : Type 1} → statement M
+all-zero-spec =
+    tie.close
+    (tie.spec
+    Inv-loop
+    μ-loop
+    loop-holds
+    add-both
+    shared-slice-read-both
+    both-requires
+    add-i
+    loop-less
+    loop-again
+    returns)

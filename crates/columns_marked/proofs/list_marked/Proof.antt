@@ -1,0 +1,82 @@
+-- `columns_marked::list_marked` meets its contract: before each block of 8 the numbers below it are listed. Assumes nothing.
+use borrow.Author.Needs.{needs}
+use mathlib.Core.Path.{_≡_, sym, ap, _∙_}
+use Prim.Native.Nat.{_≤_, _-_}
+use native.Mathlib.Omega.{arith}
+use lib.ListN.{length}
+use lib.Seq.{sets, length-sets}
+use Rattle.columns.proofs.Columns.{sets-over}
+use Rattle.columns_marked.specs.Marked.{marked}
+use Rattle.columns_marked.proofs.Marks.{marked-none, length-marked}
+use Rattle.columns_marked.proofs.list_marked.Statement.{statement}
+use Rattle.columns_marked.proofs.list_marked.Tie as tie
+
+abbrev Inv-loop : tie.InvT-loop
+Inv-loop bytes n list₀ count₀ i₀ list count i = (i ≤ n) × (count ≡ length (marked i bytes)) × (list ≡ sets list₀ 0 (marked i bytes))
+
+abbrev μ-loop : tie.MeasureT-loop
+μ-loop bytes n list₀ count₀ i₀ list count i = n - i
+
+loop-holds : tie.Need-loop-holds Inv-loop μ-loop
+loop-holds c =
+    let s = c .before .before .args in
+    (search needs, ap length (sym (marked-none (s .bytes .now))), ap (sets (s .list .now) 0) (sym (marked-none (s .bytes .now))))
+
+sub-loop : tie.Need-sub-loop Inv-loop μ-loop
+sub-loop c = search needs
+
+list-block-requires : tie.Need-list-block-requires Inv-loop μ-loop
+list-block-requires c κs =
+    let s = c .before .before .before .before .before .args in
+    let at = c .before .before .loop in
+    let same : length (at .list) ≡ length (s .list .now) = ap length (at .inv .2) ∙ simp length-sets in
+    (omega arith, omega (arith, same), omega arith, at .inv .1)
+
+add-i : tie.Need-add-i Inv-loop μ-loop
+add-i c = search needs
+
+loop-less : tie.Need-loop-less Inv-loop μ-loop
+loop-less c = search needs
+
+loop-again : tie.Need-loop-again Inv-loop μ-loop
+loop-again c =
+    let s = c .before .before .before .before .before .before .before .before .args in
+    let at = c .before .before .before .before .before .loop in
+    let block = c .before .before .list-block .ensures in
+    (omega arith, block .0, block .1 (s .list .now) (at .inv .2))
+
+list-between-requires : tie.Need-list-between-requires Inv-loop μ-loop
+list-between-requires c κs =
+    let s = c .before .before .before .before .before .args in
+    let at = c .before .before .loop in
+    let same : length (at .list) ≡ length (s .list .now) = ap length (at .inv .2) ∙ simp length-sets in
+    (at .inv .0, search needs, omega (arith, same), search needs, at .inv .1)
+
+same-length : tie.Need-same-length Inv-loop μ-loop
+same-length c =
+    let s = c .before .before .before .before .before .before .before .before .args in
+    let at = c .before .before .before .before .before .loop in
+    ap length (c .before .before .list-between .ensures .1 (s .list .now) (at .inv .2)) ∙ simp length-sets
+
+returns : tie.Need-returns Inv-loop μ-loop
+returns c =
+    let s = c .before .before .before .before .before .before .before .before .args in
+    let at = c .before .before .before .before .before .loop in
+    let rest = c .before .before .list-between .ensures in
+    (rest .0, rest .1 (s .list .now) (at .inv .2) ∙ sets-over (s .list .now) (marked (s .n) (s .bytes .now)) (omega (arith, length-marked (s .bytes .now) (s .n))))
+
+pub list-marked-spec : {M : Type 1} → statement M
+list-marked-spec =
+    tie.close
+    (tie.spec
+    Inv-loop
+    μ-loop
+    loop-holds
+    sub-loop
+    list-block-requires
+    add-i
+    loop-less
+    loop-again
+    list-between-requires
+    same-length
+    returns)

@@ -1,0 +1,25 @@
+-- Bytes that are set, and lists of their numbers.
+use Prim.Native.Nat.{ℕ}
+use mathlib.Core.Bool.{Bool, false, not, _||_, cond}
+use mathlib.Core.List.{List, [], _∷_}
+use lib.ListN.{getD}
+use lib.Dec.{eqb}
+use Rattle.columns.specs.Lists.{each}
+use Rattle.columns_neighbors.specs.Lists.{chosen}
+
+-- a byte that is not 0: a defect, an erasure, and of boundary bytes a virtual vertex
+abbrev pub isSet : ℕ → Bool
+isSet byte = not (eqb byte 0)
+
+-- the numbers below n whose byte is set, ascending
+unfoldable pub listed : ℕ → List ℕ → List ℕ
+listed n column = chosen n (λ k. isSet (getD column k 0))
+
+-- whether a list names the number k
+unfoldable pub names : List ℕ → ℕ → Bool
+names [] k = false
+names (x ∷ list) k = eqb x k || names list k
+
+-- n bytes: 1 at each number that the list names, once or more often, else 0
+unfoldable pub marks : ℕ → List ℕ → List ℕ
+marks n list = each n (λ k. cond (names list k) 1 0)

@@ -1,0 +1,24 @@
+-- `columns_room::long_enough` meets its contract. Assumes nothing.
+use mathlib.Core.Path.{ap, _∙_}
+use mathlib.Core.Bool.{Bool, _&&_}
+use lib.Dec.{leb}
+use Rattle.columns_room.specs.Room.{longEnough}
+use borrow.Author.Needs.{needs}
+use Rattle.columns_room.proofs.long_enough.Statement.{statement}
+use Rattle.columns_room.proofs.long_enough.Tie as tie
+
+mul-both : tie.Need-mul-both
+mul-both c = search needs
+
+both-requires : tie.Need-both-requires
+both-requires c κs = tt
+
+both-requires-2 : tie.Need-both-requires-2
+both-requires-2 c κs = tt
+
+returns : tie.Need-returns
+unfolding longEnough
+returns c = c .both2 .ensures ∙ ap (λ (b : Bool). leb (c .before .before .args .vertices) (c .before .before .args .vertex-room) && b) (c .before .both .ensures)
+
+pub long-enough-spec : {M : Type 1} → statement M
+long-enough-spec = tie.close (tie.spec mul-both both-requires both-requires-2 returns)

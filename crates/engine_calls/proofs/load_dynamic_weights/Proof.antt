@@ -1,0 +1,73 @@
+-- `engine_calls::load_dynamic_weights` meets its contract. Assumes nothing.
+use Prim.Native.Nat.{ℕ, _+_, _≤_, _<_}
+use mathlib.Core.Path.{_≡_, refl, sym, _∙_}
+use native.Mathlib.Omega.{arith}
+use lib.ListN.{length, getD}
+use Rattle.columns.specs.Questions.{ask, allWithin}
+use Rattle.engine_columns.specs.Records.{engine}
+use Rattle.engine_columns.specs.Step.{loadWeights, door}
+use Rattle.engine_columns.proofs.Doors.{accepted, refused, columns, Loads, loads-of, named-of, Weighed, weighed-of}
+use borrow.Author.Needs.{needs}
+use Rattle.engine_calls.proofs.load_dynamic_weights.Statement.{statement}
+use Rattle.engine_calls.proofs.load_dynamic_weights.Tie as tie
+
+weights-door-requires : tie.Need-weights-door-requires
+weights-door-requires c κs = tt
+
+weigh-all-requires : tie.Need-weigh-all-requires
+weigh-all-requires c κs =
+    let a = c .before .before .before .before .before .before .before .before .before .before .before .before .before .before .before .before .args in
+    let e = engine (a .c) (a .ends-a .now) (a .ends-b .now) (a .weights .now) (a .boundary .now) (a .log-edges .now) (a .log-weights .now) in
+    let z : door (loadWeights (a .list .now) (a .values .now)) e ≡ 0 = sym (c .before .before .before .before .weights-door .ensures) ∙ c .before .before .before .if1 .taken in
+    let w : Weighed (a .list .now) (a .values .now) e = weighed-of (a .list .now) (a .values .now) e z in
+    let l = w .loads in (
+      λ i h. let n = named-of (a .list .now) e _ l i h in omega (arith, l .long .columns .weights),
+      (omega (arith, l .long .logEdges), omega (arith, l .long .logWeights), w .many),
+    )
+
+same-length : tie.Need-same-length
+same-length c = c .before .before .before .before .before .weights .given
+
+same-length-2 : tie.Need-same-length-2
+same-length-2 c = c .before .before .before .log-edges .given
+
+same-length-3 : tie.Need-same-length-3
+same-length-3 c = c .before .log-weights .given
+
+returns : tie.Need-returns
+returns c =
+    let a = c .before .before .before .before .before .before .before .before .before .before .before .before .before .before .before .before .before .before .before .before .before .before .before .args in
+    let e = engine (a .c) (a .ends-a .now) (a .ends-b .now) (a .weights .now) (a .boundary .now) (a .log-edges .now) (a .log-weights .now) in
+    let z : door (loadWeights (a .list .now) (a .values .now)) e ≡ 0 = sym (c .before .before .before .before .before .before .before .before .before .before .before .weights-door .ensures) ∙ c .before .before .before .before .before .before .before .before .before .before .if1 .taken in
+    let p = c .before .before .before .before .before .before .weigh-all .ensures in
+    accepted (loadWeights (a .list .now) (a .values .now)) e _ _ z refl (columns _ (a .ends-a .now) (a .ends-b .now) _ _ (a .boundary .now) _ _ _ _ (p .0) (p .1 .0) (p .1 .1))
+
+same-length-4 : tie.Need-same-length-4
+same-length-4 c = search needs
+
+same-length-5 : tie.Need-same-length-5
+same-length-5 c = search needs
+
+same-length-6 : tie.Need-same-length-6
+same-length-6 c = search needs
+
+returns-2 : tie.Need-returns-2
+returns-2 c =
+    let a = c .before .before .before .before .before .before .before .before .before .before .before .before .before .args in
+    let e = engine (a .c) (a .ends-a .now) (a .ends-b .now) (a .weights .now) (a .boundary .now) (a .log-edges .now) (a .log-weights .now) in
+    refused (loadWeights (a .list .now) (a .values .now)) e _ _ (c .before .weights-door .result) (c .before .weights-door .ensures) (c .if1 .left) refl refl
+
+pub load-dynamic-weights-spec : {M : Type 1} → statement M
+load-dynamic-weights-spec =
+    tie.close
+    (tie.spec
+    weights-door-requires
+    weigh-all-requires
+    same-length
+    same-length-2
+    same-length-3
+    returns
+    same-length-4
+    same-length-5
+    same-length-6
+    returns-2)

@@ -1,0 +1,72 @@
+-- `engine_calls::load_erasures` meets its contract. Assumes nothing.
+use Prim.Native.Nat.{ℕ, _+_, _≤_, _<_}
+use mathlib.Core.Path.{_≡_, refl, sym, _∙_}
+use native.Mathlib.Omega.{arith}
+use lib.ListN.{length, getD}
+use Rattle.columns.specs.Questions.{ask, allWithin}
+use Rattle.engine_columns.specs.Records.{engine}
+use Rattle.engine_columns.specs.Step.{loadErasures, door}
+use Rattle.engine_columns.proofs.Doors.{accepted, refused, columns, Loads, loads-of, named-of, Weighed, weighed-of}
+use borrow.Author.Needs.{needs}
+use Rattle.engine_calls.proofs.load_erasures.Statement.{statement}
+use Rattle.engine_calls.proofs.load_erasures.Tie as tie
+
+erasures-door-requires : tie.Need-erasures-door-requires
+erasures-door-requires c κs = tt
+
+erase-all-requires : tie.Need-erase-all-requires
+erase-all-requires c κs =
+    let a = c .before .before .before .before .before .before .before .before .before .before .before .before .before .before .before .args in
+    let e = engine (a .c) (a .ends-a .now) (a .ends-b .now) (a .weights .now) (a .boundary .now) (a .log-edges .now) (a .log-weights .now) in
+    let z : door (loadErasures (a .list .now)) e ≡ 0 = sym (c .before .before .before .before .erasures-door .ensures) ∙ c .before .before .before .if1 .taken in
+    let l : Loads (a .list .now) e 0 = loads-of (a .list .now) e 0 z in (
+      λ i h. let n = named-of (a .list .now) e 0 l i h in omega (arith, l .long .columns .weights),
+      (omega (arith, l .long .logEdges), omega (arith, l .long .logWeights)),
+    )
+
+same-length : tie.Need-same-length
+same-length c = c .before .before .before .before .before .weights .given
+
+same-length-2 : tie.Need-same-length-2
+same-length-2 c = c .before .before .before .log-edges .given
+
+same-length-3 : tie.Need-same-length-3
+same-length-3 c = c .before .log-weights .given
+
+returns : tie.Need-returns
+returns c =
+    let a = c .before .before .before .before .before .before .before .before .before .before .before .before .before .before .before .before .before .before .before .before .before .before .args in
+    let e = engine (a .c) (a .ends-a .now) (a .ends-b .now) (a .weights .now) (a .boundary .now) (a .log-edges .now) (a .log-weights .now) in
+    let z : door (loadErasures (a .list .now)) e ≡ 0 = sym (c .before .before .before .before .before .before .before .before .before .before .before .erasures-door .ensures) ∙ c .before .before .before .before .before .before .before .before .before .before .if1 .taken in
+    let p = c .before .before .before .before .before .before .erase-all .ensures in
+    accepted (loadErasures (a .list .now)) e _ _ z refl (columns _ (a .ends-a .now) (a .ends-b .now) _ _ (a .boundary .now) _ _ _ _ (p .0) (p .1 .0) (p .1 .1))
+
+same-length-4 : tie.Need-same-length-4
+same-length-4 c = search needs
+
+same-length-5 : tie.Need-same-length-5
+same-length-5 c = search needs
+
+same-length-6 : tie.Need-same-length-6
+same-length-6 c = search needs
+
+returns-2 : tie.Need-returns-2
+returns-2 c =
+    let a = c .before .before .before .before .before .before .before .before .before .before .before .before .args in
+    let e = engine (a .c) (a .ends-a .now) (a .ends-b .now) (a .weights .now) (a .boundary .now) (a .log-edges .now) (a .log-weights .now) in
+    refused (loadErasures (a .list .now)) e _ _ (c .before .erasures-door .result) (c .before .erasures-door .ensures) (c .if1 .left) refl refl
+
+pub load-erasures-spec : {M : Type 1} → statement M
+load-erasures-spec =
+    tie.close
+    (tie.spec
+    erasures-door-requires
+    erase-all-requires
+    same-length
+    same-length-2
+    same-length-3
+    returns
+    same-length-4
+    same-length-5
+    same-length-6
+    returns-2)

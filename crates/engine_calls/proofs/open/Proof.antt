@@ -1,0 +1,103 @@
+-- `engine_calls::open` meets its contract. Assumes nothing.
+use mathlib.Core.Path.{_≡_, refl, sym, _∙_}
+use lib.ListN.{take}
+use Rattle.columns.proofs.Columns.{copy-after, after-refused}
+use Rattle.columns_answers.proofs.Said.{accepts-of, refuses-of}
+use Rattle.engine_columns.specs.Open.{graphColumns, openDoor}
+use Rattle.engine_columns.proofs.Doors.{opens-of}
+use borrow.Author.Needs.{needs}
+use Rattle.engine_calls.proofs.open.Statement.{statement}
+use Rattle.engine_calls.proofs.open.Tie as tie
+
+open-door-requires : tie.Need-open-door-requires
+open-door-requires c κs = tt
+
+copy-u32-requires : tie.Need-copy-u32-requires
+copy-u32-requires c κs = tt
+
+copy-u32-requires-2 : tie.Need-copy-u32-requires-2
+copy-u32-requires-2 c κs = tt
+
+copy-u32-requires-3 : tie.Need-copy-u32-requires-3
+copy-u32-requires-3 c κs = tt
+
+copy-u8-requires : tie.Need-copy-u8-requires
+copy-u8-requires c κs = tt
+
+same-length : tie.Need-same-length
+same-length c = c .before .before .before .before .before .before .before .before .before .before .before .before .before .ends-a .given
+
+same-length-2 : tie.Need-same-length-2
+same-length-2 c = c .before .before .before .before .before .before .before .before .before .ends-b .given
+
+same-length-3 : tie.Need-same-length-3
+same-length-3 c = c .before .before .before .before .before .weights .given
+
+same-length-4 : tie.Need-same-length-4
+same-length-4 c = c .before .boundary .given
+
+returns : tie.Need-returns
+returns c =
+    let a = c .before .before .before .before .before .before .before .before .before .before .before .before .before .before .before .before .before .before .before .before .before .before .before .before .before .before .before .before .before .before .args in
+    let h = graphColumns (a .in-a .now) (a .in-b .now) (a .in-weights .now) (a .in-boundary .now) in
+    let l = graphColumns (a .ends-a .now) (a .ends-b .now) (a .weights .now) (a .boundary .now) in
+    let v = a .vertices in
+    let e = a .edges in
+    let z : openDoor v e h l ≡ 0 = sym (c .before .before .before .before .before .before .before .before .before .before .before .before .before .before .before .before .before .open-door .ensures) ∙ c .before .before .before .before .before .before .before .before .before .before .before .before .before .before .before .before .if1 .taken in
+    let o = opens-of v e h l z in
+    record {
+      answer = accepts-of z;
+      endsA-left = c .before .before .before .before .before .before .before .before .before .before .before .before .before .before .copy-u32 .ensures ∙ copy-after e (openDoor v e h l) (a .ends-a .now) (a .in-a .now) z (o .from .endsA) (o .to .endsA);
+      endsB-left = c .before .before .before .before .before .before .before .before .before .before .copy-u322 .ensures ∙ copy-after e (openDoor v e h l) (a .ends-b .now) (a .in-b .now) z (o .from .endsB) (o .to .endsB);
+      weights-left = c .before .before .before .before .before .before .copy-u323 .ensures ∙ copy-after e (openDoor v e h l) (a .weights .now) (a .in-weights .now) z (o .from .weights) (o .to .weights);
+      boundary-left = c .before .before .copy-u8 .ensures ∙ copy-after v (openDoor v e h l) (a .boundary .now) (a .in-boundary .now) z (o .from .boundary) (o .to .boundary);
+    }
+
+same-length-5 : tie.Need-same-length-5
+same-length-5 c = search needs
+
+same-length-6 : tie.Need-same-length-6
+same-length-6 c = search needs
+
+same-length-7 : tie.Need-same-length-7
+same-length-7 c = search needs
+
+same-length-8 : tie.Need-same-length-8
+same-length-8 c = search needs
+
+returns-2 : tie.Need-returns-2
+returns-2 c =
+    let a = c .before .before .before .before .before .before .before .before .before .before .before .before .before .before .args in
+    let h = graphColumns (a .in-a .now) (a .in-b .now) (a .in-weights .now) (a .in-boundary .now) in
+    let l = graphColumns (a .ends-a .now) (a .ends-b .now) (a .weights .now) (a .boundary .now) in
+    let v = a .vertices in
+    let e = a .edges in
+    let d = c .before .open-door .ensures in
+    let f : openDoor v e h l ≡ 0 → ⊥ = λ q. c .if1 .left (d ∙ q) in
+    record {
+      answer = refuses-of d (c .if1 .left);
+      endsA-left = sym (after-refused (openDoor v e h l) (take e (a .in-a .now)) (a .ends-a .now) f);
+      endsB-left = sym (after-refused (openDoor v e h l) (take e (a .in-b .now)) (a .ends-b .now) f);
+      weights-left = sym (after-refused (openDoor v e h l) (take e (a .in-weights .now)) (a .weights .now) f);
+      boundary-left = sym (after-refused (openDoor v e h l) (take v (a .in-boundary .now)) (a .boundary .now) f);
+    }
+
+pub open-spec : {M : Type 1} → statement M
+open-spec =
+    tie.close
+    (tie.spec
+    open-door-requires
+    copy-u32-requires
+    copy-u32-requires-2
+    copy-u32-requires-3
+    copy-u8-requires
+    same-length
+    same-length-2
+    same-length-3
+    same-length-4
+    returns
+    same-length-5
+    same-length-6
+    same-length-7
+    same-length-8
+    returns-2)

@@ -1,0 +1,166 @@
+// The changes of an engine graph's weights: open, load erasures, load weights, reset.
+ghost use mathlib.Core.Path.{_≡_};
+ghost use Rattle.engine_columns.specs.Records.{engine, kept, counts};
+ghost use Rattle.engine_columns.specs.Step.{Step, loadErasures, loadWeights, reset};
+ghost use Rattle.engine_columns.specs.Open.{OpenStep, graphColumns};
+use columns::Weight;
+use columns_stores::copy_u8;
+use columns_stores::copy_u32;
+use engine_columns::EngineAnswer;
+use engine_columns::EngineCounts;
+use engine_log::erase_all;
+use engine_log::undo_all;
+use engine_log::weigh_all;
+use engine_questions::erasures_door;
+use engine_questions::open_door;
+use engine_questions::reset_door;
+use engine_questions::weights_door;
+
+// Sets each named edge to weight 0, in list order. It needs an empty log, and keeps the earlier weights there.
+pub fn load_erasures(
+    c: EngineCounts,
+    ends_a: &[u32],
+    ends_b: &[u32],
+    weights: &mut [Weight],
+    boundary: &[u8],
+    log_edges: &mut [u32],
+    log_weights: &mut [Weight],
+    list: &[u32],
+) -> EngineAnswer
+    ensures { λ r. ⌜ Step (loadErasures (now (list .entry)))
+        (engine c (now («ends_a» .entry)) (now («ends_b» .entry)) (now (weights .entry)) (now (boundary .entry)) (now («log_edges» .entry)) (now («log_weights» .entry)))
+        r
+        (engine (kept c r) (now («ends_a» .entry)) (now («ends_b» .entry)) (now (weights .exit)) (now (boundary .entry)) (now («log_edges» .exit)) (now («log_weights» .exit))) ⌝ }
+{
+    let no = erasures_door(
+        c,
+        ends_a,
+        ends_b,
+        weights,
+        boundary,
+        log_edges,
+        log_weights,
+        list,
+    );
+    if no == 0 {
+        erase_all(weights, log_edges, log_weights, list);
+        return EngineAnswer::Counts(EngineCounts {
+            vertices: c.vertices,
+            edges: c.edges,
+            entries: list.len(),
+        });
+    }
+    EngineAnswer::Refused(no)
+}
+
+// Sets each named edge to the weight given for it, in list order. It needs an empty log, and keeps the earlier weights there.
+pub fn load_dynamic_weights(
+    c: EngineCounts,
+    ends_a: &[u32],
+    ends_b: &[u32],
+    weights: &mut [Weight],
+    boundary: &[u8],
+    log_edges: &mut [u32],
+    log_weights: &mut [Weight],
+    list: &[u32],
+    values: &[Weight],
+) -> EngineAnswer
+    ensures { λ r. ⌜ Step (loadWeights (now (list .entry)) (now (values .entry)))
+        (engine c (now («ends_a» .entry)) (now («ends_b» .entry)) (now (weights .entry)) (now (boundary .entry)) (now («log_edges» .entry)) (now («log_weights» .entry)))
+        r
+        (engine (kept c r) (now («ends_a» .entry)) (now («ends_b» .entry)) (now (weights .exit)) (now (boundary .entry)) (now («log_edges» .exit)) (now («log_weights» .exit))) ⌝ }
+{
+    let no = weights_door(
+        c,
+        ends_a,
+        ends_b,
+        weights,
+        boundary,
+        log_edges,
+        log_weights,
+        list,
+        values,
+    );
+    if no == 0 {
+        weigh_all(weights, log_edges, log_weights, list, values);
+        return EngineAnswer::Counts(EngineCounts {
+            vertices: c.vertices,
+            edges: c.edges,
+            entries: list.len(),
+        });
+    }
+    EngineAnswer::Refused(no)
+}
+
+// Undoes the log from its end.
+pub fn reset(
+    c: EngineCounts,
+    ends_a: &[u32],
+    ends_b: &[u32],
+    weights: &mut [Weight],
+    boundary: &[u8],
+    log_edges: &[u32],
+    log_weights: &[Weight],
+) -> EngineAnswer
+    ensures { λ r. ⌜ Step reset
+        (engine c (now («ends_a» .entry)) (now («ends_b» .entry)) (now (weights .entry)) (now (boundary .entry)) (now («log_edges» .entry)) (now («log_weights» .entry)))
+        r
+        (engine (kept c r) (now («ends_a» .entry)) (now («ends_b» .entry)) (now (weights .exit)) (now (boundary .entry)) (now («log_edges» .entry)) (now («log_weights» .entry))) ⌝ }
+{
+    let no = reset_door(c, ends_a, ends_b, weights, boundary, log_edges, log_weights);
+    if no == 0 {
+        undo_all(weights, log_edges, log_weights, c.entries);
+        return EngineAnswer::Counts(EngineCounts {
+            vertices: c.vertices,
+            edges: c.edges,
+            entries: 0,
+        });
+    }
+    EngineAnswer::Refused(no)
+}
+
+// Opens a graph: copies ends, weights and boundary bytes into the engine's own columns, with an empty log.
+pub fn open(
+    vertices: u32,
+    edges: u32,
+    in_a: &[u32],
+    in_b: &[u32],
+    in_weights: &[Weight],
+    in_boundary: &[u8],
+    ends_a: &mut [u32],
+    ends_b: &mut [u32],
+    weights: &mut [Weight],
+    boundary: &mut [u8],
+) -> EngineAnswer
+    ensures { λ r. ⌜ OpenStep vertices edges
+        (graphColumns (now («in_a» .entry)) (now («in_b» .entry)) (now («in_weights» .entry)) (now («in_boundary» .entry)))
+        (graphColumns (now («ends_a» .entry)) (now («ends_b» .entry)) (now (weights .entry)) (now (boundary .entry)))
+        r
+        (graphColumns (now («ends_a» .exit)) (now («ends_b» .exit)) (now (weights .exit)) (now (boundary .exit))) ⌝ }
+{
+    let no = open_door(
+        vertices,
+        edges,
+        in_a,
+        in_b,
+        in_weights,
+        in_boundary,
+        ends_a,
+        ends_b,
+        weights,
+        boundary,
+    );
+    if no == 0 {
+        let n = edges as usize;
+        copy_u32(ends_a, in_a, n);
+        copy_u32(ends_b, in_b, n);
+        copy_u32(weights, in_weights, n);
+        copy_u8(boundary, in_boundary, vertices as usize);
+        return EngineAnswer::Counts(EngineCounts {
+            vertices,
+            edges,
+            entries: 0,
+        });
+    }
+    EngineAnswer::Refused(no)
+}

@@ -1,3 +1,0 @@
-// The six kinds, layer by layer: counts and vertices. Their edges are written in the crate layer_edges.
-pub mod counts;
-pub mod vertices;

@@ -1,0 +1,185 @@
+-- `prebuilt_calls::fill_row` meets its contract. Assumes nothing.
+use mathlib.Core.Path.{_≡_, refl, sym, ap, _∙_, subst}
+use Prim.Native.Nat.{ℕ, zero, suc, _+_, _*_, _<_, _≤_}
+use native.Mathlib.Omega.{arith}
+use mathlib.Core.Bool.{Bool, true, false}
+use mathlib.Core.List.{List}
+use mathlib.Core.Option.{none}
+use lib.ListN.{length, getD, take}
+use lib.Seq.{sets, length-take-le}
+use lib.IntN.{ℤ}
+use Rattle.columns.specs.Lists.{each, over, after}
+use Rattle.columns.proofs.Columns.{length-over, after-accepted, after-refused}
+use Rattle.engine_columns.specs.Records.{Engine, engine}
+use Rattle.engine_walks.specs.Answers.{table}
+use Rattle.query_tables.specs.declared.End.the-variants.{None}
+use Rattle.query_questions.specs.Queries.{graphIn, weightsIn, scratchLong}
+use Rattle.query_tables.specs.Steps.{tableDoor}
+use Rattle.columns_answers.proofs.Said.{accepts-of, refuses-of}
+use Rattle.query_tables.proofs.Sources.{table-weights-length}
+use Rattle.prebuilt_calls.specs.Rows.{row, rowDoor}
+use Rattle.prebuilt_entries.specs.Entries.{rowEntry}
+use Rattle.prebuilt_calls.proofs.Entries.{RowAsked, row-asked, table-met, row-number, row-over}
+use borrow.Author.Needs.{needs}
+use Rattle.prebuilt_calls.proofs.fill_row.Statement.{statement}
+use Rattle.prebuilt_calls.proofs.fill_row.Tie as tie
+
+engine-of : tie.Start → Engine
+engine-of s = engine (s .args .c) (s .args .ends-a .now) (s .args .ends-b .now) (s .args .weights .now) (s .args .boundary .now) (s .args .log-edges .now) (s .args .log-weights .now)
+
+scratch-at : tie.Start → Bool
+scratch-at s = scratchLong (s .args .c .vertices) (s .args .c .edges) (length (s .args .numbers .now)) (length (s .args .list-ends .now)) (length (s .args .status .now)) (length (s .args .weight .now)) (length (s .args .previous .now)) (length (s .args .node .now)) (length (s .args .leaf .now))
+
+number-at : tie.Start → ℕ
+unfolding engine-of scratch-at
+number-at s = rowDoor (engine-of s) (scratch-at s) (s .args .vertex .0) (length (s .args .nearest .now)) (length (s .args .out .now)) (length (s .args .before .now))
+
+asked-at : (s : tie.Start) → number-at s ≡ 0 → RowAsked (engine-of s) (scratch-at s) (s .args .vertex .0) (length (s .args .nearest .now)) (length (s .args .out .now)) (length (s .args .before .now))
+unfolding number-at
+asked-at s z = row-asked (engine-of s) (scratch-at s) (s .args .vertex .0) _ _ _ z
+
+number-then : (c : tie.Then1) → number-at (c .before .before .before .before .before .before .before .before .before .before .before .before .before .before .before .before .before .before .before .before .before .before .before .before .before .before) ≡ 0
+unfolding number-at engine-of scratch-at
+number-then c =
+    let s : tie.Start = c .before .before .before .before .before .before .before .before .before .before .before .before .before .before .before .before .before .before .before .before .before .before .before .before .before .before in
+    sym (row-number (engine-of s) (scratch-at s) (s .args .vertex .0) _ _ _ (c .before .query-door .ensures) (c .before .before .before .before .both3 .ensures) (c .before .before .before .before .before .both2 .ensures) (c .before .before .before .before .before .before .both .ensures) (c .before .before .before .before .before .before .before .before .before .at-most .ensures) (c .before .before .before .before .before .before .before .before .at-most2 .ensures) (c .before .before .before .before .before .before .before .at-most3 .ensures) (c .before .before .before .before .before .before .before .before .before .before .scratch-long .ensures)) ∙ c .if1 .taken
+
+cast-v : tie.Need-cast-v
+cast-v c = search needs
+
+scratch-long-requires : tie.Need-scratch-long-requires
+scratch-long-requires c κs = tt
+
+at-most-requires : tie.Need-at-most-requires
+at-most-requires c κs = tt
+
+at-most-requires-2 : tie.Need-at-most-requires-2
+at-most-requires-2 c κs = tt
+
+at-most-requires-3 : tie.Need-at-most-requires-3
+at-most-requires-3 c κs = tt
+
+both-requires : tie.Need-both-requires
+both-requires c κs = tt
+
+both-requires-2 : tie.Need-both-requires-2
+both-requires-2 c κs = tt
+
+both-requires-3 : tie.Need-both-requires-3
+both-requires-3 c κs = tt
+
+query-door-requires : tie.Need-query-door-requires
+query-door-requires c κs = tt
+
+all-edges-requires : tie.Need-all-edges-requires
+all-edges-requires c κs = tt
+
+slice-aggregate-write-row : tie.Need-slice-aggregate-write-row
+unfolding number-at engine-of scratch-at
+slice-aggregate-write-row c =
+    let t : tie.Then1 = c .before .before .before .before .before .before .before .before .before .before .before .before .before .before .before .before .before .before .before .before .before .before .before .before .before .before .before .before in
+    let s : tie.Start = t .before .before .before .before .before .before .before .before .before .before .before .before .before .before .before .before .before .before .before .before .before .before .before .before .before .before in
+    let z = number-then t in
+    let k = asked-at s z in
+    sym (length-take-le (s .args .c .vertices) (s .args .boundary .now) (k .long .columns .boundary))
+
+write-row-requires : tie.Need-write-row-requires
+unfolding number-at engine-of scratch-at
+write-row-requires c κs =
+    let t : tie.Then1 = c .before .before .before .before .before .before .before .before .before .before .before .before .before .before .before .before .before .before .before .before .before .before .before .before .before .before .before .before .before in
+    let s : tie.Start = t .before .before .before .before .before .before .before .before .before .before .before .before .before .before .before .before .before .before .before .before .before .before .before .before .before .before in
+    let z = number-then t in
+    let k = asked-at s z in
+    let w = c .before .before .before .before .before .before .before .before .before .before .before .before .before .before .before .before .before .before .before .all-edges .ensures .0 .weights-left ∙ after-accepted (tableDoor (engine-of s) (scratch-at s) (s .args .vertex .0) None (length (s .args .out .now)) (length (s .args .before .now))) (table (graphIn (engine-of s)) (weightsIn (engine-of s)) (s .args .vertex .0) none .weights) (s .args .out .now) (table-met (engine-of s) (scratch-at s) (s .args .vertex .0) _ _ _ k) in
+    let lt = table-weights-length (graphIn (engine-of s)) (weightsIn (engine-of s)) (s .args .vertex .0) none in
+    let lb = length-take-le (s .args .c .vertices) (s .args .boundary .now) (k .long .columns .boundary) in
+    let lo = ap length w ∙ length-over (table (graphIn (engine-of s)) (weightsIn (engine-of s)) (s .args .vertex .0) none .weights) (s .args .out .now) (omega (arith, lt, k .out-long)) in
+    (omega (arith, lb, k .nearest-long), omega (arith, lb, lo, k .out-long), omega (arith, lb, k .v-in))
+
+same-length : tie.Need-same-length
+same-length c = search needs
+
+same-length-2 : tie.Need-same-length-2
+same-length-2 c = c .before .before .before .before .before .before .before .before .before .before .before .before .before .before .before .before .before .before .before .before2 .given
+
+same-length-3 : tie.Need-same-length-3
+same-length-3 c = c .before .before .before .before .before .before .before .before .before .before .before .before .before .before .before .before .before .numbers .given
+
+same-length-4 : tie.Need-same-length-4
+same-length-4 c = c .before .before .before .before .before .before .before .before .before .before .before .before .before .before .before .list-ends .given
+
+same-length-5 : tie.Need-same-length-5
+same-length-5 c = c .before .before .before .before .before .before .before .before .before .before .before .before .before .status .given
+
+same-length-6 : tie.Need-same-length-6
+same-length-6 c = c .before .before .before .before .before .before .before .before .before .before .before .weight .given
+
+same-length-7 : tie.Need-same-length-7
+same-length-7 c = c .before .before .before .before .before .before .before .before .before .previous .given
+
+same-length-8 : tie.Need-same-length-8
+same-length-8 c = c .before .before .before .before .before .before .before .node .given
+
+same-length-9 : tie.Need-same-length-9
+same-length-9 c = c .before .before .before .before .before .leaf .given
+
+returns : tie.Need-returns
+unfolding number-at engine-of scratch-at
+returns c =
+    let t : tie.Then1 = c .before .before .before .before .before .before .before .before .before .before .before .before .before .before .before .before .before .before .before .before .before .before .before .before .before .before .before .before .before .before .before in
+    let s : tie.Start = t .before .before .before .before .before .before .before .before .before .before .before .before .before .before .before .before .before .before .before .before .before .before .before .before .before .before in
+    let z = number-then t in
+    let k = asked-at s z in
+    let w = c .before .before .before .before .before .before .before .before .before .before .before .before .before .before .before .before .before .before .before .before .before .all-edges .ensures .0 .weights-left ∙ after-accepted (tableDoor (engine-of s) (scratch-at s) (s .args .vertex .0) None (length (s .args .out .now)) (length (s .args .before .now))) (table (graphIn (engine-of s)) (weightsIn (engine-of s)) (s .args .vertex .0) none .weights) (s .args .out .now) (table-met (engine-of s) (scratch-at s) (s .args .vertex .0) _ _ _ k) in
+    let lt = table-weights-length (graphIn (engine-of s)) (weightsIn (engine-of s)) (s .args .vertex .0) none in
+    let lb = length-take-le (s .args .c .vertices) (s .args .boundary .now) (k .long .columns .boundary) in
+    let bytes : List ℕ = take (s .args .c .vertices) (s .args .boundary .now) in (
+      record {
+        answer = accepts-of z;
+        out-left = c .before .write-row .ensures ∙ (λ i. sets (w i) 0 (each (lb i) (rowEntry bytes (s .args .nearest .now) (s .args .vertex .0) (w i))))
+            ∙ row-over bytes (s .args .nearest .now) (s .args .vertex .0) (table (graphIn (engine-of s)) (weightsIn (engine-of s)) (s .args .vertex .0) none .weights) (s .args .out .now) (s .args .c .vertices) lt (k .out-long)
+            ∙ sym (after-accepted (number-at s) (row (graphIn (engine-of s)) (weightsIn (engine-of s)) (s .args .nearest .now) (s .args .vertex .0)) (s .args .out .now) z);
+      },
+      (tt, tt),
+    )
+
+returns-2 : tie.Need-returns-2
+unfolding number-at engine-of scratch-at
+returns-2 c =
+    let s : tie.Start = c .before .before .before .before .before .before .before .before .before .before .before .before .before .before .before .before .before .before .before .before .before .before .before .before .before .before in
+    let d : c .before .query-door .result ≡ number-at s = row-number (engine-of s) (scratch-at s) (s .args .vertex .0) _ _ _ (c .before .query-door .ensures) (c .before .before .before .before .both3 .ensures) (c .before .before .before .before .before .both2 .ensures) (c .before .before .before .before .before .before .both .ensures) (c .before .before .before .before .before .before .before .before .before .at-most .ensures) (c .before .before .before .before .before .before .before .before .at-most2 .ensures) (c .before .before .before .before .before .before .before .at-most3 .ensures) (c .before .before .before .before .before .before .before .before .before .before .scratch-long .ensures) in
+    let f : number-at s ≡ 0 → ⊥ = λ e. c .if1 .left (d ∙ e) in (
+      record {
+        answer = refuses-of d (c .if1 .left);
+        out-left = sym (after-refused (number-at s) (row (graphIn (engine-of s)) (weightsIn (engine-of s)) (s .args .nearest .now) (s .args .vertex .0)) (s .args .out .now) f);
+      },
+      (refl, refl),
+    )
+
+pub fill-row-spec : {M : Type 1} → statement M
+fill-row-spec =
+    tie.close
+    (tie.spec
+    cast-v
+    scratch-long-requires
+    at-most-requires
+    at-most-requires-2
+    at-most-requires-3
+    both-requires
+    both-requires-2
+    both-requires-3
+    query-door-requires
+    all-edges-requires
+    slice-aggregate-write-row
+    write-row-requires
+    same-length
+    same-length-2
+    same-length-3
+    same-length-4
+    same-length-5
+    same-length-6
+    same-length-7
+    same-length-8
+    same-length-9
+    returns
+    returns-2)

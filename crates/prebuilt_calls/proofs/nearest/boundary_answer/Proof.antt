@@ -1,0 +1,50 @@
+-- `prebuilt_calls::nearest::boundary_answer` meets its contract. Assumes nothing.
+use mathlib.Core.Path.{_≡_, refl, sym, ap, _∙_, subst}
+use mathlib.Core.Logic.{_⊎_, inl, inr}
+use Prim.Native.Nat.{ℕ, zero, suc, _+_, _*_, _-_, _<_, _≤_}
+use native.Mathlib.Omega.{arith}
+use mathlib.Core.Bool.{Bool, true, false, not, cond, _&&_}
+use mathlib.Core.List.{List}
+use mathlib.Core.Option.{Option, some, none}
+use lib.ListN.{length, getD, take, List·getD-eq-default}
+use lib.Dec.{eqb}
+use lib.IntN.{ℤ, pos, negsuc}
+use borrow.Author.Tests.{eq-eqb, ne-eqb}
+use mir.Syntax.{w32}
+use mir.Val.{SFits, toZ, ofZ}
+use mir.ValLaws.{toZ-ofZ}
+use Rattle.columns.proofs.Columns.{getD-any}
+use Rattle.engine_walks.specs.Answers.{weightIn}
+use Rattle.prebuilt_entries.specs.Nearest.{nearestIn}
+use Rattle.prebuilt_calls.specs.Nearest.{boundaryFound}
+use Rattle.columns_answers.specs.Said.{accepts}
+use Rattle.prebuilt_entries.proofs.Amounts.{place-none, place-some}
+use borrow.Author.Needs.{needs}
+use Rattle.prebuilt_calls.proofs.nearest.boundary_answer.Statement.{statement}
+use Rattle.prebuilt_calls.proofs.nearest.boundary_answer.Tie as tie
+
+shared-slice-read-if1 : tie.Need-shared-slice-read-if1
+shared-slice-read-if1 c = search needs
+
+returns : tie.Need-returns
+returns c = let s = c .before .before .before in ap (λ k. accepts (boundaryFound (s .args .least .now) (cond (not k) none (nearestIn (s .args .boundary .now) (s .args .least .now) (length (s .args .least .now)))))) (sym (ne-eqb (getD (s .args .boundary .now) (s .args .v) 0) 0 (c .if1 .taken)))
+
+nearest-place-requires : tie.Need-nearest-place-requires
+nearest-place-requires c κs = search needs
+
+returns-2 : tie.Need-returns-2
+returns-2 c = let s = c .before .before .before .before .before in ap (λ o. accepts (boundaryFound (s .args .least .now) o)) (place-none (s .args .boundary .now) (s .args .least .now) (length (s .args .least .now)) (c .before .nearest-place .result) (c .before .nearest-place .ensures) (c .if2 .taken)) ∙ ap (λ k. accepts (boundaryFound (s .args .least .now) (cond (not k) none (nearestIn (s .args .boundary .now) (s .args .least .now) (length (s .args .least .now)))))) (sym (eq-eqb (getD (s .args .boundary .now) (s .args .v) 0) 0 (c .before .before .if1 .left)))
+
+cast-t10 : tie.Need-cast-t10
+cast-t10 c = let s = c .before .before .before .before .before in let p = place-some (s .args .boundary .now) (s .args .least .now) (length (s .args .least .now)) (c .before .nearest-place .result) (c .before .nearest-place .ensures) (c .if2 .left) in omega (arith, p .0, s .pre .2)
+
+amount-at-requires : tie.Need-amount-at-requires
+amount-at-requires c κs = tt
+
+returns-3 : tie.Need-returns-3
+returns-3 c = let s = c .before .before .before .before .before .before in let p = place-some (s .args .boundary .now) (s .args .least .now) (length (s .args .least .now)) (c .before .before .nearest-place .result) (c .before .before .nearest-place .ensures) (c .before .if2 .left) in (λ i. accepts (1, c .before .before .nearest-place .result, c .amount-at .ensures i)) ∙ ap (λ o. accepts (boundaryFound (s .args .least .now) o)) (p .1) ∙ ap (λ k. accepts (boundaryFound (s .args .least .now) (cond (not k) none (nearestIn (s .args .boundary .now) (s .args .least .now) (length (s .args .least .now)))))) (sym (eq-eqb (getD (s .args .boundary .now) (s .args .v) 0) 0 (c .before .before .before .if1 .left)))
+
+pub boundary-answer-spec : {M : Type 1} → statement M
+boundary-answer-spec =
+    tie.close
+    (tie.spec shared-slice-read-if1 returns nearest-place-requires returns-2 cast-t10 amount-at-requires returns-3)

@@ -1,0 +1,215 @@
+-- `prebuilt_calls::nearest::get_boundary_weight` meets its contract. Assumes nothing.
+use mathlib.Core.Path.{_≡_, refl, sym, _∙_, subst}
+use Prim.Native.Nat.{ℕ, zero, suc, _+_, _*_, _<_, _≤_}
+use native.Mathlib.Omega.{arith}
+use mathlib.Core.Bool.{Bool, true, false}
+use mathlib.Core.List.{List}
+use mathlib.Core.Option.{none}
+use lib.ListN.{length, getD, take}
+use lib.Seq.{length-take-le}
+use lib.IntN.{ℤ}
+use Rattle.columns.specs.Lists.{over, after}
+use Rattle.columns.proofs.Columns.{after-accepted, after-refused}
+use Rattle.columns_neighbors.proofs.Ends.{GraphSound, graph-says}
+use Rattle.engine_columns.specs.Records.{Engine, engine}
+use Rattle.engine_walks.specs.Answers.{table}
+use Rattle.query_tables.specs.declared.End.the-variants.{None}
+use Rattle.query_questions.specs.Queries.{graphIn, weightsIn, scratchLong}
+use Rattle.query_tables.specs.Steps.{tableDoor}
+use Rattle.query_tables.proofs.Tables.{TableAsked, table-of}
+use Rattle.query_tables.proofs.Sources.{table-weights-length}
+use Rattle.prebuilt_entries.specs.Nearest.{boundaryIn}
+use Rattle.prebuilt_entries.proofs.Amounts.{cut-fits}
+use Rattle.columns_answers.specs.Said.{accepts}
+use Rattle.columns_answers.proofs.Said.{accepts-of, refuses-of}
+use Rattle.prebuilt_calls.specs.Nearest.{said, boundaryFound}
+use Rattle.prebuilt_calls.proofs.Replies.{kept-of, boundary-free}
+use borrow.Author.Needs.{needs}
+use Rattle.prebuilt_calls.proofs.nearest.get_boundary_weight.Statement.{statement}
+use Rattle.prebuilt_calls.proofs.nearest.get_boundary_weight.Tie as tie
+
+engine-of : tie.Start → Engine
+engine-of s = engine (s .args .c) (s .args .ends-a .now) (s .args .ends-b .now) (s .args .weights .now) (s .args .boundary .now) (s .args .log-edges .now) (s .args .log-weights .now)
+
+scratch-at : tie.Start → Bool
+scratch-at s = scratchLong (s .args .c .vertices) (s .args .c .edges) (length (s .args .numbers .now)) (length (s .args .list-ends .now)) (length (s .args .status .now)) (length (s .args .weight .now)) (length (s .args .previous .now)) (length (s .args .node .now)) (length (s .args .leaf .now))
+
+number-at : tie.Start → ℕ
+unfolding engine-of scratch-at
+number-at s = tableDoor (engine-of s) (scratch-at s) (s .args .vertex .0) None (length (s .args .least .now)) (length (s .args .before .now))
+
+asked-at : (s : tie.Start) → number-at s ≡ 0 → TableAsked (engine-of s) (scratch-at s) (s .args .vertex .0) None (length (s .args .least .now)) (length (s .args .before .now))
+unfolding number-at
+asked-at s z = table-of (engine-of s) (scratch-at s) (s .args .vertex .0) None _ _ z
+
+number-then : (c : tie.Then1) → number-at (c .before .before .before .before .before .before .before .before .before .before .before .before .before .before .before .before .before .before .before .before .before .before .before .before .before .before .before .before .before .before .before .before .before .before .before .before .before .before .before .before .before .before .before) ≡ 0
+unfolding number-at engine-of scratch-at
+number-then c =
+    let s : tie.Start = c .before .before .before .before .before .before .before .before .before .before .before .before .before .before .before .before .before .before .before .before .before .before .before .before .before .before .before .before .before .before .before .before .before .before .before .before .before .before .before .before .before .before .before in
+    sym (c .before .number .ensures ∙ c .before .before .before .before .before .before .before .before .before .before .before .before .before .before .before .before .before .before .before .all-edges .ensures .0 .answer .number-is) ∙ c .if1 .taken
+
+all-edges-requires : tie.Need-all-edges-requires
+all-edges-requires c κs = tt
+
+number-requires : tie.Need-number-requires
+number-requires c κs = tt
+
+cast-v : tie.Need-cast-v
+cast-v c = search needs
+
+slice-aggregate-boundary-answer : tie.Need-slice-aggregate-boundary-answer
+unfolding number-at engine-of scratch-at
+slice-aggregate-boundary-answer c =
+    let t : tie.Then1 = c .before .before in
+    let s : tie.Start = t .before .before .before .before .before .before .before .before .before .before .before .before .before .before .before .before .before .before .before .before .before .before .before .before .before .before .before .before .before .before .before .before .before .before .before .before .before .before .before .before .before .before .before in
+    let z = number-then t in
+    let k = asked-at s z in
+    sym (length-take-le (s .args .c .vertices) (s .args .boundary .now) (k .long .columns .boundary))
+
+slice-reshare-prefix-boundary-answer : tie.Need-slice-reshare-prefix-boundary-answer
+unfolding number-at engine-of scratch-at
+slice-reshare-prefix-boundary-answer c =
+    let t : tie.Then1 = c .before .before in
+    let s : tie.Start = t .before .before .before .before .before .before .before .before .before .before .before .before .before .before .before .before .before .before .before .before .before .before .before .before .before .before .before .before .before .before .before .before .before .before .before .before .before .before .before .before .before .before .before in
+    let z = number-then t in
+    let k = asked-at s z in
+    let w = c .before .before .before .before .before .before .before .before .before .before .before .before .before .before .before .before .before .before .before .before .before .all-edges .ensures .0 .weights-left ∙ after-accepted (number-at s) (table (graphIn (engine-of s)) (weightsIn (engine-of s)) (s .args .vertex .0) none .weights) (s .args .least .now) z in
+    let f = cut-fits (table (graphIn (engine-of s)) (weightsIn (engine-of s)) (s .args .vertex .0) none .weights) (s .args .least .now) (s .args .c .vertices) w (table-weights-length (graphIn (engine-of s)) (weightsIn (engine-of s)) (s .args .vertex .0) none) (k .weights-long) in
+    f .0
+
+slice-aggregate-boundary-answer-2 : tie.Need-slice-aggregate-boundary-answer-2
+unfolding number-at engine-of scratch-at
+slice-aggregate-boundary-answer-2 c =
+    let t : tie.Then1 = c .before .before .before in
+    let s : tie.Start = t .before .before .before .before .before .before .before .before .before .before .before .before .before .before .before .before .before .before .before .before .before .before .before .before .before .before .before .before .before .before .before .before .before .before .before .before .before .before .before .before .before .before .before in
+    let z = number-then t in
+    let k = asked-at s z in
+    let w = c .before .before .before .before .before .before .before .before .before .before .before .before .before .before .before .before .before .before .before .before .before .before .all-edges .ensures .0 .weights-left ∙ after-accepted (number-at s) (table (graphIn (engine-of s)) (weightsIn (engine-of s)) (s .args .vertex .0) none .weights) (s .args .least .now) z in
+    let f = cut-fits (table (graphIn (engine-of s)) (weightsIn (engine-of s)) (s .args .vertex .0) none .weights) (s .args .least .now) (s .args .c .vertices) w (table-weights-length (graphIn (engine-of s)) (weightsIn (engine-of s)) (s .args .vertex .0) none) (k .weights-long) in
+    sym (f .1)
+
+boundary-answer-requires : tie.Need-boundary-answer-requires
+unfolding number-at engine-of scratch-at
+boundary-answer-requires c κs =
+    let t : tie.Then1 = c .before .before .before in
+    let s : tie.Start = t .before .before .before .before .before .before .before .before .before .before .before .before .before .before .before .before .before .before .before .before .before .before .before .before .before .before .before .before .before .before .before .before .before .before .before .before .before .before .before .before .before .before .before in
+    let z = number-then t in
+    let k = asked-at s z in
+    let w = c .before .before .before .before .before .before .before .before .before .before .before .before .before .before .before .before .before .before .before .before .before .before .all-edges .ensures .0 .weights-left ∙ after-accepted (number-at s) (table (graphIn (engine-of s)) (weightsIn (engine-of s)) (s .args .vertex .0) none .weights) (s .args .least .now) z in
+    let f = cut-fits (table (graphIn (engine-of s)) (weightsIn (engine-of s)) (s .args .vertex .0) none .weights) (s .args .least .now) (s .args .c .vertices) w (table-weights-length (graphIn (engine-of s)) (weightsIn (engine-of s)) (s .args .vertex .0) none) (k .weights-long) in
+    let lb = length-take-le (s .args .c .vertices) (s .args .boundary .now) (k .long .columns .boundary) in
+    let few = graph-says (s .args .c .vertices) (s .args .c .edges) (s .args .ends-a .now) (s .args .ends-b .now) (k .sound .columns .graph) .few-vertices in
+    (lb ∙ sym (f .1), omega (arith, lb, k .source-in), omega (arith, f .1, few))
+
+same-length : tie.Need-same-length
+same-length c = c .before .before .before .before .before .before .before .before .before .before .before .before .before .before .before .before .before .before .before .before .before .before .least .given
+
+same-length-2 : tie.Need-same-length-2
+same-length-2 c = c .before .before .before .before .before .before .before .before .before .before .before .before .before .before .before .before .before .before .before .before .before .before2 .given
+
+same-length-3 : tie.Need-same-length-3
+same-length-3 c = c .before .before .before .before .before .before .before .before .before .before .before .before .before .before .before .before .before .before .before .numbers .given
+
+same-length-4 : tie.Need-same-length-4
+same-length-4 c = c .before .before .before .before .before .before .before .before .before .before .before .before .before .before .before .before .before .list-ends .given
+
+same-length-5 : tie.Need-same-length-5
+same-length-5 c = c .before .before .before .before .before .before .before .before .before .before .before .before .before .before .before .status .given
+
+same-length-6 : tie.Need-same-length-6
+same-length-6 c = c .before .before .before .before .before .before .before .before .before .before .before .before .before .weight .given
+
+same-length-7 : tie.Need-same-length-7
+same-length-7 c = c .before .before .before .before .before .before .before .before .before .before .before .previous .given
+
+same-length-8 : tie.Need-same-length-8
+same-length-8 c = c .before .before .before .before .before .before .before .before .before .node .given
+
+same-length-9 : tie.Need-same-length-9
+same-length-9 c = c .before .before .before .before .before .before .before .leaf .given
+
+returns : tie.Need-returns
+unfolding number-at engine-of scratch-at
+returns c =
+    let t : tie.Then1 = c .before .before .before .before in
+    let s : tie.Start = t .before .before .before .before .before .before .before .before .before .before .before .before .before .before .before .before .before .before .before .before .before .before .before .before .before .before .before .before .before .before .before .before .before .before .before .before .before .before .before .before .before .before .before in
+    let z = number-then t in
+    let k = asked-at s z in
+    let w = c .before .before .before .before .before .before .before .before .before .before .before .before .before .before .before .before .before .before .before .before .before .before .before .all-edges .ensures .0 .weights-left ∙ after-accepted (number-at s) (table (graphIn (engine-of s)) (weightsIn (engine-of s)) (s .args .vertex .0) none .weights) (s .args .least .now) z in
+    let f = cut-fits (table (graphIn (engine-of s)) (weightsIn (engine-of s)) (s .args .vertex .0) none .weights) (s .args .least .now) (s .args .c .vertices) w (table-weights-length (graphIn (engine-of s)) (weightsIn (engine-of s)) (s .args .vertex .0) none) (k .weights-long) in
+    let r : said (c .boundary-answer .result) ≡ accepts (boundaryFound (table (graphIn (engine-of s)) (weightsIn (engine-of s)) (s .args .vertex .0) none .weights) (boundaryIn (take (s .args .c .vertices) (s .args .boundary .now)) (table (graphIn (engine-of s)) (weightsIn (engine-of s)) (s .args .vertex .0) none .weights) (s .args .c .vertices) (s .args .vertex .0))) =
+    c .boundary-answer .ensures ∙ (λ i. accepts (boundaryFound (f .2 i) (boundaryIn (take (s .args .c .vertices) (s .args .boundary .now)) (f .2 i) (f .1 i) (s .args .vertex .0)))) in
+    (rw r (accepts-of z), boundary-free (c .boundary-answer .result) (boundaryFound (table (graphIn (engine-of s)) (weightsIn (engine-of s)) (s .args .vertex .0) none .weights) (boundaryIn (take (s .args .c .vertices) (s .args .boundary .now)) (table (graphIn (engine-of s)) (weightsIn (engine-of s)) (s .args .vertex .0) none .weights) (s .args .c .vertices) (s .args .vertex .0))) _ _ _ _ _ _ r)
+
+same-length-10 : tie.Need-same-length-10
+same-length-10 c = c .before .before .before .before .before .before .before .before .before .before .before .before .before .before .before .before .before .before .least .given
+
+same-length-11 : tie.Need-same-length-11
+same-length-11 c = c .before .before .before .before .before .before .before .before .before .before .before .before .before .before .before .before .before .before2 .given
+
+same-length-12 : tie.Need-same-length-12
+same-length-12 c = c .before .before .before .before .before .before .before .before .before .before .before .before .before .before .before .numbers .given
+
+same-length-13 : tie.Need-same-length-13
+same-length-13 c = c .before .before .before .before .before .before .before .before .before .before .before .before .before .list-ends .given
+
+same-length-14 : tie.Need-same-length-14
+same-length-14 c = c .before .before .before .before .before .before .before .before .before .before .before .status .given
+
+same-length-15 : tie.Need-same-length-15
+same-length-15 c = c .before .before .before .before .before .before .before .before .before .weight .given
+
+same-length-16 : tie.Need-same-length-16
+same-length-16 c = c .before .before .before .before .before .before .before .previous .given
+
+same-length-17 : tie.Need-same-length-17
+same-length-17 c = c .before .before .before .before .before .node .given
+
+same-length-18 : tie.Need-same-length-18
+same-length-18 c = c .before .before .before .leaf .given
+
+returns-2 : tie.Need-returns-2
+unfolding number-at engine-of scratch-at
+returns-2 c =
+    let s : tie.Start = c .before .before .before .before .before .before .before .before .before .before .before .before .before .before .before .before .before .before .before .before .before .before .before .before .before .before .before .before .before .before .before .before .before .before .before .before .before .before .before .before .before .before .before in
+    let d : c .before .number .result ≡ number-at s = c .before .number .ensures ∙ c .before .before .before .before .before .before .before .before .before .before .before .before .before .before .before .before .before .before .before .all-edges .ensures .0 .answer .number-is in
+    let f : number-at s ≡ 0 → ⊥ = λ e. c .if1 .left (d ∙ e) in (
+      refuses-of d (c .if1 .left),
+      (
+        c .before .before .before .before .before .before .before .before .before .before .before .before .before .before .before .before .before .before .before .all-edges .ensures .0 .weights-left ∙ after-refused (number-at s) (table (graphIn (engine-of s)) (weightsIn (engine-of s)) (s .args .vertex .0) none .weights) (s .args .least .now) f,
+        c .before .before .before .before .before .before .before .before .before .before .before .before .before .before .before .before .before .before .before .all-edges .ensures .0 .previous-left ∙ after-refused (number-at s) (table (graphIn (engine-of s)) (weightsIn (engine-of s)) (s .args .vertex .0) none .previous) (s .args .before .now) f,
+        kept-of (c .before .before .before .before .before .before .before .before .before .before .before .before .before .before .before .before .before .before .before .all-edges .result) _ _ (λ e. c .if1 .left (c .before .number .ensures ∙ e)) (c .before .before .before .before .before .before .before .before .before .before .before .before .before .before .before .before .before .before .before .all-edges .ensures .1),
+      ),
+    )
+
+pub get-boundary-weight-spec : {M : Type 1} → statement M
+get-boundary-weight-spec =
+    tie.close
+    (tie.spec
+    all-edges-requires
+    number-requires
+    cast-v
+    slice-aggregate-boundary-answer
+    slice-reshare-prefix-boundary-answer
+    slice-aggregate-boundary-answer-2
+    boundary-answer-requires
+    same-length
+    same-length-2
+    same-length-3
+    same-length-4
+    same-length-5
+    same-length-6
+    same-length-7
+    same-length-8
+    same-length-9
+    returns
+    same-length-10
+    same-length-11
+    same-length-12
+    same-length-13
+    same-length-14
+    same-length-15
+    same-length-16
+    same-length-17
+    same-length-18
+    returns-2)

@@ -1,0 +1,35 @@
+-- The nearest virtual vertex of a vertex in the Rust's `PrebuiltCompleteGraph`, and the call that reports it.
+use Prim.Native.Nat.{ℕ}
+use mathlib.Core.Path.{_≡_}
+use mathlib.Core.List.{List}
+use mathlib.Core.Option.{Option, some, none}
+use lib.IntN.{ℤ}
+use Rattle.columns_answers.specs.Said.{Said, accepts, refuses, Answered}
+use Rattle.engine_walks.specs.Graph.{Graph}
+use Rattle.engine_walks.specs.Answers.{weightIn, table}
+use Rattle.query_questions.specs.Scratch.{ScratchColumns}
+use Rattle.prebuilt_calls.specs.declared.nearest.BoundaryAnswer.{BoundaryAnswer}
+use Rattle.prebuilt_calls.specs.declared.nearest.BoundaryAnswer.the-variants.{Nearest, NoBoundary, Refused}
+use Rattle.prebuilt_entries.specs.Nearest.{amount, boundaryIn}
+
+-- document 01's number for each case, and the values: 1 where there is a virtual vertex, its number and the weight; 0 where there is none and where the call was refused
+abbrev pub said : BoundaryAnswer → Said (ℕ × ℕ × ℕ)
+said (Nearest u weight) = accepts (1, u .0, weight)
+said NoBoundary = accepts (0, 0, 0)
+said (Refused n) = refuses n (0, 0, 0)
+
+-- the values for a vertex or none: its weight stands in `weights`
+abbrev pub boundaryFound : List ℤ → Option ℕ → ℕ × ℕ × ℕ
+boundaryFound weights none = (0, 0, 0)
+boundaryFound weights (some u) = (1, u, amount (weightIn weights u))
+
+-- the answer, where q is the number of the first question that is not met: by the table from v with no end
+abbrev pub BoundarySaid : (q : ℕ) (g : Graph) (w : ℕ → ℕ) (v : ℕ) → BoundaryAnswer → Type 0
+BoundarySaid q g w v r =
+    Answered (said r) q (boundaryFound (table g w v none .weights) (boundaryIn (g .boundary) (table g w v none .weights) (g .vertices) v)) (0, 0, 0)
+
+-- every lent column but the engine's is scratch; a refused call leaves it as it was
+abbrev pub BoundaryKept : BoundaryAnswer → (least₀ least : List ℤ) (before₀ before : List ℕ) → ScratchColumns → ScratchColumns → Type 0
+BoundaryKept (Nearest u weight) least₀ least before₀ before s₀ s = Unit {0}
+BoundaryKept NoBoundary least₀ least before₀ before s₀ s = Unit {0}
+BoundaryKept (Refused n) least₀ least before₀ before s₀ s = (least ≡ least₀) × (before ≡ before₀) × (s ≡ s₀)

@@ -1,0 +1,38 @@
+-- The row of a vertex in the Rust's `PrebuiltCompleteGraph`: least weights to the peers, without virtual vertices and without edges in the middle.
+use Prim.Native.Nat.{ℕ}
+use mathlib.Core.Path.{_≡_}
+use mathlib.Core.Bool.{Bool, _&&_}
+use mathlib.Core.List.{List}
+use mathlib.Core.Option.{none}
+use lib.ListN.{length}
+use lib.Dec.{leb, ltb}
+use lib.IntN.{ℤ}
+use Rattle.columns.specs.Lists.{each, after}
+use Rattle.columns_answers.specs.Said.{Answered}
+use Rattle.columns_answers.specs.Done.{said}
+use Rattle.columns.specs.declared.Done.{Done}
+use Rattle.columns.specs.declared.Done.the-variants.{Accepted, Refused}
+use Rattle.engine_columns.specs.Records.{Engine}
+use Rattle.engine_walks.specs.Graph.{Graph}
+use Rattle.engine_walks.specs.Answers.{table}
+use Rattle.query_questions.specs.Queries.{graphIn, weightsIn, queryDoor}
+use Rattle.prebuilt_entries.specs.Entries.{rowEntry}
+
+-- the row of v; `nearest` holds for each vertex the least weight to a virtual vertex, -1 for none
+abbrev pub row : (g : Graph) (w : ℕ → ℕ) (nearest : List ℤ) (v : ℕ) → List ℤ
+row g w nearest v = each (g .vertices) (rowEntry (g .boundary) nearest v (table g w v none .weights))
+
+-- the number of the first question that is not met, or 0: 6, 7, 13; `scratch` says whether scratch is long enough
+abbrev pub rowDoor : Engine → (scratch : Bool) (v nearest out before : ℕ) → ℕ
+rowDoor e scratch v nearest out before =
+    queryDoor e (leb (e .counts .vertices) nearest && (leb (e .counts .vertices) out && (leb (e .counts .vertices) before && scratch))) (ltb v (e .counts .vertices)) 0
+
+-- the answer, and the row's column
+pub record RowStep (e : Engine) (scratch : Bool) (v : ℕ) (nearest : List ℤ) (before : ℕ) (r : Done) (out₀ out : List ℤ) : Type 0 where
+  pub answer : Answered (said r) (rowDoor e scratch v (length nearest) (length out₀) before) tt tt
+  pub out-left : out ≡ after (rowDoor e scratch v (length nearest) (length out₀) before) (row (graphIn e) (weightsIn e) nearest v) out₀
+
+-- a refused call leaves a scratch column as it was
+abbrev pub ColumnKept : Done → List ℕ → List ℕ → Type 0
+ColumnKept Accepted column₀ column = Unit {0}
+ColumnKept (Refused n) column₀ column = column ≡ column₀

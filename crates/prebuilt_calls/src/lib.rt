@@ -1,0 +1,105 @@
+// The prebuilt complete graph: the row of a vertex, with its least weights to the other vertices that are not virtual, and its nearest virtual vertex.
+pub mod nearest;
+
+ghost use lib.ListN.{length};
+ghost use Rattle.engine_columns.specs.Records.{engine};
+ghost use Rattle.query_questions.specs.Queries.{scratchLong};
+ghost use Rattle.query_questions.specs.Scratch.{ScratchKept, scratchOf};
+ghost use Rattle.prebuilt_calls.specs.Rows.{RowStep, ColumnKept};
+use columns::Done;
+use columns::VertexIndex;
+use columns::Weight;
+use columns::questions::at_most;
+use columns::questions::both;
+use engine_columns::EngineCounts;
+use prebuilt_entries::rows::write_row;
+use query_questions::query_door;
+use query_questions::scratch_long;
+use query_tables::all_edges;
+
+// The row of a vertex: for each vertex the least weight to it, -1 where there is no edge. `nearest` holds each vertex's least weight to a virtual one,
+// -1 for none. The columns from `before` on are scratch.
+pub fn fill_row(
+    c: EngineCounts,
+    ends_a: &[u32],
+    ends_b: &[u32],
+    weights: &[Weight],
+    boundary: &[u8],
+    log_edges: &[u32],
+    log_weights: &[Weight],
+    vertex: VertexIndex,
+    nearest: &[i32],
+    out: &mut [i32],
+    before: &mut [u32],
+    numbers: &mut [u32],
+    list_ends: &mut [u32],
+    status: &mut [u8],
+    weight: &mut [Weight],
+    previous: &mut [u32],
+    node: &mut [u64],
+    leaf: &mut [u64],
+) -> Done
+    ensures { λ r. ⌜ RowStep (engine c (now («ends_a» .entry)) (now («ends_b» .entry)) (now (weights .entry)) (now (boundary .entry)) (now («log_edges» .entry)) (now («log_weights» .entry)))
+        (scratchLong (c .vertices) (c .edges) (length (now (numbers .entry))) (length (now («list_ends» .entry))) (length (now (status .entry))) (length (now (weight .entry))) (length (now (previous .entry))) (length (now (node .entry))) (length (now (leaf .entry))))
+        (vertex .0) (now (nearest .entry)) (length (now (before .entry))) r (now (out .entry)) (now (out .exit)) ⌝ }
+    ensures { λ r. ⌜ ColumnKept r (now (before .entry)) (now (before .exit)) ⌝ }
+    ensures { λ r. ⌜ ScratchKept r
+        (scratchOf (now (numbers .entry)) (now («list_ends» .entry)) (now (status .entry)) (now (weight .entry)) (now (previous .entry)) (now (node .entry)) (now (leaf .entry)))
+        (scratchOf (now (numbers .exit)) (now («list_ends» .exit)) (now (status .exit)) (now (weight .exit)) (now (previous .exit)) (now (node .exit)) (now (leaf .exit))) ⌝ }
+{
+    let v = c.vertices as usize;
+    let scratch = scratch_long(
+        c.vertices,
+        c.edges,
+        numbers.len(),
+        list_ends.len(),
+        status.len(),
+        weight.len(),
+        previous.len(),
+        node.len(),
+        leaf.len(),
+    );
+    let fits = both(
+        at_most(v, nearest.len()),
+        both(
+            at_most(v, out.len()),
+            both(at_most(v, before.len()), scratch),
+        ),
+    );
+    let no = query_door(
+        c,
+        ends_a,
+        ends_b,
+        weights,
+        boundary,
+        log_edges,
+        log_weights,
+        fits,
+        vertex.0 < c.vertices,
+        0,
+    );
+    if no == 0 {
+        all_edges(
+            c,
+            ends_a,
+            ends_b,
+            weights,
+            boundary,
+            log_edges,
+            log_weights,
+            vertex,
+            out,
+            before,
+            numbers,
+            list_ends,
+            status,
+            weight,
+            previous,
+            node,
+            leaf,
+        );
+        write_row(&boundary[..v], nearest, vertex.0, out);
+        return Done::Accepted;
+    }
+    Done::Refused(no)
+}

@@ -1,0 +1,57 @@
+-- What the crossing query answers and leaves in the weight column.
+use Prim.Native.Nat.{ℕ}
+use mathlib.Core.Path.{_≡_}
+use mathlib.Core.Bool.{Bool, true, false, _&&_}
+use mathlib.Core.List.{List}
+use mathlib.Core.Option.{Option, some, none}
+use lib.ListN.{length}
+use lib.Dec.{leb}
+use lib.IntN.{ℤ}
+use Rattle.columns.specs.Lists.{after}
+use Rattle.columns.specs.Questions.{ask}
+use Rattle.columns_answers.specs.Said.{Said, accepts, refuses, Answered}
+use Rattle.engine_columns.specs.Records.{Engine}
+use Rattle.engine_columns.specs.Door.{longEnough, sound}
+use Rattle.engine_walks.specs.Answers.{crossing, fromLeft, leastFromLeft}
+use Rattle.query_crossing_answer.specs.declared.CrossingReply.{CrossingReply}
+use Rattle.query_crossing_answer.specs.declared.CrossingReply.the-variants.{Crossed, Refused}
+use Rattle.query_questions.specs.Queries.{graphIn, weightsIn}
+use Rattle.query_questions.specs.Scratch.{ScratchColumns, ScratchAfter}
+
+-- document 01's number and value for each case: the crossing weight is 0 at a refusal
+abbrev pub said : CrossingReply → Said ℕ
+said (Crossed weight) = accepts weight
+said (Refused number) = refuses number 0
+
+abbrev pub replyNumber : CrossingReply → ℕ
+replyNumber r = said r .number
+
+abbrev pub replyWeight : CrossingReply → ℕ
+replyWeight r = said r .values
+
+-- 18, from the crossing weight if there is one
+abbrev pub isJoined : Option ℕ → Bool
+isJoined none = false
+isJoined (some weight) = true
+
+-- the crossing weight, 0 if there is none
+abbrev pub weightFound : Option ℕ → ℕ
+weightFound none = 0
+weightFound (some weight) = weight
+
+-- 6 and 7 of a crossing, and the question after them; `scratch` says whether scratch is long enough
+abbrev pub crossingDoor : Engine → (scratch : Bool) (weights next : ℕ) → ℕ
+crossingDoor e scratch weights next = ask (longEnough 0 e && (leb (e .counts .vertices) weights && scratch)) 6 (ask (sound e) 7 next)
+
+-- the number of the first question of a crossing that is not met, or 0
+abbrev pub crossingNumber : Engine → (scratch : Bool) (weights : ℕ) → ℕ
+crossingNumber e scratch weights = crossingDoor e scratch weights (ask (isJoined (crossing (graphIn e) (weightsIn e))) 18 0)
+
+-- the answer, and the weight column
+pub record CrossingStep (e : Engine) (scratch : Bool) (r : CrossingReply) (weights₀ weights : List ℤ) : Type 0 where
+  pub answer : Answered (said r) (crossingNumber e scratch (length weights₀)) (weightFound (crossing (graphIn e) (weightsIn e))) 0
+  pub weights-left : weights ≡ after (crossingNumber e scratch (length weights₀)) (leastFromLeft (graphIn e) (weightsIn e)) weights₀
+
+-- scratch: what the search from the left leaves, after success and after 18; a call that 6 or 7 refuses leaves it as it was
+abbrev pub CrossingScratch : Engine → CrossingReply → ScratchColumns → ScratchColumns → Type 0
+CrossingScratch e r s₀ s = ScratchAfter (replyNumber r) (graphIn e) (fromLeft (graphIn e) (weightsIn e)) s₀ s

@@ -1,0 +1,191 @@
+-- What the nearest right vertex says of a crossing, and the door. Assumes nothing.
+use mathlib.Core.Path.{_≡_, refl, sym, ap, _∙_, subst}
+use mathlib.Core.Bool.{Bool, true, false, _&&_, cond}
+use mathlib.Core.List.{List}
+use mathlib.Core.Option.{Option, some, none}
+use Prim.Native.Nat.{ℕ, _+_, _<_, _≤_}
+use native.Mathlib.Omega.{arith}
+use native.Mathlib.Decide.{decLt}
+use lib.ListN.{length, getD, take, List·getD-eq-default}
+use lib.Seq.{sets}
+use lib.Dec.{leb, ltb, eqb}
+use lib.IntN.{ℤ}
+use borrow.Author.Tests.{leb-true, lt-ltb, le-ltb, eq-eqb, ne-eqb}
+use Rattle.columns.specs.Lists.{each, after, over}
+use Rattle.columns.specs.Questions.{ask}
+use Rattle.columns.proofs.Counting.{length-each, getD-each}
+use Rattle.columns.proofs.Columns.{sets-over}
+use Rattle.columns.proofs.Tests.{and-both}
+use Rattle.engine_columns.specs.Records.{Engine}
+use Rattle.columns_answers.specs.Said.{Answered}
+use Rattle.columns_answers.proofs.Said.{accepts-of, refuses-of}
+use Rattle.engine_columns.specs.Door.{longEnough, sound}
+use Rattle.engine_columns.proofs.Doors.{Long, long-of, Sound, sound-of, met-of, next-of}
+use Rattle.engine_walks.specs.Lists.{bit, delta}
+use Rattle.engine_walks.specs.Graph.{Graph}
+use Rattle.engine_walks.specs.Settling.{State, weightAt, lesser, firstLeast, settled}
+use Rattle.engine_walks.specs.Answers.{left, taken, tableWeight, weightOf, fromLeft, leastFromLeft, nearestRight, crossing}
+use Rattle.query_relaxing.specs.Ready.{graphOf, sources, endOf, sumLimit}
+use Rattle.query_crossing_answer.specs.declared.CrossingReply.{CrossingReply}
+use Rattle.query_crossing_answer.specs.declared.CrossingReply.the-variants.{Crossed, Refused}
+use Rattle.query_search.specs.Search.{Waiting, Searched}
+use Rattle.query_crossing_answer.specs.Crossing.{isJoined, weightFound, said, crossingDoor}
+use Rattle.query_crossing_answer.specs.Codes.{Coded, wherever, codeOf}
+use Rattle.query_questions.specs.Scratch.{isFree}
+
+-- ---- what stands for a weight
+
+pub coded-of : (s : State) (p : Option ℕ) → ((v : ℕ) → weightAt s v < sumLimit) → Coded (codeOf (weightOf s p)) (weightOf s p)
+coded-of s none h = refl
+coded-of s (some v) h = (refl, h v)
+
+-- ---- what becomes of a code
+
+pub reply-of : (r : ℕ) (c : Option ℕ) → Coded r c → Answered (said (cond (eqb r 2147483648) (Refused 18) (Crossed r))) (ask (isJoined c) 18 0) (weightFound c) 0
+reply-of r none e = rw (eq-eqb r 2147483648 e) (refuses-of refl (λ q. absurd (omega arith)))
+reply-of r (some w) (e, h) = rw (ne-eqb r 2147483648 (λ q. omega arith), e) (accepts-of refl)
+
+pub column-of : (r : ℕ) (c : Option ℕ) (column weights₀ : List ℤ) → Coded r c → cond (eqb r 2147483648) weights₀ (sets weights₀ 0 column) ≡ wherever c column weights₀
+column-of r none column weights₀ e = ap (λ b. cond b weights₀ (sets weights₀ 0 column)) (eq-eqb r 2147483648 e)
+column-of r (some w) column weights₀ (e, h) = ap (λ b. cond b weights₀ (sets weights₀ 0 column)) (ne-eqb r 2147483648 (λ q. omega arith))
+
+pub column-after : (c : Option ℕ) (column weights₀ : List ℤ) → length column ≤ length weights₀ → wherever c column weights₀ ≡ after (ask (isJoined c) 18 0) column weights₀
+column-after none column weights₀ h = refl
+column-after (some w) column weights₀ h = sets-over weights₀ column h
+
+-- ---- the sources
+
+module _ (n : ℕ) (a b m : List ℕ) (fits : length m ≡ n) where
+  abbrev first : List ℕ
+  first = each n (λ v. delta (getD m v 0) 1)
+
+  past : (v : ℕ) → n ≤ v → getD m v 0 ≡ 0
+  past v h = List·getD-eq-default m 0 {n = v} (omega arith)
+
+  past-first : (v : ℕ) → n ≤ v → getD first v 0 ≡ 0
+  past-first v h = List·getD-eq-default first 0 {n = v} (omega (arith, length-each n (λ v. delta (getD m v 0) 1)))
+
+  one-bit : (x : ℕ) → eqb (delta x 1) 1 ≡ eqb x 1
+  one-bit x = go (eqb x 1)
+    where
+      go : (b : Bool) → eqb (bit b) 1 ≡ b
+      go true = refl
+      go false = refl
+
+  pub sources-left : sources first ≡ left (graphOf n a b m)
+  sources-left = λ i v. one v i
+    where
+      one : (v : ℕ) → eqb (getD first v 0) 1 ≡ eqb (getD m v 0) 1
+      one v = elim (decLt v n) [
+        | yes h ↦ ap (λ k. eqb k 1) (getD-each n (λ v. delta (getD m v 0) 1) 0 v h) ∙ one-bit (getD m v 0)
+        | no h ↦ ap (λ k. eqb k 1) (past-first v (omega arith)) ∙ ap (λ k. eqb k 1) (sym (past v (omega arith)))
+      ]
+
+  bit-small : (x : ℕ) → delta x 1 ≤ 1
+  bit-small x = go (eqb x 1)
+    where
+      go : (b : Bool) → bit b ≤ 1
+      go true = omega arith
+      go false = omega arith
+
+  pub waiting-left : (stop : ℕ) → stop ≡ n → Waiting n first stop
+  waiting-left stop e = record {
+    fits = length-each n (λ v. delta (getD m v 0) 1);
+    bytes = λ v. elim (decLt v n) [
+      | yes h ↦ omega (arith, getD-each n (λ v. delta (getD m v 0) 1) 0 v h, bit-small (getD m v 0))
+      | no h ↦ omega (arith, past-first v (omega arith))
+    ];
+    no-source = λ q. omega (arith, past-first stop (omega arith));
+  }
+
+  pub settled-left : (w : ℕ → ℕ) → settled (graphOf n a b m) w (sources first) (endOf n n) ≡ fromLeft (graphOf n a b m) w
+  unfolding fromLeft
+  settled-left w = ap (λ f. settled (graphOf n a b m) w f (endOf n n)) sources-left
+      ∙ ap (λ k. settled (graphOf n a b m) w (left (graphOf n a b m)) (cond k (some n) none)) (le-ltb n n (omega arith))
+
+-- ---- the door
+
+pub door-passed : (e : Engine) (scratch : Bool) (weights next : ℕ) → crossingDoor e scratch weights 0 ≡ 0 → crossingDoor e scratch weights next ≡ next
+door-passed e scratch weights next z = go (longEnough 0 e && (leb (e .counts .vertices) weights && scratch)) (sound e) z
+  where
+    go : (p q : Bool) → ask p 6 (ask q 7 0) ≡ 0 → ask p 6 (ask q 7 next) ≡ next
+    go true true z = refl
+    go true false z = absurd (omega arith)
+    go false q z = absurd (omega arith)
+
+pub door-refused : (e : Engine) (scratch : Bool) (weights next : ℕ) → (crossingDoor e scratch weights 0 ≡ 0 → ⊥) → crossingDoor e scratch weights next ≡ crossingDoor e scratch weights 0
+door-refused e scratch weights next f = go (longEnough 0 e && (leb (e .counts .vertices) weights && scratch)) (sound e) f
+  where
+    go : (p q : Bool) → (ask p 6 (ask q 7 0) ≡ 0 → ⊥) → ask p 6 (ask q 7 next) ≡ ask p 6 (ask q 7 0)
+    go true true f = absurd (f refl)
+    go true false f = refl
+    go false q f = refl
+
+pub record CrossingAsked (e : Engine) (scratch : Bool) (weights : ℕ) : Type 0 where
+  pub long : Long 0 e
+  pub weights-long : e .counts .vertices ≤ weights
+  pub scratch-is : scratch ≡ true
+  pub sound : Sound e
+
+pub crossing-of : (e : Engine) (scratch : Bool) (weights : ℕ) → crossingDoor e scratch weights 0 ≡ 0 → CrossingAsked e scratch weights
+crossing-of e scratch weights z =
+    let fits = leb (e .counts .vertices) weights && scratch in
+    let q2 = ask (sound e) 7 0 in
+    let (p, q) = and-both (longEnough 0 e) fits (met-of (longEnough 0 e && fits) 6 q2 (omega arith) z) in
+    let (w, s) = and-both (leb (e .counts .vertices) weights) scratch q in
+    record {
+      long = long-of 0 e p;
+      weights-long = leb-true _ _ w;
+      scratch-is = s;
+      sound = sound-of e (met-of (sound e) 7 0 (omega arith) (next-of (longEnough 0 e && fits) 6 q2 (omega arith) z));
+    }
+
+-- ---- what a settled state says of the crossing
+
+light-all : (s : State) (n : ℕ) → length (s .weight) ≡ n → ((v : ℕ) → v < n → weightAt s v < sumLimit) → (v : ℕ) → weightAt s v < sumLimit
+light-all s n e h v = elim (decLt v n) [
+  | yes l ↦ h v l
+  | no l ↦ omega (arith, List·getD-eq-default (s .weight) 0 {n = v} (omega arith))
+]
+
+module _ (g : Graph) (w : ℕ → ℕ) (s : State) (state : s ≡ fromLeft g w) where
+  pub found-is : (r k : ℕ) → k ≡ g .vertices → length (s .weight) ≡ g .vertices → ((v : ℕ) → v < g .vertices → weightAt s v < sumLimit)
+      → r ≡ codeOf (weightOf s (firstLeast (λ v. eqb (getD (g .boundary) v 0) 2 && taken s v) (weightAt s) k)) → Coded r (crossing g w)
+  unfolding crossing nearestRight
+  found-is r k e fits light q =
+      subst (λ x. Coded x (weightOf (fromLeft g w) (nearestRight g w)))
+      (sym (q ∙ (λ i. codeOf (weightOf (state i) (firstLeast (λ v. eqb (getD (g .boundary) v 0) 2 && taken (state i) v) (weightAt (state i)) (e i))))))
+      (coded-of (fromLeft g w) (nearestRight g w) (subst (λ t. (v : ℕ) → weightAt t v < sumLimit) state (light-all s (g .vertices) fits light)))
+
+  pub column-is : (r k : ℕ) (out₀ out : List ℤ) → k ≡ g .vertices → Coded r (crossing g w)
+      → out ≡ cond (eqb r 2147483648) out₀ (sets out₀ 0 (each k (tableWeight s))) → out ≡ wherever (crossing g w) (leastFromLeft g w) out₀
+  unfolding leastFromLeft
+  column-is r k out₀ out e coded q =
+      q ∙ (λ i. cond (eqb r 2147483648) out₀ (sets out₀ 0 (each (e i) (tableWeight (state i))))) ∙ column-of r (crossing g w) (leastFromLeft g w) out₀ coded
+
+pub left-length : (g : Graph) (w : ℕ → ℕ) → length (leastFromLeft g w) ≡ g .vertices
+unfolding leastFromLeft
+left-length g w = length-each (g .vertices) (tableWeight (fromLeft g w))
+
+-- ---- scratch
+
+-- the same number of vertices by another name
+pub searched-as : {n n′ : ℕ} {a b m numbers₀ numbers ends status weight previous node leaf : List ℕ} (w : ℕ → ℕ) → n ≡ n′
+    → Searched (graphOf n a b m) (fromLeft (graphOf n a b m) w) numbers₀ numbers ends status weight previous node leaf
+    → Searched (graphOf n′ a b m) (fromLeft (graphOf n′ a b m) w) numbers₀ numbers ends status weight previous node leaf
+searched-as {a = a} {b} {m} {numbers₀} {numbers} {ends} {status} {weight} {previous} {node} {leaf} w e h =
+    subst (λ k. Searched (graphOf k a b m) (fromLeft (graphOf k a b m) w) numbers₀ numbers ends status weight previous node leaf) e h
+
+-- scratch is free after success and after 18
+pub free-number : (c : Option ℕ) → isFree (ask (isJoined c) 18 0) ≡ true
+free-number none = refl
+free-number (some w) = refl
+
+-- 6 and 7 leave it as it was
+pub kept-number : (e : Engine) (scratch : Bool) (weights : ℕ) → (crossingDoor e scratch weights 0 ≡ 0 → ⊥) → isFree (crossingDoor e scratch weights 0) ≡ false
+kept-number e scratch weights f = go (longEnough 0 e && (leb (e .counts .vertices) weights && scratch)) (sound e) f
+  where
+    go : (p q : Bool) → (ask p 6 (ask q 7 0) ≡ 0 → ⊥) → isFree (ask p 6 (ask q 7 0)) ≡ false
+    go true true f = absurd (f refl)
+    go true false f = refl
+    go false q f = refl

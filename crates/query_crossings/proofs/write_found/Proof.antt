@@ -1,0 +1,28 @@
+-- `query_crossings::write_found` meets its contract. Assumes nothing.
+use mathlib.Core.Path.{_≡_, refl, sym, ap, _∙_}
+use mathlib.Core.Bool.{Bool, true, false, cond}
+use lib.ListN.{length}
+use lib.Seq.{sets}
+use lib.Dec.{eqb}
+use borrow.Author.Tests.{eq-eqb, ne-eqb}
+use Rattle.columns.specs.Lists.{each}
+use Rattle.engine_walks.specs.Answers.{tableWeight}
+use Rattle.query_relaxing.specs.Ready.{stateOf}
+use borrow.Author.Needs.{needs}
+use Rattle.query_crossings.proofs.write_found.Statement.{statement}
+use Rattle.query_crossings.proofs.write_found.Tie as tie
+
+returns : tie.Need-returns
+returns c = let s = c .before .before .before in λ p. sym (ap (λ b. cond b (s .args .out .now) (sets (s .args .out .now) 0 (each (length (s .args .status .now)) (tableWeight (stateOf (s .args .status .now) (s .args .weight .now) p))))) (eq-eqb (s .args .found) 2147483648 (c .if1 .taken)))
+
+write-weights-requires : tie.Need-write-weights-requires
+write-weights-requires c κs = search needs
+
+same-length : tie.Need-same-length
+same-length c = c .out .given
+
+returns-2 : tie.Need-returns-2
+returns-2 c = let s = c .before .before .before .before .before .before in λ p. c .before .write-weights .ensures p ∙ sym (ap (λ b. cond b (s .args .out .now) (sets (s .args .out .now) 0 (each (length (s .args .status .now)) (tableWeight (stateOf (s .args .status .now) (s .args .weight .now) p))))) (ne-eqb (s .args .found) 2147483648 (c .before .before .before .if1 .left)))
+
+pub write-found-spec : {M : Type 1} → statement M
+write-found-spec = tie.close (tie.spec returns write-weights-requires same-length returns-2)

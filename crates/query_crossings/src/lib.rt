@@ -1,0 +1,152 @@
+// The crossing query: the least weight of a walk from a left to a right vertex, and the least weight from the left of every vertex.
+ghost use mathlib.Core.Path.{_≡_};
+ghost use mathlib.Core.Bool.{cond};
+ghost use mathlib.Core.List.{List};
+ghost use Prim.Native.Nat.{ℕ, _<_, _≤_};
+ghost use lib.ListN.{length, getD};
+ghost use lib.Seq.{sets};
+ghost use lib.Dec.{eqb};
+ghost use Rattle.columns.specs.Lists.{each};
+ghost use Rattle.engine_columns.specs.Records.{engine};
+ghost use Rattle.engine_walks.specs.Answers.{tableWeight, crossing, fromLeft, leastFromLeft};
+ghost use Rattle.query_relaxing.specs.Ready.{graphOf, weighs, stateOf, sumLimit};
+ghost use Rattle.query_questions.specs.Queries.{scratchLong};
+ghost use Rattle.query_questions.specs.Scratch.{scratchOf};
+ghost use Rattle.query_search.specs.Search.{Searchable, Searched};
+ghost use Rattle.query_crossing_answer.specs.Crossing.{CrossingStep, CrossingScratch};
+ghost use Rattle.query_crossing_answer.specs.Codes.{Coded, wherever};
+use columns::Weight;
+use engine_columns::EngineCounts;
+use query_crossing_answer::CrossingReply;
+use query_crossing_answer::NO_WEIGHT;
+use query_crossing_answer::crossing_door;
+use query_crossing_answer::nearest_right;
+use query_crossing_answer::reply;
+use query_questions::scratch_long;
+use query_search::search;
+use query_search::write_weights;
+
+// The crossing weight and, where there is one, the weight column, over columns that hold vertices and edges alone.
+fn run_crossing(
+    ends_a: &[u32],
+    ends_b: &[u32],
+    weights: &[Weight],
+    boundary: &[u8],
+    numbers: &mut [u32],
+    list_ends: &mut [u32],
+    status: &mut [u8],
+    weight: &mut [Weight],
+    previous: &mut [u32],
+    node: &mut [u64],
+    leaf: &mut [u64],
+    out_weight: &mut [i32],
+    vertices: u32,
+) -> Weight
+    requires { ⌜ Searchable (length (now status)) (now «ends_a») (now «ends_b») (now weights) (now numbers) (now «list_ends») (now weight) (now previous) (now node) (now leaf) ⌝ }
+    requires { ⌜ (length (now boundary) ≡ length (now status)) × (vertices ≡ length (now status)) × (length (now status) ≤ length (now «out_weight»)) ⌝ }
+    ensures { λ r. ⌜ Coded r (crossing (graphOf (length (now (status .entry))) (now («ends_a» .entry)) (now («ends_b» .entry)) (now (boundary .entry))) (weighs (now (weights .entry)))) ⌝ }
+    ensures { λ r. ⌜ now («out_weight» .exit) ≡ wherever (crossing (graphOf (length (now (status .entry))) (now («ends_a» .entry)) (now («ends_b» .entry)) (now (boundary .entry))) (weighs (now (weights .entry)))) (leastFromLeft (graphOf (length (now (status .entry))) (now («ends_a» .entry)) (now («ends_b» .entry)) (now (boundary .entry))) (weighs (now (weights .entry)))) (now («out_weight» .entry)) ⌝ }
+    ensures { λ _. ⌜ Searched (graphOf (length (now (status .entry))) (now («ends_a» .entry)) (now («ends_b» .entry)) (now (boundary .entry)))
+        (fromLeft (graphOf (length (now (status .entry))) (now («ends_a» .entry)) (now («ends_b» .entry)) (now (boundary .entry))) (weighs (now (weights .entry))))
+        (now (numbers .entry)) (now (numbers .exit)) (now («list_ends» .exit)) (now (status .exit)) (now (weight .exit)) (now (previous .exit)) (now (node .exit)) (now (leaf .exit)) ⌝ }
+{
+    query_sources::begin_left(status, boundary);
+    search(
+        ends_a,
+        ends_b,
+        weights,
+        numbers,
+        list_ends,
+        status,
+        weight,
+        previous,
+        node,
+        leaf,
+        vertices,
+    );
+    let found = nearest_right(status, weight, boundary);
+    write_found(found, status, weight, out_weight);
+    found
+}
+
+// The weight column, where a crossing weight was found.
+fn write_found(found: Weight, status: &[u8], weight: &[Weight], out: &mut [i32])
+    requires { ⌜ (length (now weight) ≡ length (now status)) × (length (now status) ≤ length (now out)) × ((v : ℕ) → v < length (now status) → getD (now weight) v 0 < sumLimit) ⌝ }
+    ensures { λ _. ⌜ ((p : List ℕ) → now (out .exit) ≡ cond (eqb found 2147483648) (now (out .entry)) (sets (now (out .entry)) 0 (each (length (now (status .entry))) (tableWeight (stateOf (now (status .entry)) (now (weight .entry)) p))))) ⌝ }
+{
+    if found == NO_WEIGHT {
+        return;
+    }
+    write_weights(status, weight, out);
+}
+
+// The least weight of a walk from a left to a right vertex; the weight column then holds the least weight from the left, -1 for unreached.
+// The columns from `numbers` on are scratch.
+pub fn crossing(
+    c: EngineCounts,
+    ends_a: &[u32],
+    ends_b: &[u32],
+    weights: &[Weight],
+    boundary: &[u8],
+    log_edges: &[u32],
+    log_weights: &[Weight],
+    out_weight: &mut [i32],
+    numbers: &mut [u32],
+    list_ends: &mut [u32],
+    status: &mut [u8],
+    weight: &mut [Weight],
+    previous: &mut [u32],
+    node: &mut [u64],
+    leaf: &mut [u64],
+) -> CrossingReply
+    ensures { λ r. ⌜ CrossingStep (engine c (now («ends_a» .entry)) (now («ends_b» .entry)) (now (weights .entry)) (now (boundary .entry)) (now («log_edges» .entry)) (now («log_weights» .entry)))
+        (scratchLong (c .vertices) (c .edges) (length (now (numbers .entry))) (length (now («list_ends» .entry))) (length (now (status .entry))) (length (now (weight .entry))) (length (now (previous .entry))) (length (now (node .entry))) (length (now (leaf .entry))))
+        r (now («out_weight» .entry)) (now («out_weight» .exit)) ⌝ }
+    ensures { λ r. ⌜ CrossingScratch (engine c (now («ends_a» .entry)) (now («ends_b» .entry)) (now (weights .entry)) (now (boundary .entry)) (now («log_edges» .entry)) (now («log_weights» .entry))) r
+        (scratchOf (now (numbers .entry)) (now («list_ends» .entry)) (now (status .entry)) (now (weight .entry)) (now (previous .entry)) (now (node .entry)) (now (leaf .entry)))
+        (scratchOf (now (numbers .exit)) (now («list_ends» .exit)) (now (status .exit)) (now (weight .exit)) (now (previous .exit)) (now (node .exit)) (now (leaf .exit))) ⌝ }
+{
+    let v = c.vertices as usize;
+    let e = c.edges as usize;
+    let scratch = scratch_long(
+        c.vertices,
+        c.edges,
+        numbers.len(),
+        list_ends.len(),
+        status.len(),
+        weight.len(),
+        previous.len(),
+        node.len(),
+        leaf.len(),
+    );
+    let no = crossing_door(
+        c,
+        ends_a,
+        ends_b,
+        weights,
+        boundary,
+        log_edges,
+        log_weights,
+        out_weight.len(),
+        scratch,
+    );
+    if no == 0 {
+        let found = run_crossing(
+            &ends_a[..e],
+            &ends_b[..e],
+            &weights[..e],
+            &boundary[..v],
+            numbers,
+            &mut list_ends[..v],
+            &mut status[..v],
+            &mut weight[..v],
+            &mut previous[..v],
+            &mut node[..v],
+            &mut leaf[..v],
+            out_weight,
+            c.vertices,
+        );
+        return reply(found);
+    }
+    CrossingReply::Refused(no)
+}

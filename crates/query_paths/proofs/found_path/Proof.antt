@@ -1,0 +1,90 @@
+-- `query_paths::found_path` meets its contract. Assumes nothing.
+use mathlib.Core.Path.{_≡_, refl, sym, ap, _∙_, subst}
+use Prim.Native.Nat.{ℕ, zero, suc, _+_, _*_, _-_, _<_, _≤_}
+use native.Mathlib.Omega.{arith}
+use mathlib.Core.Bool.{Bool, true, false, cond}
+use mathlib.Core.List.{List, map}
+use mathlib.Core.Option.{Option, some, none}
+use lib.ListN.{length, getD, length-map}
+use lib.Seq.{sets}
+use Rattle.columns.proofs.Columns.{sets-over}
+use Rattle.engine_walks.specs.Settling.{State, weightAt}
+use Rattle.engine_walks.specs.Answers.{readBack, stepInto, taken, FoundPath}
+use Rattle.query_relaxing.specs.Ready.{stateOf}
+use Rattle.query_paths.specs.declared.PathAnswer.the-variants.{Found, Refused}
+use Rattle.query_read_back.specs.Path.{pathOf}
+use Rattle.query_paths.specs.GetPath.{PathSaid, verticesAfter, stepsAfter}
+use Rattle.columns_answers.proofs.Said.{accepts-of, refuses-of}
+use Rattle.query_read_back.proofs.Back.{read-short}
+use Rattle.query_paths.proofs.found_path.Statement.{statement}
+use Rattle.query_paths.proofs.found_path.Tie as tie
+
+is-taken-requires : tie.Need-is-taken-requires
+is-taken-requires c κs = tt
+
+path-length-requires : tie.Need-path-length-requires
+path-length-requires c κs = tt
+
+write-path-requires : tie.Need-write-path-requires
+write-path-requires c κs =
+    let s = c .before .before .before .before .before .before .before .before .before .before in
+    let e = c .before .before .path-length .ensures (s .args .weight .now) in
+    let l = read-short (stateOf (s .args .status .now) (s .args .weight .now) (s .args .previous .now)) (s .args .a) (length (s .args .status .now)) (s .args .b) in
+    (e, omega (arith, e, l, s .pre .1), omega (arith, e, l, s .pre .2))
+
+cast-t15 : tie.Need-cast-t15
+cast-t15 c =
+    let s = c .before .before .before .before .before .before .before .before .before .before .before .before .before .before .before in
+    let e = c .before .before .before .before .before .before .before .path-length .ensures (s .args .weight .now) in
+    let l = read-short (stateOf (s .args .status .now) (s .args .weight .now) (s .args .previous .now)) (s .args .a) (length (s .args .status .now)) (s .args .b) in
+    omega (arith, e, l, s .pre .0)
+
+load-requires : tie.Need-load-requires
+load-requires c κs = tt
+
+same-length : tie.Need-same-length
+same-length c = c .before .before .before .before .out-vertices .given
+
+same-length-2 : tie.Need-same-length-2
+same-length-2 c = c .before .before .out-steps .given
+
+returns : tie.Need-returns
+returns c =
+    let s = c .before .before .before .before .before .before .before .before .before .before .before .before .before .before .before .before in
+    let st : State = stateOf (s .args .status .now) (s .args .weight .now) (s .args .previous .now) in
+    let n = length (s .args .status .now) in
+    let vs : List ℕ = readBack st (s .args .a) n (s .args .b) in
+    let cs : List ℕ = map (stepInto st) vs in
+    let e = c .before .before .before .before .before .before .before .before .path-length .ensures (s .args .weight .now) in
+    let l = read-short st (s .args .a) n (s .args .b) in
+    let m = length-map vs (stepInto st) in
+    let t : taken st (s .args .b) ≡ true = sym (c .before .before .before .before .before .before .before .before .before .before .is-taken .ensures (s .args .weight .now) (s .args .previous .now)) ∙ c .before .before .before .before .before .before .before .before .before .if1 .taken in
+    let p : pathOf st n (s .args .a) (s .args .b) ≡ some (record { vertices = vs; steps = cs; total = weightAt st (s .args .b) }) =
+    ap (λ k. cond k (some (record { vertices = vs; steps = cs; total = weightAt st (s .args .b) })) none) t in (
+      subst (λ o. PathSaid 0 o (Found (c .before .before .before .before .before .before .before .before .path-length .result) (c .load .result))) (sym p) (rw (e, c .load .ensures) (accepts-of refl)),
+      (c .before .before .before .before .before .write-path .ensures .0 ∙ sets-over (s .args .out-vertices .now) vs (omega (arith, l, s .pre .1)) ∙ sym (ap (λ o. verticesAfter o (s .args .out-vertices .now)) p), c .before .before .before .before .before .write-path .ensures .1 ∙ sets-over (s .args .out-steps .now) cs (omega (arith, l, m, s .pre .2)) ∙ sym (ap (λ o. stepsAfter o (s .args .out-steps .now)) p)),
+    )
+
+returns-2 : tie.Need-returns-2
+returns-2 c =
+    let s = c .before .before .before .before .before .before .before in
+    let st : State = stateOf (s .args .status .now) (s .args .weight .now) (s .args .previous .now) in
+    let n = length (s .args .status .now) in
+    let t : taken st (s .args .b) ≡ false = sym (c .before .is-taken .ensures (s .args .weight .now) (s .args .previous .now)) ∙ c .if1 .left in
+    let p : none ≡ pathOf st n (s .args .a) (s .args .b) =
+    ap (λ k. cond k (some (record { vertices = readBack st (s .args .a) n (s .args .b); steps = map (stepInto st) (readBack st (s .args .a) n (s .args .b)); total = weightAt st (s .args .b) })) none) (sym t) in
+    (subst (λ o. PathSaid 0 o (Refused 17)) p (refuses-of refl (λ z. absurd (omega arith))), (ap (λ o. verticesAfter o (s .args .out-vertices .now)) p, ap (λ o. stepsAfter o (s .args .out-steps .now)) p))
+
+pub found-path-spec : {M : Type 1} → statement M
+found-path-spec =
+    tie.close
+    (tie.spec
+    is-taken-requires
+    path-length-requires
+    write-path-requires
+    cast-t15
+    load-requires
+    same-length
+    same-length-2
+    returns
+    returns-2)

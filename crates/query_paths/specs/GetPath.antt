@@ -1,0 +1,73 @@
+-- What `get_path` answers and leaves in the columns that it writes.
+use Prim.Native.Nat.{ℕ, zero, suc}
+use mathlib.Core.Path.{_≡_}
+use mathlib.Core.Logic.{_≢_}
+use mathlib.Core.Bool.{Bool, true, false, not, cond, _&&_}
+use mathlib.Core.List.{List}
+use mathlib.Core.Option.{Option, some, none}
+use lib.ListN.{length}
+use lib.Dec.{leb, ltb, eqb}
+use Rattle.columns.specs.Lists.{over}
+use Rattle.columns.specs.Questions.{ask}
+use Rattle.columns_answers.specs.Said.{Said, accepts, refuses, Answered}
+use Rattle.engine_columns.specs.Records.{Engine}
+use Rattle.engine_walks.specs.Answers.{FoundPath, path}
+use Rattle.query_paths.specs.declared.PathAnswer.{PathAnswer}
+use Rattle.query_paths.specs.declared.PathAnswer.the-variants.{Found, Refused}
+use Rattle.query_questions.specs.Queries.{graphIn, weightsIn, queryDoor}
+use Rattle.query_questions.specs.Scratch.{ScratchColumns}
+
+-- document 01's number and values for each case: the path's length and total, both 0 at a refusal
+abbrev pub said : PathAnswer → Said (ℕ × ℕ)
+said (Found len total) = accepts (len, total)
+said (Refused n) = refuses n (0, 0)
+
+abbrev pub lengthOf : PathAnswer → ℕ
+lengthOf r = said r .values .0
+
+abbrev pub totalOf : PathAnswer → ℕ
+totalOf r = said r .values .1
+
+-- the number of the first question before 17 that is not met, or 0: 6, 7, 13, 16; `scratch` says whether scratch is long enough
+abbrev pub pathDoor : Engine → (scratch : Bool) (a b vertices steps : ℕ) → ℕ
+pathDoor e scratch a b vertices steps =
+    queryDoor e (leb (e .counts .vertices) vertices && (leb (e .counts .vertices) steps && scratch)) (ltb a (e .counts .vertices) && ltb b (e .counts .vertices))
+    (ask (not (eqb a b)) 16 0)
+
+-- 17: whether there is a path; its length and total, 0 if there is none
+abbrev pub isFound : Option FoundPath → Bool
+isFound none = false
+isFound (some p) = true
+
+abbrev pub lengthAndTotal : Option FoundPath → ℕ × ℕ
+lengthAndTotal none = (0, 0)
+lengthAndTotal (some p) = (length (p .vertices), p .total)
+
+-- the number of the first question that is not met, or 0: the door's, then 17
+abbrev pub pathNumber : (door : ℕ) → Option FoundPath → ℕ
+pathNumber zero p = ask (isFound p) 17 0
+pathNumber (suc n) p = suc n
+
+-- the answer, where the door's number and the path are known
+abbrev pub PathSaid : (door : ℕ) → Option FoundPath → PathAnswer → Type 0
+PathSaid door p r = Answered (said r) (pathNumber door p) (lengthAndTotal p) (0, 0)
+
+-- the columns after a search: places past the path's length are unchanged, and all places where there is no path
+abbrev pub verticesAfter : Option FoundPath → List ℕ → List ℕ
+verticesAfter none column = column
+verticesAfter (some p) column = over (p .vertices) column
+
+abbrev pub stepsAfter : Option FoundPath → List ℕ → List ℕ
+stepsAfter none column = column
+stepsAfter (some p) column = over (p .steps) column
+
+-- the answer, and both columns of the path
+pub record PathStep (e : Engine) (scratch : Bool) (a b : ℕ) (r : PathAnswer) (vertices₀ steps₀ vertices steps : List ℕ) : Type 0 where
+  pub answer : PathSaid (pathDoor e scratch a b (length vertices₀) (length steps₀)) (path (graphIn e) (weightsIn e) a b) r
+  pub vertices-left : vertices ≡ cond (eqb (pathDoor e scratch a b (length vertices₀) (length steps₀)) 0) (verticesAfter (path (graphIn e) (weightsIn e) a b) vertices₀) vertices₀
+  pub steps-left : steps ≡ cond (eqb (pathDoor e scratch a b (length vertices₀) (length steps₀)) 0) (stepsAfter (path (graphIn e) (weightsIn e) a b) steps₀) steps₀
+
+-- a refused call leaves scratch as it was, unless its number is 17; after 17 and after success it may hold anything
+abbrev pub PathScratchKept : PathAnswer → ScratchColumns → ScratchColumns → Type 0
+PathScratchKept (Found len total) s₀ s = Unit {0}
+PathScratchKept (Refused n) s₀ s = n ≢ 17 → s ≡ s₀

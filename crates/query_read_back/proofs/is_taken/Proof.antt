@@ -1,0 +1,24 @@
+-- `query_read_back::is_taken` meets its contract. Assumes nothing.
+use mathlib.Core.Path.{_≡_, refl, sym, ap, _∙_, subst}
+use Prim.Native.Nat.{ℕ, zero, suc, _+_, _*_, _-_, _<_, _≤_}
+use native.Mathlib.Omega.{arith}
+use mathlib.Core.Bool.{Bool, true, false, cond}
+use mathlib.Core.List.{List, map}
+use mathlib.Core.Option.{Option, some, none}
+use lib.ListN.{length, getD, List·getD-eq-default}
+use lib.Dec.{eqb}
+use borrow.Author.Needs.{needs}
+use Rattle.query_read_back.proofs.is_taken.Statement.{statement}
+use Rattle.query_read_back.proofs.is_taken.Tie as tie
+
+shared-slice-read-result : tie.Need-shared-slice-read-result
+shared-slice-read-result c = search needs
+
+returns : tie.Need-returns
+returns c = search needs
+
+returns-2 : tie.Need-returns-2
+returns-2 c = let s = c .before in let h : length (s .args .status .now) ≤ s .args .v = omega (arith, c .if1 .left) in λ w p. ap (λ k. eqb k 2) (sym (List·getD-eq-default (s .args .status .now) 0 {n = s .args .v} h))
+
+pub is-taken-spec : {M : Type 1} → statement M
+is-taken-spec = tie.close (tie.spec shared-slice-read-result returns returns-2)

@@ -1,0 +1,31 @@
+-- `query_read_back::load` meets its contract. Assumes nothing.
+use mathlib.Core.Path.{_≡_, refl, sym, ap, _∙_, subst}
+use Prim.Native.Nat.{ℕ, zero, suc, _+_, _*_, _-_, _<_, _≤_}
+use native.Mathlib.Omega.{arith}
+use mathlib.Core.Bool.{true, false, cond}
+use mathlib.Core.List.{List, []}
+use mathlib.Core.Option.{Option, some, none}
+use lib.ListN.{length, getD, List·getD-eq-default}
+use lib.Dec.{eqb}
+use borrow.Author.Tests.{eq-eqb, ne-eqb}
+use Rattle.engine_walks.specs.Answers.{entry, readBack}
+use Rattle.query_relaxing.specs.Ready.{stateOf}
+use Rattle.query_read_back.specs.Path.{entryOf, stepBack}
+use borrow.Author.Needs.{needs}
+use Rattle.query_read_back.proofs.load.Statement.{statement}
+use Rattle.query_read_back.proofs.load.Tie as tie
+
+mul-result : tie.Need-mul-result
+mul-result c = search needs
+
+shared-slice-read-result : tie.Need-shared-slice-read-result
+shared-slice-read-result c = search needs
+
+returns : tie.Need-returns
+returns c = search needs
+
+returns-2 : tie.Need-returns-2
+returns-2 c = let s = c .before .args in sym (List·getD-eq-default (s .column .now) 0 {n = s .v} (c .if1 .left))
+
+pub load-spec : {M : Type 1} → statement M
+load-spec = tie.close (tie.spec mul-result shared-slice-read-result returns returns-2)

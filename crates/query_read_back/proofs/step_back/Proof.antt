@@ -1,0 +1,38 @@
+-- `query_read_back::step_back` meets its contract. Assumes nothing.
+use mathlib.Core.Path.{_≡_, refl, sym, ap, _∙_, subst}
+use Prim.Native.Nat.{ℕ, zero, suc, _+_, _*_, _-_, _<_, _≤_}
+use native.Mathlib.Omega.{arith}
+use mathlib.Core.Bool.{true, false, cond}
+use mathlib.Core.List.{List, []}
+use mathlib.Core.Option.{Option, some, none}
+use lib.ListN.{length, getD, List·getD-eq-default}
+use lib.Dec.{eqb}
+use borrow.Author.Tests.{eq-eqb, ne-eqb}
+use Rattle.engine_walks.specs.Answers.{entry, readBack}
+use Rattle.query_relaxing.specs.Ready.{stateOf}
+use Rattle.query_read_back.specs.Path.{entryOf, stepBack}
+use borrow.Author.Needs.{needs}
+use Rattle.query_read_back.proofs.step_back.Statement.{statement}
+use Rattle.query_read_back.proofs.step_back.Tie as tie
+
+returns : tie.Need-returns
+returns c = let s = c .before .before .before in λ w. ap (λ b. entryOf (cond b none (entry (stateOf (s .args .status .now) w (s .args .previous .now)) (s .args .v)))) (sym (eq-eqb (s .args .v) (s .args .a) (c .if1 .taken)))
+
+entry-at-requires : tie.Need-entry-at-requires
+entry-at-requires c κs = tt
+
+enum-known-p : tie.Need-enum-known-p
+enum-known-p c = search needs
+
+enum-told : tie.Need-enum-told
+enum-told c = search needs
+
+returns-2 : tie.Need-returns-2
+returns-2 c = let s = c .before .before .before .before .before .before in λ w. sym (c .enum-told .given .1) ∙ c .before .before .entry-at .ensures w ∙ ap (λ b. entryOf (cond b none (entry (stateOf (s .args .status .now) w (s .args .previous .now)) (s .args .v)))) (sym (ne-eqb (s .args .v) (s .args .a) (c .before .before .before .if1 .left)))
+
+returns-3 : tie.Need-returns-3
+returns-3 c = let s = c .before .before .before .before .before .before .before in λ w. sym (c .before .p .given .1) ∙ c .before .before .before .entry-at .ensures w ∙ ap (λ b. entryOf (cond b none (entry (stateOf (s .args .status .now) w (s .args .previous .now)) (s .args .v)))) (sym (ne-eqb (s .args .v) (s .args .a) (c .before .before .before .before .if1 .left)))
+
+pub step-back-spec : {M : Type 1} → statement M
+step-back-spec =
+    tie.close (tie.spec returns entry-at-requires enum-known-p enum-told returns-2 returns-3)

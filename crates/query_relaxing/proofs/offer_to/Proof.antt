@@ -1,0 +1,85 @@
+-- `query_relaxing::offer_to` meets its contract. Assumes nothing.
+use mathlib.Core.Path.{_≡_, refl, sym, ap, ap₂, _∙_}
+use Prim.Native.Nat.{ℕ, zero, suc, _+_, _*_, _<_, _≤_}
+use native.Mathlib.Omega.{arith}
+use mathlib.Core.Bool.{true, false, cond}
+use Rattle.engine_walks.specs.Settling.{statusAt, weightAt, previousAt, changes, waits}
+use Rattle.query_relaxing.specs.Ready.{stateOf, accepts}
+use Rattle.query_relaxing.proofs.Keys.{offer-by}
+use borrow.Author.Needs.{needs}
+use Rattle.query_relaxing.proofs.offer_to.Statement.{statement}
+use Rattle.query_relaxing.proofs.offer_to.Tie as tie
+
+mul-tie-rule : tie.Need-mul-tie-rule
+mul-tie-rule c = omega (arith, c .before .before .before .before .before .pre .0 .few)
+
+slice-read-tie-rule : tie.Need-slice-read-tie-rule
+slice-read-tie-rule c = omega (arith, c .before .before .before .before .before .before .pre .0 .weight-fits)
+
+mul-tie-rule-2 : tie.Need-mul-tie-rule-2
+mul-tie-rule-2 c = omega (arith, c .before .before .before .before .before .before .pre .0 .few)
+
+slice-read-tie-rule-2 : tie.Need-slice-read-tie-rule-2
+slice-read-tie-rule-2 c = omega (arith, c .before .before .before .before .before .before .before .pre .0 .previous-fits)
+
+tie-rule-requires : tie.Need-tie-rule-requires
+tie-rule-requires c κs = tt
+
+slice-read-is-accepted : tie.Need-slice-read-is-accepted
+slice-read-is-accepted c = search needs
+
+is-accepted-requires : tie.Need-is-accepted-requires
+is-accepted-requires c κs = tt
+
+wait-requires : tie.Need-wait-requires
+wait-requires c κs = let s = c .before .before .before .before .before .before .before .before .before .before .before .before .before .before .before .before in (s .pre .0, s .pre .1)
+
+same-length : tie.Need-same-length
+same-length c = c .before .before .before .before .before .before .before .before .before .status .given
+
+same-length-2 : tie.Need-same-length-2
+same-length-2 c = c .before .before .before .before .before .before .before .weight .given
+
+same-length-3 : tie.Need-same-length-3
+same-length-3 c = c .before .before .before .before .before .previous .given
+
+same-length-4 : tie.Need-same-length-4
+same-length-4 c = c .before .before .before .node .given
+
+same-length-5 : tie.Need-same-length-5
+same-length-5 c = c .before .leaf .given
+
+returns : tie.Need-returns
+returns c =
+    let s = c .before .before .before .before .before .before .before .before .before .before .before .before .before .before .before .before .before .before .before .before .before .before .before .before .before .before .before in
+    let st = stateOf (s .args .status .now) (s .args .weight .now) (s .args .previous .now) in
+    let w = c .before .before .before .before .before .before .before .before .before .before .wait .ensures in
+    let e : accepts (statusAt st (s .args .u)) (changes (s .args .u) (s .args .k) (s .args .q) (weightAt st (s .args .u)) (previousAt st (s .args .u))) ≡ true = ap (accepts (statusAt st (s .args .u))) (sym (c .before .before .before .before .before .before .before .before .before .before .before .before .before .before .before .before .before .before .before .tie-rule .ensures)) ∙ sym (c .before .before .before .before .before .before .before .before .before .before .before .before .before .before .before .before .before .is-accepted .ensures) ∙ c .before .before .before .before .before .before .before .before .before .before .before .before .before .before .before .before .if1 .taken in
+    (w .0 ∙ ap (λ b. cond b (waits (s .args .u) (s .args .k) (s .args .a) st) st) (sym e) ∙ sym (offer-by (s .args .a) (s .args .q) (s .args .u) (s .args .k) st), w .1)
+
+returns-2 : tie.Need-returns-2
+returns-2 c =
+    let s = c .before .before .before .before .before .before .before .before .before .before .before in
+    let st = stateOf (s .args .status .now) (s .args .weight .now) (s .args .previous .now) in
+    let e : accepts (statusAt st (s .args .u)) (changes (s .args .u) (s .args .k) (s .args .q) (weightAt st (s .args .u)) (previousAt st (s .args .u))) ≡ false = ap (accepts (statusAt st (s .args .u))) (sym (c .before .before .before .tie-rule .ensures)) ∙ sym (c .before .is-accepted .ensures) ∙ c .if1 .left in
+    (ap (λ b. cond b (waits (s .args .u) (s .args .k) (s .args .a) st) st) (sym e) ∙ sym (offer-by (s .args .a) (s .args .q) (s .args .u) (s .args .k) st), s .pre .0)
+
+pub offer-to-spec : {M : Type 1} → statement M
+offer-to-spec =
+    tie.close
+    (tie.spec
+    mul-tie-rule
+    slice-read-tie-rule
+    mul-tie-rule-2
+    slice-read-tie-rule-2
+    tie-rule-requires
+    slice-read-is-accepted
+    is-accepted-requires
+    wait-requires
+    same-length
+    same-length-2
+    same-length-3
+    same-length-4
+    same-length-5
+    returns
+    returns-2)

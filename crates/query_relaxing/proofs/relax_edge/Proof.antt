@@ -1,0 +1,89 @@
+-- `query_relaxing::relax_edge` meets its contract. Assumes nothing.
+use mathlib.Core.Path.{_≡_, refl, sym, ap, ap₂, _∙_}
+use Prim.Native.Nat.{ℕ, zero, suc, _+_, _*_, _<_, _≤_}
+use native.Mathlib.Omega.{arith}
+use lib.ListN.{length, getD}
+use Rattle.engine_walks.specs.Settling.{offer}
+use Rattle.query_relaxing.specs.Ready.{stateOf, graphOf, weighs}
+use Rattle.query_relaxing.proofs.Keys.{other-in, edge-by}
+use borrow.Author.Needs.{needs}
+use Rattle.query_relaxing.proofs.relax_edge.Statement.{statement}
+use Rattle.query_relaxing.proofs.relax_edge.Tie as tie
+
+mul-other-end : tie.Need-mul-other-end
+mul-other-end c = search needs
+
+shared-slice-read-other-end : tie.Need-shared-slice-read-other-end
+shared-slice-read-other-end c = omega (arith, c .before .before .before .before .before .before .before .before .before .pre .1 .0)
+
+mul-other-end-2 : tie.Need-mul-other-end-2
+mul-other-end-2 c = search needs
+
+shared-slice-read-other-end-2 : tie.Need-shared-slice-read-other-end-2
+shared-slice-read-other-end-2 c = omega (arith, c .before .before .before .before .before .before .before .before .before .before .pre .1 .0)
+
+other-end-requires : tie.Need-other-end-requires
+other-end-requires c κs = tt
+
+mul-offer-to : tie.Need-mul-offer-to
+mul-offer-to c = search needs
+
+shared-slice-read-offer-to : tie.Need-shared-slice-read-offer-to
+shared-slice-read-offer-to c = omega (arith, c .before .before .before .before .before .before .before .before .before .before .before .before .before .before .before .before .before .pre .1 .0)
+
+add-offer-to : tie.Need-add-offer-to
+add-offer-to c = omega (arith, c .before .before .before .before .before .before .before .before .before .before .before .before .before .before .before .before .before .pre .1 .0)
+
+offer-to-requires : tie.Need-offer-to-requires
+offer-to-requires c κs =
+    let s = c .before .before .before .before .before .before .before .before .before .before .before .before .before .before .before .before .before in
+    let x = getD (s .args .ends-a .now) (s .args .e) 0 in
+    let y = getD (s .args .ends-b .now) (s .args .e) 0 in
+    (s .pre .0, (rw (c .before .before .before .before .before .before .other-end .ensures) (other-in x y (s .args .a) (length (s .args .status .now)) (s .pre .1 .1 .0 .0) (s .pre .1 .1 .0 .1)), s .pre .1 .0 .3))
+
+same-length : tie.Need-same-length
+same-length c = c .before .before .before .before .before .before .before .before .before .status .given
+
+same-length-2 : tie.Need-same-length-2
+same-length-2 c = c .before .before .before .before .before .before .before .weight .given
+
+same-length-3 : tie.Need-same-length-3
+same-length-3 c = c .before .before .before .before .before .previous .given
+
+same-length-4 : tie.Need-same-length-4
+same-length-4 c = c .before .before .before .node .given
+
+same-length-5 : tie.Need-same-length-5
+same-length-5 c = c .before .leaf .given
+
+returns : tie.Need-returns
+returns c =
+    let s = c .before .before .before .before .before .before .before .before .before .before .before .before .before .before .before .before .before .before .before .before .before .before .before .before .before .before .before .before in
+    let o = c .before .before .before .before .before .before .before .before .before .before .offer-to .ensures in (
+      λ n m.
+          let g = graphOf n (s .args .ends-a .now) (s .args .ends-b .now) m in
+          let w = weighs (s .args .weights .now) in
+          o .0 ∙ ap (λ u. offer (s .args .a) (s .args .q) u (s .args .w + w (s .args .e)) (stateOf (s .args .status .now) (s .args .weight .now) (s .args .previous .now))) (c .before .before .before .before .before .before .before .before .before .before .before .before .before .before .before .before .before .other-end .ensures)
+          ∙ sym (edge-by g w (s .args .a) (s .args .q) (s .args .w) (s .args .e) (stateOf (s .args .status .now) (s .args .weight .now) (s .args .previous .now)) (s .pre .1 .1 .1)),
+      o .1,
+    )
+
+pub relax-edge-spec : {M : Type 1} → statement M
+relax-edge-spec =
+    tie.close
+    (tie.spec
+    mul-other-end
+    shared-slice-read-other-end
+    mul-other-end-2
+    shared-slice-read-other-end-2
+    other-end-requires
+    mul-offer-to
+    shared-slice-read-offer-to
+    add-offer-to
+    offer-to-requires
+    same-length
+    same-length-2
+    same-length-3
+    same-length-4
+    same-length-5
+    returns)

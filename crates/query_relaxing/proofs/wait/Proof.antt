@@ -1,0 +1,72 @@
+-- `query_relaxing::wait` meets its contract. Assumes nothing.
+use mathlib.Core.Path.{_≡_, refl, sym, ap, ap₂, _∙_}
+use Prim.Native.Nat.{ℕ, zero, suc, _+_, _*_, _<_, _≤_}
+use native.Mathlib.Omega.{arith}
+use Rattle.query_relaxing.proofs.Keys.{ready-waits}
+use borrow.Author.Needs.{needs}
+use Rattle.query_relaxing.proofs.wait.Statement.{statement}
+use Rattle.query_relaxing.proofs.wait.Tie as tie
+
+slice-write-status : tie.Need-slice-write-status
+slice-write-status c = let s = c .before .before .before .before .before in omega (arith, s .pre .0 .status-fits)
+
+mul-weight : tie.Need-mul-weight
+mul-weight c = let s = c .before .before .before .before .before in omega (arith, s .pre .0 .few)
+
+slice-write-weight : tie.Need-slice-write-weight
+slice-write-weight c = let s = c .before .before .before .before .before in omega (arith, s .pre .0 .weight-fits)
+
+mul-previous : tie.Need-mul-previous
+mul-previous c = let s = c .before .before .before .before .before in omega (arith, s .pre .0 .few)
+
+slice-write-previous : tie.Need-slice-write-previous
+slice-write-previous c = let s = c .before .before .before .before .before in omega (arith, s .pre .0 .previous-fits)
+
+mul-put : tie.Need-mul-put
+mul-put c = omega (arith, c .before .before .before .before .before .before .before .pre .1)
+
+add-put : tie.Need-add-put
+add-put c = omega (arith, c .before .before .before .before .before .before .before .pre .1, c .before .before .before .before .before .before .before .pre .0 .few)
+
+put-requires : tie.Need-put-requires
+put-requires c κs = let s = c .before .before .before .before .before .before .before in ((s .pre .0 .node-fits, omega (arith, s .pre .0 .leaf-fits)), (s .pre .1 .0, (s .pre .0 .few, s .pre .0 .tree)))
+
+same-length : tie.Need-same-length
+same-length c = search needs
+
+same-length-2 : tie.Need-same-length-2
+same-length-2 c = search needs
+
+same-length-3 : tie.Need-same-length-3
+same-length-3 c = search needs
+
+same-length-4 : tie.Need-same-length-4
+same-length-4 c = c .before .before .before .node .given
+
+same-length-5 : tie.Need-same-length-5
+same-length-5 c = c .before .leaf .given
+
+returns : tie.Need-returns
+returns c =
+    let s = c .before .before .before .before .before .before .before .before .before .before .before .before in
+    let p = c .before .before .before .before .put .ensures in
+    (refl, ready-waits (s .pre .0) _ _ (p .1 .1) (p .0) (s .args .u) (s .pre .1 .0) (s .args .k) (s .args .a) (s .pre .1 .1) (p .1 .0))
+
+pub wait-spec : {M : Type 1} → statement M
+wait-spec =
+    tie.close
+    (tie.spec
+    slice-write-status
+    mul-weight
+    slice-write-weight
+    mul-previous
+    slice-write-previous
+    mul-put
+    add-put
+    put-requires
+    same-length
+    same-length-2
+    same-length-3
+    same-length-4
+    same-length-5
+    returns)

@@ -1,0 +1,120 @@
+-- What an accepted query says of its columns. Assumes nothing.
+use mathlib.Core.Path.{_≡_, sym, _∙_, subst}
+use mathlib.Core.Logic.{_≢_}
+use mathlib.Core.Bool.{Bool, true, false, _&&_}
+use mathlib.Core.List.{List}
+use Prim.Native.Nat.{ℕ, _+_, _*_, _<_, _≤_}
+use native.Mathlib.Omega.{arith}
+use lib.ListN.{length, getD, take, length-take}
+use lib.Seq.{getD-take, length-take-le}
+use lib.Dec.{leb, ltb}
+use borrow.Author.Tests.{leb-true, ltb-true}
+use Rattle.columns.specs.Limits.{weightLimit}
+use Rattle.columns.specs.Lists.{over, after}
+use Rattle.columns.specs.Questions.{ask}
+use Rattle.columns.proofs.Tests.{and-both, within-at}
+use Rattle.columns_neighbors.proofs.Ends.{GraphSound, graph-says}
+use Rattle.engine_columns.specs.Records.{Engine}
+use Rattle.engine_columns.specs.Door.{longEnough, sound}
+use Rattle.engine_columns.proofs.Doors.{Long, long-of, Sound, sound-of, met-of, next-of}
+use Rattle.query_questions.specs.Queries.{scratchLong, queryDoor}
+use Rattle.query_search.specs.Search.{Searchable}
+
+pub record ScratchLong (v e numbers ends status weight previous node leaf : ℕ) : Type 0 where
+  pub numbers-long : 2 * e ≤ numbers
+  pub ends-long : v ≤ ends
+  pub status-long : v ≤ status
+  pub weight-long : v ≤ weight
+  pub previous-long : v ≤ previous
+  pub node-long : v ≤ node
+  pub leaf-long : v ≤ leaf
+
+pub scratch-of : (v e numbers ends status weight previous node leaf : ℕ) → scratchLong v e numbers ends status weight previous node leaf ≡ true
+    → ScratchLong v e numbers ends status weight previous node leaf
+unfolding scratchLong
+scratch-of v e numbers ends status weight previous node leaf h =
+    let (p₁, h₁) = and-both (leb (2 * e) numbers) _ h in
+    let (p₂, h₂) = and-both (leb v ends) _ h₁ in
+    let (p₃, h₃) = and-both (leb v status) _ h₂ in
+    let (p₄, h₄) = and-both (leb v weight) _ h₃ in
+    let (p₅, h₅) = and-both (leb v previous) _ h₄ in
+    let (p₆, p₇) = and-both (leb v node) _ h₅ in
+    record {
+      numbers-long = leb-true _ _ p₁;
+      ends-long = leb-true _ _ p₂;
+      status-long = leb-true _ _ p₃;
+      weight-long = leb-true _ _ p₄;
+      previous-long = leb-true _ _ p₅;
+      node-long = leb-true _ _ p₆;
+      leaf-long = leb-true _ _ p₇;
+    }
+
+-- 6, 7 and 13 of any query
+pub record QueryAsked (e : Engine) (fits inRange : Bool) (next : ℕ) : Type 0 where
+  pub long : Long 0 e
+  pub fits-are : fits ≡ true
+  pub sound : Sound e
+  pub in-range : inRange ≡ true
+  pub last : next ≡ 0
+
+pub query-of : (e : Engine) (fits inRange : Bool) (next : ℕ) → queryDoor e fits inRange next ≡ 0 → QueryAsked e fits inRange next
+query-of e fits inRange next z =
+    let q3 = ask inRange 13 next in
+    let q2 = ask (sound e) 7 q3 in
+    let (p, q) = and-both (longEnough 0 e) fits (met-of (longEnough 0 e && fits) 6 q2 (omega arith) z) in
+    let z2 = next-of (longEnough 0 e && fits) 6 q2 (omega arith) z in
+    let z3 = next-of (sound e) 7 q3 (omega arith) z2 in
+    record {
+      long = long-of 0 e p;
+      fits-are = q;
+      sound = sound-of e (met-of (sound e) 7 q3 (omega arith) z2);
+      in-range = met-of inRange 13 next (omega arith) z3;
+      last = next-of inRange 13 next (omega arith) z3;
+    }
+
+-- columns cut to their counts
+cut-graph : (v e : ℕ) (a b : List ℕ) → GraphSound v e a b → GraphSound v e (take e a) (take e b)
+cut-graph v e a b s =
+    let ga : (k : ℕ) → k < e → getD (take e a) k 0 ≡ getD a k 0 = λ k h. getD-take e a k 0 h in
+    let gb : (k : ℕ) → k < e → getD (take e b) k 0 ≡ getD b k 0 = λ k h. getD-take e b k 0 h in
+    record {
+      some-vertex = s .some-vertex;
+      few-vertices = s .few-vertices;
+      few-edges = s .few-edges;
+      long-a = omega (arith, length-take e a, s .long-a);
+      long-b = omega (arith, length-take e b, s .long-b);
+      in-a = λ k h. rw (ga k h) (s .in-a k h);
+      in-b = λ k h. rw (gb k h) (s .in-b k h);
+      differ = λ k h q. s .differ k h (sym (ga k h) ∙ q ∙ gb k h);
+      apart = λ j k h l o. s .apart j k h l (rw (ga j (omega arith), gb j (omega arith), ga k l, gb k l) at o);
+    }
+
+module _ (e : Engine) (numbers ends status weight previous node leaf : List ℕ) (long : Long 0 e) (ok : Sound e)
+    (s : ScratchLong (e .counts .vertices) (e .counts .edges) (length numbers) (length ends) (length status) (length weight) (length previous) (length node) (length leaf)) where
+  abbrev v : ℕ
+  v = e .counts .vertices
+
+  abbrev E : ℕ
+  E = e .counts .edges
+
+  pub cut-length : length (take v status) ≡ v
+  cut-length = length-take-le v status (s .status-long)
+
+  pub searchable : Searchable (length (take v status)) (take E (e .endsA)) (take E (e .endsB)) (take E (e .weights)) numbers ends (take v weight) (take v previous) node (take v leaf)
+  searchable =
+      let la : length (take E (e .endsA)) ≡ E = length-take-le E (e .endsA) (long .columns .endsA) in
+      let lb : length (take E (e .endsB)) ≡ E = length-take-le E (e .endsB) (long .columns .endsB) in
+      let lw : length (take E (e .weights)) ≡ E = length-take-le E (e .weights) (long .columns .weights) in
+      record {
+        graph = subst (λ n. GraphSound n (length (take E (e .endsA))) (take E (e .endsA)) (take E (e .endsB))) (sym cut-length)
+            (subst (λ k. GraphSound v k (take E (e .endsA)) (take E (e .endsB))) (sym la) (cut-graph v E (e .endsA) (e .endsB) (graph-says v E (e .endsA) (e .endsB) (ok .columns .graph))));
+        same-b = lb ∙ sym la;
+        same-w = lw ∙ sym la;
+        light = λ k h. within-at weightLimit (take E (e .weights)) (ok .columns .weights) k h;
+        numbers-fit = omega (arith, s .numbers-long);
+        ends-fit = omega (arith, s .ends-long, cut-length);
+        weight-fits = length-take-le v weight (s .weight-long) ∙ sym cut-length;
+        previous-fits = length-take-le v previous (s .previous-long) ∙ sym cut-length;
+        node-fits = omega (arith, s .node-long, cut-length);
+        leaf-fits = length-take-le v leaf (s .leaf-long) ∙ sym cut-length;
+      }

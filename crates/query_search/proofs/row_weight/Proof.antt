@@ -1,0 +1,30 @@
+-- `query_search::row_weight` meets its contract. Assumes nothing.
+use mathlib.Core.Path.{_≡_, refl, sym, ap, ap₂, _∙_, subst}
+use Prim.Native.Nat.{ℕ, zero, suc, _+_, _*_, _-_, _<_, _≤_}
+use native.Mathlib.Omega.{arith}
+use mathlib.Core.Bool.{true, false, cond, _&&_}
+use mathlib.Core.List.{List, []}
+use lib.ListN.{length, getD, set, take, length-set}
+use lib.Seq.{sets}
+use lib.Dec.{eqb, ltb}
+use lib.IntN.{ℤ, pos, negsuc}
+use borrow.Author.Tests.{eq-eqb, ne-eqb, lt-ltb}
+use Rattle.columns.specs.Lists.{each}
+use Rattle.columns.proofs.Counting.{store-each, length-each}
+use Rattle.engine_walks.specs.Answers.{tableWeight, tablePrevious}
+use Rattle.query_relaxing.specs.Ready.{stateOf, Ready, sumLimit}
+use borrow.Author.Needs.{needs}
+use Rattle.query_search.proofs.row_weight.Statement.{statement}
+use Rattle.query_search.proofs.row_weight.Tie as tie
+
+cast-result : tie.Need-cast-result
+cast-result c = search needs
+
+returns : tie.Need-returns
+returns c = let s = c .before in simp (lt-ltb (s .args .weight) 2147483648 (s .pre)) (ap (λ b. cond b (pos (s .args .weight)) (negsuc 0)) (sym (eq-eqb (s .args .status) 2 (c .if1 .taken))))
+
+returns-2 : tie.Need-returns-2
+returns-2 c = let s = c .before in ap (λ b. cond b (pos (s .args .weight)) (negsuc 0)) (sym (ne-eqb (s .args .status) 2 (c .if1 .left)))
+
+pub row-weight-spec : {M : Type 1} → statement M
+row-weight-spec = tie.close (tie.spec cast-result returns returns-2)

@@ -1,0 +1,87 @@
+-- `query_search::write_previous` meets its contract. Invariant: the first v rows are written. Assumes nothing.
+use mathlib.Core.Path.{_≡_, refl, sym, ap, ap₂, _∙_, subst}
+use Prim.Native.Nat.{ℕ, zero, suc, _+_, _*_, _-_, _<_, _≤_}
+use native.Mathlib.Omega.{arith}
+use mathlib.Core.Bool.{true, false, cond, _&&_}
+use mathlib.Core.List.{List, []}
+use lib.ListN.{length, getD, set, take, length-set}
+use lib.Seq.{sets}
+use lib.Dec.{eqb, ltb}
+use lib.IntN.{ℤ, pos, negsuc}
+use borrow.Author.Tests.{eq-eqb, ne-eqb, lt-ltb}
+use Rattle.columns.specs.Lists.{each}
+use Rattle.columns.proofs.Counting.{store-each, length-each}
+use Rattle.engine_walks.specs.Answers.{tableWeight, tablePrevious}
+use Rattle.query_relaxing.specs.Ready.{stateOf, Ready, sumLimit}
+use borrow.Author.Needs.{needs}
+use Rattle.query_search.proofs.write_previous.Statement.{statement}
+use Rattle.query_search.proofs.write_previous.Tie as tie
+
+abbrev Inv-loop : tie.InvT-loop
+Inv-loop status previous out₀ v₀ out v = (v ≤ length status) × (length out ≡ length out₀) × ((w : List ℕ) → out ≡ sets out₀ 0 (each v (tablePrevious (stateOf status w previous))))
+
+abbrev μ-loop : tie.MeasureT-loop
+μ-loop status previous out₀ v₀ out v = length status - v
+
+loop-holds : tie.Need-loop-holds Inv-loop μ-loop
+unfolding each
+loop-holds c = (search needs, refl, λ w. refl)
+
+shared-slice-read-row-previous : tie.Need-shared-slice-read-row-previous Inv-loop μ-loop
+shared-slice-read-row-previous c = search needs
+
+mul-row-previous : tie.Need-mul-row-previous Inv-loop μ-loop
+mul-row-previous c = search needs
+
+shared-slice-read-row-previous-2 : tie.Need-shared-slice-read-row-previous-2 Inv-loop μ-loop
+shared-slice-read-row-previous-2 c = omega (arith, c .before .before .before .before .before .before .before .pre .0)
+
+row-previous-requires : tie.Need-row-previous-requires Inv-loop μ-loop
+row-previous-requires c κs = tt
+
+mul-out : tie.Need-mul-out Inv-loop μ-loop
+mul-out c = search needs
+
+slice-write-out : tie.Need-slice-write-out Inv-loop μ-loop
+slice-write-out c = omega (arith, c .before .before .before .before .before .before .before .before .pre .1, c .before .before .before .before .loop .inv .1)
+
+add-v : tie.Need-add-v Inv-loop μ-loop
+add-v c = search needs
+
+loop-less : tie.Need-loop-less Inv-loop μ-loop
+loop-less c = search needs
+
+loop-again : tie.Need-loop-again Inv-loop μ-loop
+loop-again c =
+    let s = c .before .before .before .before .before .before .before .before in
+    let at = c .before .before .before .before .loop in
+    (search needs, simp length-set (at .inv .1), λ w. (λ i. set (at .inv .2 w i) (at .v) (c .row-previous .ensures i)) ∙ store-each (s .args .out .now) (at .v) (tablePrevious (stateOf (s .args .status .now) w (s .args .previous .now))))
+
+same-length : tie.Need-same-length Inv-loop μ-loop
+same-length c = c .before .loop .inv .1
+
+returns : tie.Need-returns Inv-loop μ-loop
+returns c =
+    let s = c .before .before .before .before .before in
+    let at = c .before .loop in
+    let e : at .v ≡ length (s .args .status .now) = omega arith in
+    λ w. at .inv .2 w ∙ ap (λ k. sets (s .args .out .now) 0 (each k (tablePrevious (stateOf (s .args .status .now) w (s .args .previous .now))))) e
+
+pub write-previous-spec : {M : Type 1} → statement M
+write-previous-spec =
+    tie.close
+    (tie.spec
+    Inv-loop
+    μ-loop
+    loop-holds
+    shared-slice-read-row-previous
+    mul-row-previous
+    shared-slice-read-row-previous-2
+    row-previous-requires
+    mul-out
+    slice-write-out
+    add-v
+    loop-less
+    loop-again
+    same-length
+    returns)

@@ -1,0 +1,89 @@
+-- `query_search::write_weights` meets its contract. Invariant: the first v rows are written. Assumes nothing.
+use mathlib.Core.Path.{_≡_, refl, sym, ap, ap₂, _∙_, subst}
+use Prim.Native.Nat.{ℕ, zero, suc, _+_, _*_, _-_, _<_, _≤_}
+use native.Mathlib.Omega.{arith}
+use mathlib.Core.Bool.{true, false, cond, _&&_}
+use mathlib.Core.List.{List, []}
+use lib.ListN.{length, getD, set, take, length-set}
+use lib.Seq.{sets}
+use lib.Dec.{eqb, ltb}
+use lib.IntN.{ℤ, pos, negsuc}
+use mir.Syntax.{w32}
+use mir.Facts.{toZ-ofZ}
+use borrow.Author.Tests.{eq-eqb, ne-eqb, lt-ltb}
+use Rattle.columns.specs.Lists.{each}
+use Rattle.columns.proofs.Counting.{store-each, length-each}
+use Rattle.engine_walks.specs.Answers.{tableWeight, tablePrevious}
+use Rattle.query_relaxing.specs.Ready.{stateOf, Ready, sumLimit}
+use borrow.Author.Needs.{needs, sfits-of}
+use Rattle.query_search.proofs.write_weights.Statement.{statement}
+use Rattle.query_search.proofs.write_weights.Tie as tie
+
+abbrev Inv-loop : tie.InvT-loop
+Inv-loop status weight out₀ v₀ out v = (v ≤ length status) × (length out ≡ length out₀) × ((p : List ℕ) → out ≡ sets out₀ 0 (each v (tableWeight (stateOf status weight p))))
+
+abbrev μ-loop : tie.MeasureT-loop
+μ-loop status weight out₀ v₀ out v = length status - v
+
+loop-holds : tie.Need-loop-holds Inv-loop μ-loop
+unfolding each
+loop-holds c = (search needs, refl, λ p. refl)
+
+shared-slice-read-row-weight : tie.Need-shared-slice-read-row-weight Inv-loop μ-loop
+shared-slice-read-row-weight c = search needs
+
+mul-row-weight : tie.Need-mul-row-weight Inv-loop μ-loop
+mul-row-weight c = search needs
+
+shared-slice-read-row-weight-2 : tie.Need-shared-slice-read-row-weight-2 Inv-loop μ-loop
+shared-slice-read-row-weight-2 c = omega (arith, c .before .before .before .before .before .before .pre .0)
+
+row-weight-requires : tie.Need-row-weight-requires Inv-loop μ-loop
+row-weight-requires c κs = c .before .before .before .before .before .before .pre .2 (c .before .before .before .loop .v) (c .before .before .loop-test .taken)
+
+mul-t12 : tie.Need-mul-t12 Inv-loop μ-loop
+mul-t12 c = search needs
+
+slice-set-from-out : tie.Need-slice-set-from-out Inv-loop μ-loop
+slice-set-from-out c = omega (arith, c .before .before .before .before .before .before .before .pre .1, c .before .before .before .before .loop .inv .1)
+
+add-v : tie.Need-add-v Inv-loop μ-loop
+add-v c = search needs
+
+loop-less : tie.Need-loop-less Inv-loop μ-loop
+loop-less c = search needs
+
+loop-again : tie.Need-loop-again Inv-loop μ-loop
+loop-again c =
+    let s = c .before .before .before .before .before .before .before in
+    let at = c .before .before .before .before .loop in
+    (search needs, simp length-set (at .inv .1), λ p. ap (λ z. set (at .out) (at .v) z) (toZ-ofZ {w = w32} (sfits-of (c .row-weight .ok))) ∙ (λ i. set (at .inv .2 p i) (at .v) (c .row-weight .ensures i)) ∙ store-each (s .args .out .now) (at .v) (tableWeight (stateOf (s .args .status .now) (s .args .weight .now) p)))
+
+same-length : tie.Need-same-length Inv-loop μ-loop
+same-length c = c .before .loop .inv .1
+
+returns : tie.Need-returns Inv-loop μ-loop
+returns c =
+    let s = c .before .before .before .before in
+    let at = c .before .loop in
+    let e : at .v ≡ length (s .args .status .now) = omega arith in
+    λ p. at .inv .2 p ∙ ap (λ k. sets (s .args .out .now) 0 (each k (tableWeight (stateOf (s .args .status .now) (s .args .weight .now) p)))) e
+
+pub write-weights-spec : {M : Type 1} → statement M
+write-weights-spec =
+    tie.close
+    (tie.spec
+    Inv-loop
+    μ-loop
+    loop-holds
+    shared-slice-read-row-weight
+    mul-row-weight
+    shared-slice-read-row-weight-2
+    row-weight-requires
+    mul-t12
+    slice-set-from-out
+    add-v
+    loop-less
+    loop-again
+    same-length
+    returns)

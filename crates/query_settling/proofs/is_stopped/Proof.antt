@@ -1,0 +1,24 @@
+-- `query_settling::is_stopped` meets its contract. Assumes nothing.
+use mathlib.Core.Path.{_≡_, refl, sym, ap, ap₂, _∙_, subst}
+use Prim.Native.Nat.{ℕ, zero, suc, _+_, _*_, _-_, _<_, _≤_}
+use native.Mathlib.Omega.{arith}
+use mathlib.Core.Bool.{true, false, not, _&&_}
+use mathlib.Core.List.{List, []}
+use lib.ListN.{length, getD}
+use lib.Dec.{eqb, ltb}
+use borrow.Author.Tests.{lt-ltb, le-ltb, not-true, not-false}
+use borrow.Author.Needs.{needs}
+use Rattle.query_settling.proofs.is_stopped.Statement.{statement}
+use Rattle.query_settling.proofs.is_stopped.Tie as tie
+
+shared-slice-read-result : tie.Need-shared-slice-read-result
+shared-slice-read-result c = search needs
+
+returns : tie.Need-returns
+returns c = let s = c .before .before .args in ap (λ b. b && eqb (getD (s .status .now) (s .stop) 0) 2) (sym (lt-ltb (s .stop) (length (s .status .now)) (c .before .if1 .taken)))
+
+returns-2 : tie.Need-returns-2
+returns-2 c = let s = c .before .args in ap (λ b. b && eqb (getD (s .status .now) (s .stop) 0) 2) (sym (le-ltb (s .stop) (length (s .status .now)) (c .if1 .left)))
+
+pub is-stopped-spec : {M : Type 1} → statement M
+is-stopped-spec = tie.close (tie.spec shared-slice-read-result returns returns-2)

@@ -1,0 +1,105 @@
+-- `query_settling::relax_list` meets its contract. Invariant: the state after the places before i. Assumes nothing.
+use mathlib.Core.Path.{_≡_, refl, sym, ap, ap₂, _∙_, subst}
+use Prim.Native.Nat.{ℕ, zero, suc, _+_, _*_, _-_, _%_, _<_, _≤_}
+use native.Mathlib.Omega.{arith}
+use mathlib.Core.List.{List}
+use lib.ListN.{length, getD, take, drop}
+use Rattle.query_relaxing.specs.Ready.{stateOf, graphOf, weighs, Ready, startIn}
+use Rattle.engine_walks.specs.Settling.{relaxEdge}
+use Rattle.engine_walks.proofs.Neighbours.{relaxAlong}
+use Rattle.query_relaxing.proofs.Keys.{ready-as}
+use Rattle.query_settling.proofs.Choice.{along-more, along-none}
+use borrow.Author.Needs.{needs}
+use Rattle.query_settling.proofs.relax_list.Statement.{statement}
+use Rattle.query_settling.proofs.relax_list.Tie as tie
+
+abbrev Inv-loop : tie.InvT-loop
+Inv-loop ends-a ends-b weights numbers from to status₀ weight₀ previous₀ node₀ leaf₀ a q w i₀ status weight previous node leaf i =
+    (from ≤ i) × (i ≤ to) × (length status ≡ length status₀)
+    × Ready (length status₀) (stateOf status weight previous) node leaf
+    × ((n : ℕ) (m : List ℕ) → stateOf status weight previous ≡ relaxAlong (graphOf n ends-a ends-b m) (weighs weights) a q w (take (i - from) (drop from numbers)) (stateOf status₀ weight₀ previous₀))
+    × (length node ≡ length node₀)
+
+abbrev μ-loop : tie.MeasureT-loop
+μ-loop ends-a ends-b weights numbers from to status₀ weight₀ previous₀ node₀ leaf₀ a q w i₀ status weight previous node leaf i = to - i
+
+loop-holds : tie.Need-loop-holds Inv-loop μ-loop
+loop-holds c = let s = c .before .before .before .before .before .before .before .before .before in (omega arith, s .pre .1 .ordered, refl, s .pre .0, λ n m. sym (along-none (graphOf n (s .args .ends-a .now) (s .args .ends-b .now) m) (weighs (s .args .weights .now)) (s .args .a) (s .args .q) (s .args .w) (s .args .numbers .now) (s .args .from) _), refl)
+
+mul-relax-edge : tie.Need-mul-relax-edge Inv-loop μ-loop
+mul-relax-edge c = omega (arith, c .before .before .before .before .before .before .before .before .before .before .before .before .before .before .before .before .pre .1 .inside)
+
+shared-slice-read-relax-edge : tie.Need-shared-slice-read-relax-edge Inv-loop μ-loop
+shared-slice-read-relax-edge c = omega (arith, c .before .before .before .before .before .before .before .before .before .before .before .before .before .before .before .before .before .pre .1 .inside)
+
+relax-edge-requires : tie.Need-relax-edge-requires Inv-loop μ-loop
+relax-edge-requires c κs =
+    let s = c .before .before .before .before .before .before .before .before .before .before .before .before .before .before .before .before .before in
+    let at = c .before .before .before .before .before .before .before .loop in
+    let p = s .pre .1 in
+    let e = p .edge (at .i) (at .inv .0) (c .before .before .before .before .before .before .loop-test .taken) in
+    let x = getD (s .args .numbers .now) (at .i) 0 in
+    let len = at .inv .2 in
+    (ready-as (sym len) (at .inv .3), ((e, omega (arith, p .same-b), omega (arith, p .same-w), p .light x e), ((omega (arith, p .in-a x e), omega (arith, p .in-b x e)), p .at-v (at .i) (at .inv .0) (c .before .before .before .before .before .before .loop-test .taken))))
+
+add-i : tie.Need-add-i Inv-loop μ-loop
+add-i c = omega (arith, c .before .before .before .before .before .before .before .before .before .before .before .before .before .before .before .before .before .before .before .before .before .before .before .before .before .before .before .before .pre .1 .inside)
+
+loop-less : tie.Need-loop-less Inv-loop μ-loop
+loop-less c = search needs
+
+loop-again : tie.Need-loop-again Inv-loop μ-loop
+loop-again c =
+    let s = c .before .before .before .before .before .before .before .before .before .before .before .before .before .before .before .before .before .before .before .before .before .before .before .before .before .before .before .before in
+    let at = c .before .before .before .before .before .before .before .before .before .before .before .before .before .before .before .before .before .before .loop in
+    let o = c .before .before .before .before .before .before .before .before .before .before .relax-edge .ensures in (
+      omega arith,
+      omega arith,
+      c .before .before .before .before .before .before .before .before .before .before .relax-edge .kept .1 .1 .1 .0 ∙ at .inv .2,
+      ready-as (at .inv .2) (o .1),
+      (λ n m. o .0 n m ∙ ap (relaxEdge (graphOf n (s .args .ends-a .now) (s .args .ends-b .now) m) (weighs (s .args .weights .now)) (s .args .a) (s .args .q) (s .args .w) (getD (s .args .numbers .now) (at .i) 0)) (at .inv .4 n m)
+          ∙ sym (along-more (graphOf n (s .args .ends-a .now) (s .args .ends-b .now) m) (weighs (s .args .weights .now)) (s .args .a) (s .args .q) (s .args .w) (s .args .numbers .now) (s .args .from) (at .i) _ (at .inv .0) (omega (arith, s .pre .1 .inside)))),
+      c .before .before .before .before .before .before .before .before .before .before .relax-edge .kept .1 .1 .1 .1 .1 .1 .0 ∙ at .inv .5,
+    )
+
+same-length : tie.Need-same-length Inv-loop μ-loop
+same-length c = c .before .loop .inv .2
+
+same-length-2 : tie.Need-same-length-2 Inv-loop μ-loop
+same-length-2 c = let at = c .before .loop in let s = c .before .before .before .before .before .before .before .before .before .before .before in at .inv .3 .weight-fits ∙ sym (s .pre .0 .weight-fits)
+
+same-length-3 : tie.Need-same-length-3 Inv-loop μ-loop
+same-length-3 c = let at = c .before .loop in let s = c .before .before .before .before .before .before .before .before .before .before .before in at .inv .3 .previous-fits ∙ sym (s .pre .0 .previous-fits)
+
+same-length-4 : tie.Need-same-length-4 Inv-loop μ-loop
+same-length-4 c = c .before .loop .inv .5
+
+same-length-5 : tie.Need-same-length-5 Inv-loop μ-loop
+same-length-5 c = let at = c .before .loop in let s = c .before .before .before .before .before .before .before .before .before .before .before in at .inv .3 .leaf-fits ∙ sym (s .pre .0 .leaf-fits)
+
+returns : tie.Need-returns Inv-loop μ-loop
+returns c =
+    let at = c .before .loop in
+    let s = c .before .before .before .before .before .before .before .before .before .before .before in
+    let e : at .i ≡ s .args .to = omega arith in
+    ((λ n m. at .inv .4 n m ∙ ap (λ k. relaxAlong (graphOf n (s .args .ends-a .now) (s .args .ends-b .now) m) (weighs (s .args .weights .now)) (s .args .a) (s .args .q) (s .args .w) (take (k - s .args .from) (drop (s .args .from) (s .args .numbers .now))) (stateOf (s .args .status .now) (s .args .weight .now) (s .args .previous .now))) e), at .inv .3)
+
+pub relax-list-spec : {M : Type 1} → statement M
+relax-list-spec =
+    tie.close
+    (tie.spec
+    Inv-loop
+    μ-loop
+    loop-holds
+    mul-relax-edge
+    shared-slice-read-relax-edge
+    relax-edge-requires
+    add-i
+    loop-less
+    loop-again
+    same-length
+    same-length-2
+    same-length-3
+    same-length-4
+    same-length-5
+    returns)

@@ -1,0 +1,53 @@
+-- `query_tables::all_edges` meets its contract. Assumes nothing.
+use borrow.Author.Needs.{needs}
+use Rattle.query_tables.proofs.all_edges.Statement.{statement}
+use Rattle.query_tables.proofs.all_edges.Tie as tie
+
+all-edges-with-terminate-requires : tie.Need-all-edges-with-terminate-requires
+all-edges-with-terminate-requires c κs = tt
+
+same-length : tie.Need-same-length
+same-length c = c .before .before .before .before .before .before .before .before .before .before .before .before .before .before .before .before .out-weight .given
+
+same-length-2 : tie.Need-same-length-2
+same-length-2 c = c .before .before .before .before .before .before .before .before .before .before .before .before .before .before .before .out-previous .given
+
+same-length-3 : tie.Need-same-length-3
+same-length-3 c = c .before .before .before .before .before .before .before .before .before .before .before .before .before .numbers .given
+
+same-length-4 : tie.Need-same-length-4
+same-length-4 c = c .before .before .before .before .before .before .before .before .before .before .before .list-ends .given
+
+same-length-5 : tie.Need-same-length-5
+same-length-5 c = c .before .before .before .before .before .before .before .before .before .status .given
+
+same-length-6 : tie.Need-same-length-6
+same-length-6 c = c .before .before .before .before .before .before .before .weight .given
+
+same-length-7 : tie.Need-same-length-7
+same-length-7 c = c .before .before .before .before .before .previous .given
+
+same-length-8 : tie.Need-same-length-8
+same-length-8 c = c .before .before .before .node .given
+
+same-length-9 : tie.Need-same-length-9
+same-length-9 c = c .before .leaf .given
+
+returns : tie.Need-returns
+returns c = search needs
+
+pub all-edges-spec : {M : Type 1} → statement M
+all-edges-spec =
+    tie.close
+    (tie.spec
+    all-edges-with-terminate-requires
+    same-length
+    same-length-2
+    same-length-3
+    same-length-4
+    same-length-5
+    same-length-6
+    same-length-7
+    same-length-8
+    same-length-9
+    returns)

@@ -1,0 +1,36 @@
+-- `query_tables::stop_of` meets its contract. Assumes nothing.
+use mathlib.Core.Path.{_≡_, refl, sym, ap, ap₂, _∙_, subst}
+use Prim.Native.Nat.{ℕ, zero, suc, _+_, _*_, _-_, _<_, _≤_}
+use native.Mathlib.Omega.{arith}
+use mathlib.Core.Bool.{true, false, cond, _&&_}
+use mathlib.Core.List.{List, []}
+use lib.ListN.{length, getD, set, take, length-set}
+use lib.Seq.{sets}
+use lib.Dec.{eqb, ltb}
+use lib.IntN.{ℤ, pos, negsuc}
+use borrow.Author.Tests.{eq-eqb, ne-eqb, lt-ltb}
+use Rattle.columns.specs.Lists.{each}
+use Rattle.columns.proofs.Counting.{store-each, length-each}
+use Rattle.engine_walks.specs.Answers.{tableWeight, tablePrevious}
+use Rattle.query_relaxing.specs.Ready.{stateOf, Ready, sumLimit}
+use borrow.Author.Needs.{needs}
+use Rattle.query_tables.proofs.stop_of.Statement.{statement}
+use Rattle.query_tables.proofs.stop_of.Tie as tie
+
+enum-told : tie.Need-enum-told
+enum-told c = search needs
+
+enum-known-end : tie.Need-enum-known-end
+enum-known-end c = search needs
+
+named-stop-requires : tie.Need-named-stop-requires
+named-stop-requires c κs = tt
+
+returns : tie.Need-returns
+returns c = search needs
+
+returns-2 : tie.Need-returns-2
+returns-2 c = cc
+
+pub stop-of-spec : {M : Type 1} → statement M
+stop-of-spec = tie.close (tie.spec enum-told enum-known-end named-stop-requires returns returns-2)

@@ -1,0 +1,228 @@
+// Queries of the engine graph: the table of least weights and previous vertices.
+ghost use mathlib.Core.Path.{_≡_};
+ghost use mathlib.Core.Bool.{cond, _&&_};
+ghost use mathlib.Core.List.{List};
+ghost use Prim.Native.Nat.{ℕ, _<_, _≤_};
+ghost use lib.ListN.{length, getD};
+ghost use lib.Seq.{sets};
+ghost use lib.Dec.{eqb, ltb, leb};
+ghost use lib.IntN.{pos, negsuc};
+ghost use Rattle.columns.specs.Lists.{each};
+ghost use Rattle.engine_columns.specs.Records.{engine};
+ghost use Rattle.engine_walks.specs.Settling.{settled};
+ghost use Rattle.engine_walks.specs.Answers.{table, tableWeight, tablePrevious};
+ghost use Rattle.query_relaxing.specs.Ready.{graphOf, weighs, stateOf, Ready, sources, endOf, sumLimit};
+ghost use Rattle.query_questions.specs.Queries.{scratchLong, queryDoor};
+ghost use Rattle.query_tables.specs.Ends.{endInRange, endIn, stopOf};
+ghost use Rattle.query_tables.specs.Steps.{TableStep};
+ghost use Rattle.query_questions.specs.Scratch.{ScratchKept, scratchOf};
+ghost use Rattle.query_search.specs.Search.{Searchable, Waiting};
+use columns::Done;
+use columns::VertexIndex;
+use columns::Weight;
+use columns::questions::at_most;
+use columns::questions::both;
+use engine_columns::EngineCounts;
+use query_questions::named_stop;
+use query_questions::query_door;
+use query_questions::scratch_long;
+use query_search::search;
+use query_search::write_previous;
+use query_search::write_weights;
+
+// The vertex after which a search stops.
+pub enum End {
+    None,
+    At(VertexIndex),
+}
+
+// Question 13, of the named end.
+fn end_in_range(end: End, vertices: u32) -> bool
+    ensures { λ r. ⌜ r ≡ endInRange end vertices ⌝ }
+{
+    match end {
+        End::None => true,
+        End::At(b) => b.0 < vertices,
+    }
+}
+
+// The number after which a search from the source stops: that of a named end which is not the source, else one that is no vertex.
+fn stop_of(end: End, source: u32, vertices: u32) -> u32
+    ensures { λ r. ⌜ r ≡ stopOf end source vertices ⌝ }
+{
+    match end {
+        End::None => vertices,
+        End::At(b) => named_stop(b, source, vertices),
+    }
+}
+
+// The table from a source, over columns that hold vertices and edges alone.
+fn run_table(
+    ends_a: &[u32],
+    ends_b: &[u32],
+    weights: &[Weight],
+    numbers: &mut [u32],
+    list_ends: &mut [u32],
+    status: &mut [u8],
+    weight: &mut [Weight],
+    previous: &mut [u32],
+    node: &mut [u64],
+    leaf: &mut [u64],
+    out_weight: &mut [i32],
+    out_previous: &mut [u32],
+    source: u32,
+    stop: u32,
+)
+    requires { ⌜ Searchable (length (now status)) (now «ends_a») (now «ends_b») (now weights) (now numbers) (now «list_ends») (now weight) (now previous) (now node) (now leaf) ⌝ }
+    requires { ⌜ (source < length (now status)) × (stop ≡ source → ⊥) × (length (now status) ≤ length (now «out_weight»)) × (length (now status) ≤ length (now «out_previous»)) ⌝ }
+    ensures { λ _. ⌜ ((m : List ℕ) → now («out_weight» .exit) ≡ sets (now («out_weight» .entry)) 0 (table (graphOf (length (now (status .entry))) (now («ends_a» .entry)) (now («ends_b» .entry)) m) (weighs (now (weights .entry))) source (endOf (length (now (status .entry))) stop) .weights)) ⌝ }
+    ensures { λ _. ⌜ ((m : List ℕ) → now («out_previous» .exit) ≡ sets (now («out_previous» .entry)) 0 (table (graphOf (length (now (status .entry))) (now («ends_a» .entry)) (now («ends_b» .entry)) m) (weighs (now (weights .entry))) source (endOf (length (now (status .entry))) stop) .previous)) ⌝ }
+{
+    query_sources::begin_at(status, source);
+    search(
+        ends_a,
+        ends_b,
+        weights,
+        numbers,
+        list_ends,
+        status,
+        weight,
+        previous,
+        node,
+        leaf,
+        stop,
+    );
+    write_weights(status, weight, out_weight);
+    write_previous(status, previous, out_previous);
+}
+
+// The least weight from the source and the previous vertex of every vertex, up to the named end: -1 and 0 where a vertex was not taken.
+// The columns from `numbers` on are scratch.
+pub fn all_edges_with_terminate(
+    c: EngineCounts,
+    ends_a: &[u32],
+    ends_b: &[u32],
+    weights: &[Weight],
+    boundary: &[u8],
+    log_edges: &[u32],
+    log_weights: &[Weight],
+    source: VertexIndex,
+    end: End,
+    out_weight: &mut [i32],
+    out_previous: &mut [u32],
+    numbers: &mut [u32],
+    list_ends: &mut [u32],
+    status: &mut [u8],
+    weight: &mut [Weight],
+    previous: &mut [u32],
+    node: &mut [u64],
+    leaf: &mut [u64],
+) -> Done
+    ensures { λ r. ⌜ TableStep (engine c (now («ends_a» .entry)) (now («ends_b» .entry)) (now (weights .entry)) (now (boundary .entry)) (now («log_edges» .entry)) (now («log_weights» .entry)))
+        (scratchLong (c .vertices) (c .edges) (length (now (numbers .entry))) (length (now («list_ends» .entry))) (length (now (status .entry))) (length (now (weight .entry))) (length (now (previous .entry))) (length (now (node .entry))) (length (now (leaf .entry))))
+        (source .0) end r (now («out_weight» .entry)) (now («out_previous» .entry)) (now («out_weight» .exit)) (now («out_previous» .exit)) ⌝ }
+    ensures { λ r. ⌜ ScratchKept r
+        (scratchOf (now (numbers .entry)) (now («list_ends» .entry)) (now (status .entry)) (now (weight .entry)) (now (previous .entry)) (now (node .entry)) (now (leaf .entry)))
+        (scratchOf (now (numbers .exit)) (now («list_ends» .exit)) (now (status .exit)) (now (weight .exit)) (now (previous .exit)) (now (node .exit)) (now (leaf .exit))) ⌝ }
+{
+    let v = c.vertices as usize;
+    let e = c.edges as usize;
+    let scratch = scratch_long(
+        c.vertices,
+        c.edges,
+        numbers.len(),
+        list_ends.len(),
+        status.len(),
+        weight.len(),
+        previous.len(),
+        node.len(),
+        leaf.len(),
+    );
+    let fits = both(
+        at_most(v, out_weight.len()),
+        both(at_most(v, out_previous.len()), scratch),
+    );
+    let in_range = both(source.0 < c.vertices, end_in_range(end, c.vertices));
+    let no = query_door(
+        c,
+        ends_a,
+        ends_b,
+        weights,
+        boundary,
+        log_edges,
+        log_weights,
+        fits,
+        in_range,
+        0,
+    );
+    if no == 0 {
+        let stop = stop_of(end, source.0, c.vertices);
+        run_table(
+            &ends_a[..e],
+            &ends_b[..e],
+            &weights[..e],
+            numbers,
+            list_ends,
+            &mut status[..v],
+            &mut weight[..v],
+            &mut previous[..v],
+            node,
+            &mut leaf[..v],
+            out_weight,
+            out_previous,
+            source.0,
+            stop,
+        );
+        return Done::Accepted;
+    }
+    Done::Refused(no)
+}
+
+// The table from the source with no end.
+pub fn all_edges(
+    c: EngineCounts,
+    ends_a: &[u32],
+    ends_b: &[u32],
+    weights: &[Weight],
+    boundary: &[u8],
+    log_edges: &[u32],
+    log_weights: &[Weight],
+    source: VertexIndex,
+    out_weight: &mut [i32],
+    out_previous: &mut [u32],
+    numbers: &mut [u32],
+    list_ends: &mut [u32],
+    status: &mut [u8],
+    weight: &mut [Weight],
+    previous: &mut [u32],
+    node: &mut [u64],
+    leaf: &mut [u64],
+) -> Done
+    ensures { λ r. ⌜ TableStep (engine c (now («ends_a» .entry)) (now («ends_b» .entry)) (now (weights .entry)) (now (boundary .entry)) (now («log_edges» .entry)) (now («log_weights» .entry)))
+        (scratchLong (c .vertices) (c .edges) (length (now (numbers .entry))) (length (now («list_ends» .entry))) (length (now (status .entry))) (length (now (weight .entry))) (length (now (previous .entry))) (length (now (node .entry))) (length (now (leaf .entry))))
+        (source .0) End.None r (now («out_weight» .entry)) (now («out_previous» .entry)) (now («out_weight» .exit)) (now («out_previous» .exit)) ⌝ }
+    ensures { λ r. ⌜ ScratchKept r
+        (scratchOf (now (numbers .entry)) (now («list_ends» .entry)) (now (status .entry)) (now (weight .entry)) (now (previous .entry)) (now (node .entry)) (now (leaf .entry)))
+        (scratchOf (now (numbers .exit)) (now («list_ends» .exit)) (now (status .exit)) (now (weight .exit)) (now (previous .exit)) (now (node .exit)) (now (leaf .exit))) ⌝ }
+{
+    all_edges_with_terminate(
+        c,
+        ends_a,
+        ends_b,
+        weights,
+        boundary,
+        log_edges,
+        log_weights,
+        source,
+        End::None,
+        out_weight,
+        out_previous,
+        numbers,
+        list_ends,
+        status,
+        weight,
+        previous,
+        node,
+        leaf,
+    )
+}

@@ -1,2 +1,0 @@
--- Ready: what the functions below the queries promise one another. The settling itself is defined in the crate `walks`.
-pub mod Ready

@@ -1,0 +1,256 @@
+-- What an accepted call says of its columns, and what a call answers and leaves, accepted and refused. Assumes nothing.
+use mathlib.Core.Path.{_≡_, refl, sym, ap, _∙_, subst}
+use mathlib.Core.Bool.{Bool, true, false, _&&_, cond}
+use mathlib.Core.List.{List}
+use Prim.Native.Nat.{ℕ, _*_, _≤_, _<_}
+use native.Mathlib.Omega.{arith}
+use lib.ListN.{length, getD, take}
+use lib.Ieee.{Float}
+use Rattle.columns.specs.Places.{zeroFloat}
+use lib.Dec.{leb, eqb}
+use borrow.Author.Tests.{leb-true, le-leb, lt-leb, eqb-true, eq-eqb, ne-eqb}
+use Rattle.columns.specs.Limits.{vertexLimit}
+use Rattle.columns.specs.Lists.{over, after}
+use Rattle.columns.specs.Questions.{ask, allBelow, marksSound}
+use Rattle.columns.specs.Answers.{done}
+use Rattle.columns_answers.proofs.Said.{accepts-of, refuses-of}
+use Rattle.columns_answers.proofs.Done.{said-of}
+use Rattle.columns.specs.declared.Done.{Done}
+use Rattle.columns.specs.declared.Done.the-variants as done-is
+use Rattle.columns.proofs.Columns.{after-accepted, after-refused}
+use Rattle.columns.proofs.Tests.{and-both, below-at}
+use Rattle.columns.proofs.Doors.{met, goes-on, asks}
+use Rattle.reorder_calls.specs.declared.TranslatedAnswer.{TranslatedAnswer}
+use Rattle.reorder_calls.specs.declared.TranslatedAnswer.the-variants.{Count, Refused}
+use Rattle.reorder_orders.specs.Order.{noneTwice, oldToNew, renamed, moved}
+use Rattle.reorder_calls.specs.Numbers.{buildDoor, BuiltOldToNew, translateDoor, TranslatedDefects}
+use Rattle.columns_neighbors.specs.Steps.{sumTo}
+use Rattle.sampling_calls.specs.Records.{codeGraph, codeSound}
+use Rattle.sampling_calls.proofs.Accepting.{CodeSound, code-sound-of}
+use Rattle.reorder_calls.specs.Columns.{CodeColumns, movedLists, endsLong, vertexLong, positionsLong, listsLong, columnsLong, columnsSound, orderDoor, reorderDoor, ReorderedVertices}
+use Rattle.reorder_orders.specs.Steps.{IsOrder}
+use Rattle.reorder_orders.proofs.Asking.{stops, passes}
+
+-- ---- build_old_to_new
+
+module _ (order column : List ℕ) where
+  pub build-6 : length column < length order → 6 ≡ buildDoor order column
+  unfolding buildDoor
+  build-6 h = stops (leb (length order) (length column)) 6 _ (lt-leb (length order) (length column) h)
+
+  pub build-11 : length order ≤ length column → vertexLimit < length order → 11 ≡ buildDoor order column
+  unfolding buildDoor
+  build-11 h g = passes (leb (length order) (length column)) 6 _ (le-leb (length order) (length column) h) (stops (leb (length order) vertexLimit) 11 _ (lt-leb (length order) vertexLimit g))
+
+  pub build-on : {r : ℕ} {b : Bool} → length order ≤ length column → length order ≤ vertexLimit → b ≡ allBelow (length order) order → r ≡ ask b 13 (ask (noneTwice order) 14 0) → r ≡ buildDoor order column
+  unfolding buildDoor
+  build-on h g e q =
+      passes (leb (length order) (length column)) 6 _ (le-leb (length order) (length column) h)
+      (passes (leb (length order) vertexLimit) 11 _ (le-leb (length order) vertexLimit g) (q ∙ asks 13 e refl))
+
+  pub build-met : buildDoor order column ≡ 0 → IsOrder order × (length order ≤ length column)
+  unfolding buildDoor
+  build-met z =
+      let last = ask (noneTwice order) 14 0 in
+      let q₁₃ = ask (allBelow (length order) order) 13 last in
+      let q₁₁ = ask (leb (length order) vertexLimit) 11 q₁₃ in
+      let z₁₁ = goes-on (leb (length order) (length column)) 5 q₁₁ z in
+      let z₁₃ = goes-on (leb (length order) vertexLimit) 10 q₁₃ z₁₁ in
+      let z₁₄ = goes-on (allBelow (length order) order) 12 last z₁₃ in (
+        record {
+          few = leb-true (length order) vertexLimit (met (leb (length order) vertexLimit) 10 q₁₃ z₁₁);
+          below = met (allBelow (length order) order) 12 last z₁₃;
+          once = met (noneTwice order) 13 0 z₁₄;
+        },
+        leb-true (length order) (length column) (met (leb (length order) (length column)) 5 q₁₁ z),
+      )
+
+  pub built-refused : {r : Done} {n : ℕ} → n ≡ buildDoor order column → (n ≡ 0 → ⊥) → r ≡ done n → BuiltOldToNew order column r column
+  built-refused e f q = record {
+    answers = said-of _ _ (q ∙ ap done e);
+    column-is = sym (after-refused (buildDoor order column) (oldToNew order) column (λ z. f (e ∙ z)));
+  }
+
+  pub built-accepted : {last : List ℕ} → buildDoor order column ≡ 0 → last ≡ over (oldToNew order) column → BuiltOldToNew order column done-is.Accepted last
+  built-accepted z q = record {
+    answers = accepts-of z;
+    column-is = q ∙ sym (after-accepted (buildDoor order column) (oldToNew order) column z);
+  }
+
+-- ---- translated_defect_to_reordered
+
+module _ (order list column : List ℕ) where
+  pub translate-6 : length column < length list → 6 ≡ translateDoor order list column
+  unfolding translateDoor
+  translate-6 h = stops (leb (length list) (length column)) 6 _ (lt-leb (length list) (length column) h)
+
+  pub translate-11 : length list ≤ length column → vertexLimit < length order → 11 ≡ translateDoor order list column
+  unfolding translateDoor
+  translate-11 h g = passes (leb (length list) (length column)) 6 _ (le-leb (length list) (length column) h) (stops (leb (length order) vertexLimit) 11 _ (lt-leb (length order) vertexLimit g))
+
+  pub translate-on : {r : ℕ} {b : Bool} → length list ≤ length column → length order ≤ vertexLimit → b ≡ (allBelow (length order) order && allBelow (length order) list)
+      → r ≡ ask b 13 (ask (noneTwice order) 14 0) → r ≡ translateDoor order list column
+  unfolding translateDoor
+  translate-on h g e q =
+      passes (leb (length list) (length column)) 6 _ (le-leb (length list) (length column) h)
+      (passes (leb (length order) vertexLimit) 11 _ (le-leb (length order) vertexLimit g) (q ∙ asks 13 e refl))
+
+  pub record TranslateMet : Type 0 where
+    pub order-is : IsOrder order
+    pub room : length list ≤ length column
+    pub listed : (i : ℕ) → i < length list → getD list i 0 < length order
+
+  pub translate-met : translateDoor order list column ≡ 0 → TranslateMet
+  unfolding translateDoor
+  translate-met z =
+      let last = ask (noneTwice order) 14 0 in
+      let both = allBelow (length order) order && allBelow (length order) list in
+      let q₁₃ = ask both 13 last in
+      let q₁₁ = ask (leb (length order) vertexLimit) 11 q₁₃ in
+      let z₁₁ = goes-on (leb (length list) (length column)) 5 q₁₁ z in
+      let z₁₃ = goes-on (leb (length order) vertexLimit) 10 q₁₃ z₁₁ in
+      let (x, y) = and-both (allBelow (length order) order) (allBelow (length order) list) (met both 12 last z₁₃) in
+      record {
+        order-is = record {
+          few = leb-true (length order) vertexLimit (met (leb (length order) vertexLimit) 10 q₁₃ z₁₁);
+          below = x;
+          once = met (noneTwice order) 13 0 (goes-on both 12 last z₁₃);
+        };
+        room = leb-true (length list) (length column) (met (leb (length list) (length column)) 5 q₁₁ z);
+        listed = below-at (length order) list y;
+      }
+
+  pub translated-refused : {n : ℕ} → n ≡ translateDoor order list column → (n ≡ 0 → ⊥) → TranslatedDefects order list column (Refused n) column
+  translated-refused e f =
+      let g : translateDoor order list column ≡ 0 → ⊥ = λ z. f (e ∙ z) in
+      record {
+        answers = refuses-of e f;
+        column-is = sym (after-refused (translateDoor order list column) (renamed order list) column g);
+      }
+
+  pub translated-accepted : {last : List ℕ} → translateDoor order list column ≡ 0 → last ≡ over (renamed order list) column → TranslatedDefects order list column (Count (length list)) last
+  translated-accepted z q = record {
+    answers = accepts-of z;
+    column-is = q ∙ sym (after-accepted (translateDoor order list column) (renamed order list) column z);
+  }
+
+-- ---- reorder_vertices
+
+-- 11, 13 and 14 of an order for v vertices
+pub order-stops : (v : ℕ) (order : List ℕ) → (length order ≡ v → ⊥) → 11 ≡ orderDoor v order
+unfolding orderDoor
+order-stops v order f = stops (eqb (length order) v) 11 _ (ne-eqb (length order) v f)
+
+pub order-on : (v : ℕ) (order : List ℕ) {r : ℕ} {b : Bool} → length order ≡ v → b ≡ allBelow v order → r ≡ ask b 13 (ask (noneTwice order) 14 0) → r ≡ orderDoor v order
+unfolding orderDoor
+order-on v order e f q = passes (eqb (length order) v) 11 _ (eq-eqb (length order) v e) (q ∙ asks 13 f refl)
+
+pub order-met : (v : ℕ) (order : List ℕ) → v ≤ vertexLimit → orderDoor v order ≡ 0 → IsOrder order × (length order ≡ v)
+unfolding orderDoor
+order-met v order few z =
+    let last = ask (noneTwice order) 14 0 in
+    let q₁₃ = ask (allBelow v order) 13 last in
+    let z₁₃ = goes-on (eqb (length order) v) 10 q₁₃ z in
+    let e : length order ≡ v = eqb-true (length order) v (met (eqb (length order) v) 10 q₁₃ z) in (
+      record {
+        few = omega arith;
+        below = ap (λ (n : ℕ). allBelow n order) e ∙ met (allBelow v order) 12 last z₁₃;
+        once = met (noneTwice order) 13 0 (goes-on (allBelow v order) 12 last z₁₃);
+      },
+      e,
+    )
+
+-- 7
+pub sound-few : (v e : ℕ) (a b m d : List ℕ) → columnsSound v e a b m d ≡ true → CodeSound (codeGraph v e a b m)
+unfolding columnsSound
+sound-few v e a b m d p = code-sound-of (codeGraph v e a b m) (and-both (codeSound (codeGraph v e a b m)) (marksSound v d) p .0)
+
+pub record ReorderMet (v e : ℕ) (order : List ℕ) (c : CodeColumns) : Type 0 where
+  pub order-is : IsOrder order
+  pub many : length order ≡ v
+  pub sound : CodeSound (codeGraph v e (c .endsA) (c .endsB) (c .boundary))
+  pub long-boundary : v ≤ length (c .boundary)
+  pub long-defect : v ≤ length (c .defect)
+  pub long-lengths : v ≤ length (c .lengths)
+  pub long-i : v ≤ length (c .positionI)
+  pub long-j : v ≤ length (c .positionJ)
+  pub long-t : v ≤ length (c .positionT)
+  pub long-numbers : sumTo v (c .lengths) ≤ length (c .numbers)
+  pub long-scratch : sumTo v (c .lengths) ≤ length (c .scratch)
+  pub marks : marksSound v (c .defect) ≡ true
+
+pub reorder-met : (v e : ℕ) (order : List ℕ) (c : CodeColumns) → reorderDoor v e order c ≡ 0 → ReorderMet v e order c
+unfolding reorderDoor columnsLong endsLong vertexLong positionsLong listsLong columnsSound
+reorder-met v e order c z =
+    let seven = columnsSound v e (c .endsA) (c .endsB) (c .boundary) (c .defect) in
+    let rest = orderDoor v order in
+    let z₇ = goes-on (columnsLong v e c) 5 (ask seven 7 rest) z in
+    let (ends, x) = and-both (endsLong e (c .endsA) (c .endsB)) _ (met (columnsLong v e c) 5 (ask seven 7 rest) z) in
+    let (vertices, y) = and-both (vertexLong v (c .boundary) (c .defect) (c .lengths)) _ x in
+    let (positions, w) = and-both (positionsLong v (c .positionI) (c .positionJ) (c .positionT)) _ y in
+    let (numbers, scratch) = and-both (listsLong v e (c .lengths) (c .numbers)) _ w in
+    let (m, dl) = and-both (leb v (length (c .boundary))) _ vertices in
+    let (d, l) = and-both (leb v (length (c .defect))) _ dl in
+    let (i, jt) = and-both (leb v (length (c .positionI))) _ positions in
+    let (j, t) = and-both (leb v (length (c .positionJ))) _ jt in
+    let (ok, marks) = and-both (codeSound (codeGraph v e (c .endsA) (c .endsB) (c .boundary))) (marksSound v (c .defect)) (met seven 6 rest z₇) in
+    let code = code-sound-of (codeGraph v e (c .endsA) (c .endsB) (c .boundary)) ok in
+    let (o, n) = order-met v order (code .graph .few-vertices) (goes-on seven 6 rest z₇) in
+    record {
+      order-is = o;
+      many = n;
+      sound = code;
+      long-boundary = leb-true _ _ m;
+      long-defect = leb-true _ _ d;
+      long-lengths = leb-true _ _ l;
+      long-i = leb-true _ _ i;
+      long-j = leb-true _ _ j;
+      long-t = leb-true _ _ t;
+      long-numbers = leb-true _ _ (and-both (leb (2 * e) (length (c .numbers))) _ numbers .1);
+      long-scratch = leb-true _ _ (and-both (leb (2 * e) (length (c .scratch))) _ scratch .1);
+      marks = marks;
+    }
+
+-- the answer and the columns, refused and accepted
+module _ (v e : ℕ) (order : List ℕ) (b : CodeColumns) where
+  pub reordered-refused : {r : Done} {n : ℕ} → n ≡ reorderDoor v e order b → (n ≡ 0 → ⊥) → r ≡ done n → ReorderedVertices v e order b r b
+  reordered-refused {r} {n} q f h =
+      let door = reorderDoor v e order b in
+      let g : door ≡ 0 → ⊥ = λ z. f (q ∙ z) in
+      record {
+        answers = said-of _ _ (h ∙ ap done q);
+        endsA-is = sym (after-refused door (renamed order (take e (b .endsA))) (b .endsA) g);
+        endsB-is = sym (after-refused door (renamed order (take e (b .endsB))) (b .endsB) g);
+        boundary-is = sym (after-refused door (moved order 0 (b .boundary)) (b .boundary) g);
+        defect-is = sym (after-refused door (moved order 0 (b .defect)) (b .defect) g);
+        positionI-is = sym (after-refused door (moved order zeroFloat (b .positionI)) (b .positionI) g);
+        positionJ-is = sym (after-refused door (moved order zeroFloat (b .positionJ)) (b .positionJ) g);
+        positionT-is = sym (after-refused door (moved order zeroFloat (b .positionT)) (b .positionT) g);
+        lengths-is = sym (after-refused door (moved order 0 (b .lengths)) (b .lengths) g);
+        numbers-is = sym (after-refused door (movedLists order (b .lengths) (b .numbers)) (b .numbers) g);
+        scratch-is = sym (after-refused door (take (sumTo v (b .lengths)) (b .numbers)) (b .scratch) g);
+      }
+
+  pub reordered-accepted : (last : CodeColumns) → reorderDoor v e order b ≡ 0 → length order ≡ v
+      → last .endsA ≡ over (renamed order (take e (b .endsA))) (b .endsA) → last .endsB ≡ over (renamed order (take e (b .endsB))) (b .endsB)
+      → last .boundary ≡ over (moved order 0 (b .boundary)) (b .boundary) → last .defect ≡ over (moved order 0 (b .defect)) (b .defect)
+      → last .positionI ≡ over (moved order zeroFloat (b .positionI)) (b .positionI) → last .positionJ ≡ over (moved order zeroFloat (b .positionJ)) (b .positionJ)
+      → last .positionT ≡ over (moved order zeroFloat (b .positionT)) (b .positionT) → last .lengths ≡ over (moved order 0 (b .lengths)) (b .lengths)
+      → last .numbers ≡ over (movedLists order (b .lengths) (b .numbers)) (b .numbers)
+      → last .scratch ≡ over (take (sumTo (length order) (b .lengths)) (b .numbers)) (b .scratch) → ReorderedVertices v e order b done-is.Accepted last
+  reordered-accepted last z many pa pb pm pd pi pj pt pl pn ps =
+      let door = reorderDoor v e order b in
+      record {
+        answers = accepts-of z;
+        endsA-is = pa ∙ sym (after-accepted door (renamed order (take e (b .endsA))) (b .endsA) z);
+        endsB-is = pb ∙ sym (after-accepted door (renamed order (take e (b .endsB))) (b .endsB) z);
+        boundary-is = pm ∙ sym (after-accepted door (moved order 0 (b .boundary)) (b .boundary) z);
+        defect-is = pd ∙ sym (after-accepted door (moved order 0 (b .defect)) (b .defect) z);
+        positionI-is = pi ∙ sym (after-accepted door (moved order zeroFloat (b .positionI)) (b .positionI) z);
+        positionJ-is = pj ∙ sym (after-accepted door (moved order zeroFloat (b .positionJ)) (b .positionJ) z);
+        positionT-is = pt ∙ sym (after-accepted door (moved order zeroFloat (b .positionT)) (b .positionT) z);
+        lengths-is = pl ∙ sym (after-accepted door (moved order 0 (b .lengths)) (b .lengths) z);
+        numbers-is = pn ∙ sym (after-accepted door (movedLists order (b .lengths) (b .numbers)) (b .numbers) z);
+        scratch-is = ps ∙ ap (λ (n : ℕ). over (take (sumTo n (b .lengths)) (b .numbers)) (b .scratch)) many
+            ∙ sym (after-accepted door (take (sumTo v (b .lengths)) (b .numbers)) (b .scratch) z);
+      }

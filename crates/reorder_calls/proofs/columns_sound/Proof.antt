@@ -1,0 +1,28 @@
+-- `reorder_calls::columns_sound` meets its contract. Assumes nothing.
+use mathlib.Core.Bool.{_&&_}
+use mathlib.Core.Path.{_∙_}
+use Rattle.reorder_calls.specs.Columns.{columnsSound}
+use Rattle.reorder_calls.proofs.columns_sound.Statement.{statement}
+use Rattle.reorder_calls.proofs.columns_sound.Tie as tie
+use Rattle.reorder_calls.proofs.columns_sound.Reads as reads
+use Rattle.reorder_calls.proofs.columns_sound.Lts as lts
+use Rattle.columns.proofs.questions.both.Reads as both-reads
+use Rattle.columns.proofs.questions.marks_sound.Reads as marks-sound-reads
+use Rattle.sampling_calls.proofs.doors.code_sound.Reads as code-sound-reads
+
+code-sound-requires : tie.Need-code-sound-requires
+code-sound-requires c κs = tt
+
+marks-sound-requires : tie.Need-marks-sound-requires
+marks-sound-requires c κs = tt
+
+both-requires : tie.Need-both-requires
+both-requires c κs = tt
+
+returns : tie.Need-returns
+unfolding columnsSound
+returns c = c .both .ensures ∙ (λ i. (c .before .before .code-sound .ensures) i && (c .before .marks-sound .ensures) i)
+
+pub columns-sound-spec : {M : Type 1} → statement M
+columns-sound-spec =
+    tie.close (tie.spec code-sound-requires marks-sound-requires both-requires returns)

@@ -1,0 +1,64 @@
+-- `reorder_calls::lists::move_lists_in` meets its contract. Assumes nothing.
+use mathlib.Core.Path.{_≡_, refl, sym, ap, _∙_}
+use mathlib.Core.List.{List}
+use Prim.Native.Nat.{ℕ, _≤_, _<_}
+use native.Mathlib.Omega.{arith}
+use lib.ListN.{length, getD, take, length-take}
+use lib.Seq.{sets, length-sets}
+use Rattle.columns.specs.Lists.{over}
+use Rattle.columns.proofs.Columns.{sets-over}
+use Rattle.columns_neighbors.specs.Steps.{sumTo}
+use Rattle.reorder_calls.proofs.Moving.{lists-copy}
+use borrow.Author.Needs.{needs}
+use Rattle.reorder_calls.proofs.lists.move_lists_in.Statement.{statement}
+use Rattle.reorder_calls.proofs.lists.move_lists_in.Tie as tie
+use Rattle.reorder_calls.proofs.lists.move_lists_in.Reads as reads
+use Rattle.reorder_calls.proofs.lists.move_lists_in.Lts as lts
+use Rattle.columns_stores.proofs.copy_u32.Reads as copy-u32-reads
+use Rattle.reorder_calls.proofs.lists.gather_lists.Reads as gather-lists-reads
+use Rattle.reorder_calls.proofs.lists.list_starts.Reads as list-starts-reads
+
+list-starts-requires : tie.Need-list-starts-requires
+list-starts-requires c κs = search needs
+
+copy-u32-requires : tie.Need-copy-u32-requires
+copy-u32-requires c κs = tt
+
+gather-lists-requires : tie.Need-gather-lists-requires
+gather-lists-requires c κs =
+    let s = c .before .before .before .before .before .before .before .before .before .before .before .before .before .before .before .before .before in
+    let l = simp length-sets at (ap length (c .before .before .before .before .before .copy-u32 .ensures)) in
+    ((s .pre .0 .0, s .pre .0 .1, omega (arith, s .pre .0 .2)), (c .before .before .before .before .before .before .before .before .before .before .list-starts .ensures .1, (omega (arith, l, s .pre .1 .1), s .pre .1 .0)))
+
+same-length : tie.Need-same-length
+same-length c = c .before .numbers .given
+
+same-length-2 : tie.Need-same-length-2
+same-length-2 c = c .before .before .before .before .before .before .before .scratch .given
+
+same-length-3 : tie.Need-same-length-3
+same-length-3 c = c .before .before .before .before .before .before .before .before .before .before .before .before .starts .given
+
+returns : tie.Need-returns
+returns c =
+    let s = c .before .before .before .before .before .before .before .before .before .before .before .before .before .before .before .before .before .before .before .before in
+    let a = s .args in
+    let e = c .before .before .before .before .before .before .before .before .before .before .before .before .before .list-starts .ensures .0 in
+    let long : c .before .before .before .before .before .before .before .before .before .before .before .before .before .list-starts .result ≤ length (a .numbers .now) = omega (arith, e, s .pre .1 .0) in
+    let room : c .before .before .before .before .before .before .before .before .before .before .before .before .before .list-starts .result ≤ length (a .scratch .now) = omega (arith, e, s .pre .1 .1) in (
+      c .before .before .gather-lists .ensures ∙ ap (λ (l : List ℕ). over l (a .numbers .now)) (lists-copy (a .order .now) (a .lengths .now) (a .numbers .now) (a .scratch .now) (s .pre .0 .0) e long room (c .before .before .before .before .before .before .before .before .copy-u32 .ensures)),
+      c .before .before .before .before .before .before .before .before .copy-u32 .ensures ∙ sets-over (a .scratch .now) (take (c .before .before .before .before .before .before .before .before .before .before .before .before .before .list-starts .result) (a .numbers .now)) (omega (arith, length-take (c .before .before .before .before .before .before .before .before .before .before .before .before .before .list-starts .result) (a .numbers .now)))
+          ∙ ap (λ (n : ℕ). over (take n (a .numbers .now)) (a .scratch .now)) e,
+    )
+
+pub move-lists-in-spec : {M : Type 1} → statement M
+move-lists-in-spec =
+    tie.close
+    (tie.spec
+    list-starts-requires
+    copy-u32-requires
+    gather-lists-requires
+    same-length
+    same-length-2
+    same-length-3
+    returns)

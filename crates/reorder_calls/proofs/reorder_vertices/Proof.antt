@@ -1,0 +1,188 @@
+-- `reorder_calls::reorder_vertices` meets its contract. Assumes nothing.
+use mathlib.Core.Path.{_≡_, refl, sym, ap, _∙_}
+use mathlib.Core.List.{List}
+use Prim.Native.Nat.{ℕ, _≤_, _<_}
+use native.Mathlib.Omega.{arith}
+use lib.ListN.{length, getD}
+use Rattle.columns_neighbors.specs.Steps.{sumTo}
+use Rattle.reorder_calls.specs.Columns.{CodeColumns, codeColumns, reorderDoor}
+use Rattle.reorder_calls.proofs.Accepting.{ReorderMet, reorder-met, reordered-refused, reordered-accepted}
+use borrow.Author.Needs.{needs}
+use Rattle.reorder_calls.proofs.reorder_vertices.Statement.{statement}
+use Rattle.reorder_calls.proofs.reorder_vertices.Tie as tie
+use Rattle.reorder_calls.proofs.reorder_vertices.Reads as reads
+use Rattle.reorder_calls.proofs.reorder_vertices.Lts as lts
+use Rattle.columns.proofs.done_of.Reads as done-of-reads
+use Rattle.reorder_calls.proofs.lists.move_lists.Reads as move-lists-reads
+use Rattle.reorder_columns.proofs.move_positions.Reads as move-positions-reads
+use Rattle.reorder_columns.proofs.move_u32.Reads as move-u32-reads
+use Rattle.reorder_columns.proofs.move_u8.Reads as move-u8-reads
+use Rattle.reorder_orders.proofs.rename_ends.Reads as rename-ends-reads
+use Rattle.reorder_calls.proofs.reorder_door.Reads as reorder-door-reads
+
+reorder-door-requires : tie.Need-reorder-door-requires
+reorder-door-requires c κs = tt
+
+done-of-requires : tie.Need-done-of-requires
+done-of-requires c κs = tt
+
+same-length : tie.Need-same-length
+same-length c = search needs
+
+same-length-2 : tie.Need-same-length-2
+same-length-2 c = search needs
+
+same-length-3 : tie.Need-same-length-3
+same-length-3 c = search needs
+
+same-length-4 : tie.Need-same-length-4
+same-length-4 c = search needs
+
+same-length-5 : tie.Need-same-length-5
+same-length-5 c = search needs
+
+same-length-6 : tie.Need-same-length-6
+same-length-6 c = search needs
+
+same-length-7 : tie.Need-same-length-7
+same-length-7 c = search needs
+
+same-length-8 : tie.Need-same-length-8
+same-length-8 c = search needs
+
+same-length-9 : tie.Need-same-length-9
+same-length-9 c = search needs
+
+same-length-10 : tie.Need-same-length-10
+same-length-10 c = search needs
+
+returns : tie.Need-returns
+returns c =
+    let a = c .before .before .before .before .before .before .before .before .before .before .before .before .before .before .before .before .before .before .before .before .before .before .before .before .args in
+    let b : CodeColumns = codeColumns (a .ends-a .now) (a .ends-b .now) (a .boundary .now) (a .defect .now) (a .is .now) (a .js .now) (a .ts .now) (a .lengths .now) (a .numbers .now) (a .scratch .now) in
+    reordered-refused (a .vertex-num) (a .edge-num) (a .order .now) b (c .before .before .reorder-door .ensures) (c .before .if1 .taken) (c .done-of .ensures)
+
+rename-ends-requires : tie.Need-rename-ends-requires
+rename-ends-requires c κs =
+    let a = c .before .before .before .before .before .before .before .before .before .before .before .before .before .before .before .before .before .before .before .before .before .before .before .before .before .args in
+    let b : CodeColumns = codeColumns (a .ends-a .now) (a .ends-b .now) (a .boundary .now) (a .defect .now) (a .is .now) (a .js .now) (a .ts .now) (a .lengths .now) (a .numbers .now) (a .scratch .now) in
+    let z : reorderDoor (a .vertex-num) (a .edge-num) (a .order .now) b ≡ 0 = sym (c .before .before .before .reorder-door .ensures) ∙ c .before .before .if1 .left in
+    let k : ReorderMet (a .vertex-num) (a .edge-num) (a .order .now) b = reorder-met (a .vertex-num) (a .edge-num) (a .order .now) b z in
+    ((k .order-is, k .sound .graph .long-a, k .sound .graph .long-b), ((λ i h. omega (arith, k .many, k .sound .graph .in-a i h)), (λ i h. omega (arith, k .many, k .sound .graph .in-b i h))))
+
+move-u8-requires : tie.Need-move-u8-requires
+move-u8-requires c κs =
+    let a = c .before .before .before .before .before .before .before .before .before .before .before .before .before .before .before .before .before .before .before .before .before .before .before .before .before .before .before .before .before .before .before .args in
+    let b : CodeColumns = codeColumns (a .ends-a .now) (a .ends-b .now) (a .boundary .now) (a .defect .now) (a .is .now) (a .js .now) (a .ts .now) (a .lengths .now) (a .numbers .now) (a .scratch .now) in
+    let z : reorderDoor (a .vertex-num) (a .edge-num) (a .order .now) b ≡ 0 = sym (c .before .before .before .before .before .before .before .before .before .reorder-door .ensures) ∙ c .before .before .before .before .before .before .before .before .if1 .left in
+    let k : ReorderMet (a .vertex-num) (a .edge-num) (a .order .now) b = reorder-met (a .vertex-num) (a .edge-num) (a .order .now) b z in
+    (k .order-is, omega (arith, k .many, k .long-boundary))
+
+move-u8-requires-2 : tie.Need-move-u8-requires-2
+move-u8-requires-2 c κs =
+    let a = c .before .before .before .before .before .before .before .before .before .before .before .before .before .before .before .before .before .before .before .before .before .before .before .before .before .before .before .before .before .before .before .before .before .before .before .args in
+    let b : CodeColumns = codeColumns (a .ends-a .now) (a .ends-b .now) (a .boundary .now) (a .defect .now) (a .is .now) (a .js .now) (a .ts .now) (a .lengths .now) (a .numbers .now) (a .scratch .now) in
+    let z : reorderDoor (a .vertex-num) (a .edge-num) (a .order .now) b ≡ 0 = sym (c .before .before .before .before .before .before .before .before .before .before .before .before .before .reorder-door .ensures) ∙ c .before .before .before .before .before .before .before .before .before .before .before .before .if1 .left in
+    let k : ReorderMet (a .vertex-num) (a .edge-num) (a .order .now) b = reorder-met (a .vertex-num) (a .edge-num) (a .order .now) b z in
+    (k .order-is, omega (arith, k .many, k .long-defect))
+
+move-positions-requires : tie.Need-move-positions-requires
+move-positions-requires c κs =
+    let a = c .before .before .before .before .before .before .before .before .before .before .before .before .before .before .before .before .before .before .before .before .before .before .before .before .before .before .before .before .before .before .before .before .before .before .before .before .before .before .before .before .before .args in
+    let b : CodeColumns = codeColumns (a .ends-a .now) (a .ends-b .now) (a .boundary .now) (a .defect .now) (a .is .now) (a .js .now) (a .ts .now) (a .lengths .now) (a .numbers .now) (a .scratch .now) in
+    let z : reorderDoor (a .vertex-num) (a .edge-num) (a .order .now) b ≡ 0 = sym (c .before .before .before .before .before .before .before .before .before .before .before .before .before .before .before .before .before .before .before .reorder-door .ensures) ∙ c .before .before .before .before .before .before .before .before .before .before .before .before .before .before .before .before .before .before .if1 .left in
+    let k : ReorderMet (a .vertex-num) (a .edge-num) (a .order .now) b = reorder-met (a .vertex-num) (a .edge-num) (a .order .now) b z in
+    (k .order-is, omega (arith, k .many, k .long-i), omega (arith, k .many, k .long-j), omega (arith, k .many, k .long-t))
+
+move-lists-requires : tie.Need-move-lists-requires
+move-lists-requires c κs =
+    let a = c .before .before .before .before .before .before .before .before .before .before .before .before .before .before .before .before .before .before .before .before .before .before .before .before .before .before .before .before .before .before .before .before .before .before .before .before .before .before .before .before .before .before .before .before .before .before .before .before .before .before .before .args in
+    let b : CodeColumns = codeColumns (a .ends-a .now) (a .ends-b .now) (a .boundary .now) (a .defect .now) (a .is .now) (a .js .now) (a .ts .now) (a .lengths .now) (a .numbers .now) (a .scratch .now) in
+    let z : reorderDoor (a .vertex-num) (a .edge-num) (a .order .now) b ≡ 0 = sym (c .before .before .before .before .before .before .before .before .before .before .before .before .before .before .before .before .before .before .before .before .before .before .before .before .before .before .before .before .before .reorder-door .ensures) ∙ c .before .before .before .before .before .before .before .before .before .before .before .before .before .before .before .before .before .before .before .before .before .before .before .before .before .before .before .before .if1 .left in
+    let k : ReorderMet (a .vertex-num) (a .edge-num) (a .order .now) b = reorder-met (a .vertex-num) (a .edge-num) (a .order .now) b z in
+    let e : sumTo (length (a .order .now)) (a .lengths .now) ≡ sumTo (a .vertex-num) (a .lengths .now) = ap (λ (n : ℕ). sumTo n (a .lengths .now)) (k .many) in
+    ((k .order-is, omega (arith, k .many, k .long-lengths)), (omega (arith, e, k .long-numbers), omega (arith, e, k .long-scratch)))
+
+move-u32-requires : tie.Need-move-u32-requires
+move-u32-requires c κs =
+    let a = c .before .before .before .before .before .before .before .before .before .before .before .before .before .before .before .before .before .before .before .before .before .before .before .before .before .before .before .before .before .before .before .before .before .before .before .before .before .before .before .before .before .before .before .before .before .before .before .before .before .before .before .before .before .before .before .before .before .args in
+    let b : CodeColumns = codeColumns (a .ends-a .now) (a .ends-b .now) (a .boundary .now) (a .defect .now) (a .is .now) (a .js .now) (a .ts .now) (a .lengths .now) (a .numbers .now) (a .scratch .now) in
+    let z : reorderDoor (a .vertex-num) (a .edge-num) (a .order .now) b ≡ 0 = sym (c .before .before .before .before .before .before .before .before .before .before .before .before .before .before .before .before .before .before .before .before .before .before .before .before .before .before .before .before .before .before .before .before .before .before .before .reorder-door .ensures) ∙ c .before .before .before .before .before .before .before .before .before .before .before .before .before .before .before .before .before .before .before .before .before .before .before .before .before .before .before .before .before .before .before .before .before .before .if1 .left in
+    let k : ReorderMet (a .vertex-num) (a .edge-num) (a .order .now) b = reorder-met (a .vertex-num) (a .edge-num) (a .order .now) b z in
+    (k .order-is, omega (arith, k .many, k .long-lengths))
+
+same-length-11 : tie.Need-same-length-11
+same-length-11 c = c .before .before .before .before .before .before .before .before .before .before .before .before .before .before .before .before .before .before .before .before .before .before .before .before .before .before .before .before .before .before .before .before .before .ends-a .given
+
+same-length-12 : tie.Need-same-length-12
+same-length-12 c = c .before .before .before .before .before .before .before .before .before .before .before .before .before .before .before .before .before .before .before .before .before .before .before .before .before .before .before .before .before .before .before .ends-b .given
+
+same-length-13 : tie.Need-same-length-13
+same-length-13 c = c .before .before .before .before .before .before .before .before .before .before .before .before .before .before .before .before .before .before .before .before .before .before .before .before .before .before .before .boundary .given
+
+same-length-14 : tie.Need-same-length-14
+same-length-14 c = c .before .before .before .before .before .before .before .before .before .before .before .before .before .before .before .before .before .before .before .before .before .before .before .defect .given
+
+same-length-15 : tie.Need-same-length-15
+same-length-15 c = c .before .before .before .before .before .before .before .before .before .before .before .before .before .before .before .before .before .is .given
+
+same-length-16 : tie.Need-same-length-16
+same-length-16 c = c .before .before .before .before .before .before .before .before .before .before .before .before .before .before .before .js .given
+
+same-length-17 : tie.Need-same-length-17
+same-length-17 c = c .before .before .before .before .before .before .before .before .before .before .before .before .before .ts .given
+
+same-length-18 : tie.Need-same-length-18
+same-length-18 c = c .before .lengths .given
+
+same-length-19 : tie.Need-same-length-19
+same-length-19 c = c .before .before .before .before .before .before .before .numbers .given
+
+same-length-20 : tie.Need-same-length-20
+same-length-20 c = c .before .before .before .before .before .scratch .given
+
+returns-2 : tie.Need-returns-2
+returns-2 c =
+    let a = c .before .before .before .before .before .before .before .before .before .before .before .before .before .before .before .before .before .before .before .before .before .before .before .before .before .before .before .before .before .before .before .before .before .before .before .before .before .before .before .before .before .before .before .before .before .before .before .before .before .before .before .before .before .before .before .before .before .before .before .before .args in
+    let b : CodeColumns = codeColumns (a .ends-a .now) (a .ends-b .now) (a .boundary .now) (a .defect .now) (a .is .now) (a .js .now) (a .ts .now) (a .lengths .now) (a .numbers .now) (a .scratch .now) in
+    let z : reorderDoor (a .vertex-num) (a .edge-num) (a .order .now) b ≡ 0 = sym (c .before .before .before .before .before .before .before .before .before .before .before .before .before .before .before .before .before .before .before .before .before .before .before .before .before .before .before .before .before .before .before .before .before .before .before .before .before .before .reorder-door .ensures) ∙ c .before .before .before .before .before .before .before .before .before .before .before .before .before .before .before .before .before .before .before .before .before .before .before .before .before .before .before .before .before .before .before .before .before .before .before .before .before .if1 .left in
+    let k : ReorderMet (a .vertex-num) (a .edge-num) (a .order .now) b = reorder-met (a .vertex-num) (a .edge-num) (a .order .now) b z in
+    let ends = c .before .before .before .before .before .before .before .before .before .before .before .before .before .before .before .before .before .before .before .before .before .before .before .before .before .before .before .before .before .before .before .before .before .before .rename-ends .ensures in
+    let at = c .before .before .before .before .before .before .before .before .before .before .before .before .before .before .before .before .before .before .move-positions .ensures in
+    let lists = c .before .before .before .before .before .before .before .before .move-lists .ensures in
+    reordered-accepted (a .vertex-num) (a .edge-num) (a .order .now) b _ z (k .many) (ends .0) (ends .1) (c .before .before .before .before .before .before .before .before .before .before .before .before .before .before .before .before .before .before .before .before .before .before .before .before .before .before .before .before .move-u8 .ensures) (c .before .before .before .before .before .before .before .before .before .before .before .before .before .before .before .before .before .before .before .before .before .before .before .before .move-u82 .ensures) (at .0) (at .1 .0) (at .1 .1) (c .before .before .move-u32 .ensures) (lists .0) (lists .1)
+
+pub reorder-vertices-spec : {M : Type 1} → statement M
+reorder-vertices-spec =
+    tie.close
+    (tie.spec
+    reorder-door-requires
+    done-of-requires
+    same-length
+    same-length-2
+    same-length-3
+    same-length-4
+    same-length-5
+    same-length-6
+    same-length-7
+    same-length-8
+    same-length-9
+    same-length-10
+    returns
+    rename-ends-requires
+    move-u8-requires
+    move-u8-requires-2
+    move-positions-requires
+    move-lists-requires
+    move-u32-requires
+    same-length-11
+    same-length-12
+    same-length-13
+    same-length-14
+    same-length-15
+    same-length-16
+    same-length-17
+    same-length-18
+    same-length-19
+    same-length-20
+    returns-2)

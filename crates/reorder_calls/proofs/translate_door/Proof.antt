@@ -1,0 +1,67 @@
+-- `reorder_calls::translate_door` meets its contract. Assumes nothing.
+use mathlib.Core.Path.{_≡_, refl, sym, ap, _∙_}
+use native.Mathlib.Omega.{arith}
+use Rattle.columns.specs.Questions.{allBelow}
+use Rattle.columns.proofs.Tests.{and-both}
+use lib.ListN.{length}
+use Rattle.columns.proofs.Doors.{ands}
+use Rattle.reorder_calls.proofs.Accepting.{translate-6, translate-11, translate-on}
+use borrow.Author.Needs.{needs}
+use Rattle.reorder_calls.proofs.translate_door.Statement.{statement}
+use Rattle.reorder_calls.proofs.translate_door.Tie as tie
+use Rattle.reorder_calls.proofs.translate_door.Reads as reads
+use Rattle.reorder_calls.proofs.translate_door.Lts as lts
+use Rattle.columns.proofs.questions.both.Reads as both-reads
+use Rattle.columns.proofs.questions.each_below.Reads as each-below-reads
+use Rattle.reorder_orders.proofs.order_questions.Reads as order-questions-reads
+
+returns : tie.Need-returns
+returns c = let a = c .before .before .before .before .args in translate-6 (a .order .now) (a .list .now) (a .column .now) (omega arith)
+
+cast-if2 : tie.Need-cast-if2
+cast-if2 c = search needs
+
+returns-2 : tie.Need-returns-2
+returns-2 c = let a = c .before .before .before .before .before .args in translate-11 (a .order .now) (a .list .now) (a .column .now) (omega arith) (omega arith)
+
+cast-each-below : tie.Need-cast-each-below
+cast-each-below c = search needs
+
+each-below-requires : tie.Need-each-below-requires
+each-below-requires c κs = tt
+
+cast-each-below-2 : tie.Need-cast-each-below-2
+cast-each-below-2 c = search needs
+
+each-below-requires-2 : tie.Need-each-below-requires-2
+each-below-requires-2 c κs = tt
+
+both-requires : tie.Need-both-requires
+both-requires c κs = tt
+
+order-questions-requires : tie.Need-order-questions-requires
+order-questions-requires c κs =
+    let a = c .before .before .before .before .before .before .before .before .args in
+    let same = c .both .ensures ∙ ands (c .before .before .each-below .ensures) (c .before .each-below2 .ensures) in
+    (omega arith, λ e. and-both (allBelow (length (a .order .now)) (a .order .now)) (allBelow (length (a .order .now)) (a .list .now)) (sym same ∙ e) .0)
+
+returns-3 : tie.Need-returns-3
+returns-3 c =
+    let a = c .before .before .before .before .before .before .before .before .before .args in
+    let same = c .before .both .ensures ∙ ands (c .before .before .before .each-below .ensures) (c .before .before .each-below2 .ensures) in
+    translate-on (a .order .now) (a .list .now) (a .column .now) (omega arith) (omega arith) same (c .order-questions .ensures)
+
+pub translate-door-spec : {M : Type 1} → statement M
+translate-door-spec =
+    tie.close
+    (tie.spec
+    returns
+    cast-if2
+    returns-2
+    cast-each-below
+    each-below-requires
+    cast-each-below-2
+    each-below-requires-2
+    both-requires
+    order-questions-requires
+    returns-3)

@@ -1,0 +1,102 @@
+-- `reorder_vertices`: boundary, defect, position, list length and neighbour list move with the vertex, edge ends are renamed.
+use Prim.Native.Nat.{ℕ, _*_}
+use mathlib.Core.Path.{_≡_}
+use mathlib.Core.Bool.{Bool, _&&_}
+use mathlib.Core.List.{List}
+use lib.ListN.{length, getD, take, drop}
+use lib.Dec.{leb, eqb}
+use lib.Ieee.{Float}
+use Rattle.columns.specs.Lists.{joined, after}
+use Rattle.columns.specs.Questions.{ask, allBelow, marksSound}
+use Rattle.columns.specs.Places.{zeroFloat}
+use Rattle.columns_answers.specs.Said.{Answered}
+use Rattle.columns_answers.specs.Done.{said}
+use Rattle.columns.specs.declared.Done.{Done}
+use Rattle.columns_neighbors.specs.Steps.{sumTo}
+use Rattle.sampling_calls.specs.Records.{codeGraph, codeSound}
+use Rattle.reorder_orders.specs.Order.{noneTwice, renamed, moved}
+
+-- the columns that a reordering changes; `numbers` has the neighbour lists one after another, `scratch` has room for them too
+pub record CodeColumns : Type 0 where
+  pub endsA : List ℕ
+  pub endsB : List ℕ
+  pub boundary : List ℕ
+  pub defect : List ℕ
+  pub positionI : List Float
+  pub positionJ : List Float
+  pub positionT : List Float
+  pub lengths : List ℕ
+  pub numbers : List ℕ
+  pub scratch : List ℕ
+
+abbrev pub codeColumns : (a b m d : List ℕ) (i j t : List Float) (lengths numbers scratch : List ℕ) → CodeColumns
+codeColumns a b m d i j t l n s = record {
+  endsA = a;
+  endsB = b;
+  boundary = m;
+  defect = d;
+  positionI = i;
+  positionJ = j;
+  positionT = t;
+  lengths = l;
+  numbers = n;
+  scratch = s;
+}
+
+-- the neighbour list of vertex u, after the lists of the vertices before it
+abbrev pub listAt : (lengths numbers : List ℕ) (u : ℕ) → List ℕ
+listAt lengths numbers u = take (getD lengths u 0) (drop (sumTo u lengths) numbers)
+
+-- the neighbour lists in the new order, one after another
+unfoldable pub movedLists : (order lengths numbers : List ℕ) → List ℕ
+movedLists order lengths numbers = joined (length order) (λ k. listAt lengths numbers (getD order k 0))
+
+-- 6: edge columns, vertex columns, positions, neighbour numbers and their scratch
+unfoldable pub endsLong : (e : ℕ) (a b : List ℕ) → Bool
+endsLong e a b = leb e (length a) && leb e (length b)
+
+unfoldable pub vertexLong : (v : ℕ) (m d l : List ℕ) → Bool
+vertexLong v m d l = leb v (length m) && (leb v (length d) && leb v (length l))
+
+unfoldable pub positionsLong : (v : ℕ) (i j t : List Float) → Bool
+positionsLong v i j t = leb v (length i) && (leb v (length j) && leb v (length t))
+
+-- twice the edges, and the list lengths' sum
+unfoldable pub listsLong : (v e : ℕ) (l numbers : List ℕ) → Bool
+listsLong v e l numbers = leb (2 * e) (length numbers) && leb (sumTo v l) (length numbers)
+
+unfoldable pub columnsLong : (v e : ℕ) → CodeColumns → Bool
+columnsLong v e c =
+    endsLong e (c .endsA) (c .endsB)
+    && (vertexLong v (c .boundary) (c .defect) (c .lengths)
+    && (positionsLong v (c .positionI) (c .positionJ) (c .positionT)
+    && (listsLong v e (c .lengths) (c .numbers) && listsLong v e (c .lengths) (c .scratch))))
+
+-- 7: counts, ends, boundary and defect bytes
+unfoldable pub columnsSound : (v e : ℕ) (a b m d : List ℕ) → Bool
+columnsSound v e a b m d = codeSound (codeGraph v e a b m) && marksSound v d
+
+-- 11, 13 and 14
+unfoldable pub orderDoor : (v : ℕ) (order : List ℕ) → ℕ
+orderDoor v order = ask (eqb (length order) v) 11 (ask (allBelow v order) 13 (ask (noneTwice order) 14 0))
+
+-- questions 6, 7, 11, 13 and 14
+unfoldable pub reorderDoor : (v e : ℕ) (order : List ℕ) → CodeColumns → ℕ
+reorderDoor v e order c =
+    ask (columnsLong v e c) 6
+    (ask (columnsSound v e (c .endsA) (c .endsB) (c .boundary) (c .defect)) 7
+    (orderDoor v order))
+
+-- the answer, and every column; after an accepted call the scratch starts with the old neighbour lists
+pub record ReorderedVertices (v e : ℕ) (order : List ℕ) (before : CodeColumns) (answer : Done) (last : CodeColumns) : Type 0 where
+  pub answers : Answered (said answer) (reorderDoor v e order before) tt tt
+  pub endsA-is : last .endsA ≡ after (reorderDoor v e order before) (renamed order (take e (before .endsA))) (before .endsA)
+  pub endsB-is : last .endsB ≡ after (reorderDoor v e order before) (renamed order (take e (before .endsB))) (before .endsB)
+  pub boundary-is : last .boundary ≡ after (reorderDoor v e order before) (moved order 0 (before .boundary)) (before .boundary)
+  pub defect-is : last .defect ≡ after (reorderDoor v e order before) (moved order 0 (before .defect)) (before .defect)
+  pub positionI-is : last .positionI ≡ after (reorderDoor v e order before) (moved order zeroFloat (before .positionI)) (before .positionI)
+  pub positionJ-is : last .positionJ ≡ after (reorderDoor v e order before) (moved order zeroFloat (before .positionJ)) (before .positionJ)
+  pub positionT-is : last .positionT ≡ after (reorderDoor v e order before) (moved order zeroFloat (before .positionT)) (before .positionT)
+  pub lengths-is : last .lengths ≡ after (reorderDoor v e order before) (moved order 0 (before .lengths)) (before .lengths)
+  pub numbers-is : last .numbers ≡ after (reorderDoor v e order before) (movedLists order (before .lengths) (before .numbers)) (before .numbers)
+  pub scratch-is : last .scratch ≡ after (reorderDoor v e order before) (take (sumTo v (before .lengths)) (before .numbers)) (before .scratch)

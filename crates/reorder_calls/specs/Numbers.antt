@@ -1,0 +1,50 @@
+-- `build_old_to_new` and `translated_defect_to_reordered`: the order list's own length is the vertex count.
+use Prim.Native.Nat.{ℕ}
+use mathlib.Core.Path.{_≡_}
+use mathlib.Core.Bool.{_&&_}
+use mathlib.Core.List.{List}
+use lib.ListN.{length}
+use lib.Dec.{leb}
+use Rattle.columns.specs.Limits.{vertexLimit}
+use Rattle.columns.specs.Lists.{after}
+use Rattle.columns.specs.Questions.{ask, allBelow}
+use Rattle.columns_answers.specs.Said.{Said, accepts, refuses, Answered}
+use Rattle.columns_answers.specs.Done.{said}
+use Rattle.columns.specs.declared.Done.{Done}
+use Rattle.reorder_calls.specs.declared.TranslatedAnswer.{TranslatedAnswer}
+use Rattle.reorder_calls.specs.declared.TranslatedAnswer.the-variants.{Count, Refused}
+use Rattle.reorder_orders.specs.Order.{noneTwice, oldToNew, renamed}
+
+-- ---- build_old_to_new
+
+-- questions 6, 11, 13 and 14
+unfoldable pub buildDoor : (order column : List ℕ) → ℕ
+buildDoor order column =
+    ask (leb (length order) (length column)) 6
+    (ask (leb (length order) vertexLimit) 11
+    (ask (allBelow (length order) order) 13
+    (ask (noneTwice order) 14 0)))
+
+pub record BuiltOldToNew (order column₀ : List ℕ) (answer : Done) (column : List ℕ) : Type 0 where
+  pub answers : Answered (said answer) (buildDoor order column₀) tt tt
+  pub column-is : column ≡ after (buildDoor order column₀) (oldToNew order) column₀
+
+-- ---- translated_defect_to_reordered
+
+-- document 01's number for each case, and how many numbers were translated, 0 at a refusal
+abbrev pub countSaid : TranslatedAnswer → Said ℕ
+countSaid (Count n) = accepts n
+countSaid (Refused number) = refuses number 0
+
+-- questions 6, 11, 13 of both lists, and 14
+unfoldable pub translateDoor : (order list column : List ℕ) → ℕ
+translateDoor order list column =
+    ask (leb (length list) (length column)) 6
+    (ask (leb (length order) vertexLimit) 11
+    (ask (allBelow (length order) order && allBelow (length order) list) 13
+    (ask (noneTwice order) 14 0)))
+
+-- a translated list keeps its order
+pub record TranslatedDefects (order list column₀ : List ℕ) (answer : TranslatedAnswer) (column : List ℕ) : Type 0 where
+  pub answers : Answered (countSaid answer) (translateDoor order list column₀) (length list) 0
+  pub column-is : column ≡ after (translateDoor order list column₀) (renamed order list) column₀

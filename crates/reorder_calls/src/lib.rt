@@ -1,0 +1,275 @@
+// Vertices in another order: old numbers and new ones, and every column moved.
+mod lists;
+
+ghost use mathlib.Core.Path.{_≡_};
+ghost use mathlib.Core.Bool.{true};
+ghost use Prim.Native.Nat.{_≤_};
+ghost use Rattle.columns.specs.Questions.{ask};
+ghost use Rattle.reorder_calls.specs.Columns.{codeColumns, endsLong, vertexLong, positionsLong, listsLong, columnsLong, columnsSound, orderDoor, reorderDoor, ReorderedVertices};
+ghost use Rattle.reorder_calls.specs.Numbers.{buildDoor, BuiltOldToNew, translateDoor, TranslatedDefects};
+use columns::Done;
+use columns::VERTEX_LIMIT;
+use columns::done_of;
+use columns::questions::at_most;
+use columns::questions::both;
+use columns::questions::each_below;
+use columns::questions::marks_sound;
+use lists::move_lists;
+use lists::sum_within;
+use reorder_columns::move_positions;
+use reorder_columns::move_u8;
+use reorder_columns::move_u32;
+use reorder_orders::order_questions;
+use reorder_orders::place_numbers;
+use reorder_orders::rename_ends;
+use reorder_orders::translate;
+use sampling_calls::doors::code_sound;
+
+// How many numbers were translated, or the number of the question that was not met.
+pub enum TranslatedAnswer {
+    Count(usize),
+    Refused(u32),
+}
+
+// The first question of build_old_to_new that is not met, or 0.
+fn build_door(order: &[u32], column: &[u32]) -> u32
+    ensures { λ r. ⌜ r ≡ buildDoor (now (order .entry)) (now (column .entry)) ⌝ }
+{
+    let n = order.len();
+    if column.len() < n {
+        return 6;
+    }
+    if n > (VERTEX_LIMIT as usize) {
+        return 11;
+    }
+    order_questions(each_below(order, n as u32), order)
+}
+
+// Stores the new number of each old vertex.
+pub fn build_old_to_new(order: &[u32], column: &mut [u32]) -> Done
+    ensures { λ r. ⌜ BuiltOldToNew (now (order .entry)) (now (column .entry)) r (now (column .exit)) ⌝ }
+{
+    let number = build_door(order, column);
+    if number != 0 {
+        return done_of(number);
+    }
+    place_numbers(order, column);
+    Done::Accepted
+}
+
+// The first question of translated_defect_to_reordered that is not met, or 0.
+fn translate_door(order: &[u32], list: &[u32], column: &[u32]) -> u32
+    ensures { λ r. ⌜ r ≡ translateDoor (now (order .entry)) (now (list .entry)) (now (column .entry)) ⌝ }
+{
+    let n = order.len();
+    if column.len() < list.len() {
+        return 6;
+    }
+    if n > (VERTEX_LIMIT as usize) {
+        return 11;
+    }
+    let named = each_below(order, n as u32);
+    let listed = each_below(list, n as u32);
+    order_questions(both(named, listed), order)
+}
+
+// Stores the new number of each listed old vertex, in the list's order.
+pub fn translated_defect_to_reordered(
+    order: &[u32],
+    list: &[u32],
+    column: &mut [u32],
+) -> TranslatedAnswer
+    ensures { λ r. ⌜ TranslatedDefects (now (order .entry)) (now (list .entry)) (now (column .entry)) r (now (column .exit)) ⌝ }
+{
+    let number = translate_door(order, list, column);
+    if number == 0 {
+        translate(order, list, column);
+        return TranslatedAnswer::Count(list.len());
+    }
+    TranslatedAnswer::Refused(number)
+}
+
+// Question 6, of ends, vertex columns, positions and neighbour lists.
+fn columns_long(
+    vertex_num: u32,
+    edge_num: u32,
+    ends_a: &[u32],
+    ends_b: &[u32],
+    boundary: &[u8],
+    defect: &[u8],
+    is: &[f64],
+    js: &[f64],
+    ts: &[f64],
+    lengths: &[u32],
+    numbers: &[u32],
+    scratch: &[u32],
+) -> bool
+    ensures { λ r. ⌜ r ≡ columnsLong «vertex_num» «edge_num» (codeColumns (now («ends_a» .entry)) (now («ends_b» .entry)) (now (boundary .entry)) (now (defect .entry)) (now (is .entry)) (now (js .entry)) (now (ts .entry)) (now (lengths .entry)) (now (numbers .entry)) (now (scratch .entry))) ⌝ }
+{
+    let ends = ends_long(edge_num, ends_a, ends_b);
+    let vertices = vertex_long(vertex_num, boundary, defect, lengths);
+    let positions = positions_long(vertex_num, is, js, ts);
+    let lists = lists_long(vertex_num, edge_num, lengths, numbers);
+    let copies = lists_long(vertex_num, edge_num, lengths, scratch);
+    both(ends, both(vertices, both(positions, both(lists, copies))))
+}
+
+fn ends_long(edge_num: u32, a: &[u32], b: &[u32]) -> bool
+    ensures { λ r. ⌜ r ≡ endsLong «edge_num» (now (a .entry)) (now (b .entry)) ⌝ }
+{
+    let n = edge_num as usize;
+    both(at_most(n, a.len()), at_most(n, b.len()))
+}
+
+fn vertex_long(vertex_num: u32, boundary: &[u8], defect: &[u8], lengths: &[u32]) -> bool
+    ensures { λ r. ⌜ r ≡ vertexLong «vertex_num» (now (boundary .entry)) (now (defect .entry)) (now (lengths .entry)) ⌝ }
+{
+    let n = vertex_num as usize;
+    let m = at_most(n, boundary.len());
+    let d = at_most(n, defect.len());
+    let l = at_most(n, lengths.len());
+    both(m, both(d, l))
+}
+
+fn positions_long(vertex_num: u32, is: &[f64], js: &[f64], ts: &[f64]) -> bool
+    ensures { λ r. ⌜ r ≡ positionsLong «vertex_num» (now (is .entry)) (now (js .entry)) (now (ts .entry)) ⌝ }
+{
+    let n = vertex_num as usize;
+    let i = at_most(n, is.len());
+    let j = at_most(n, js.len());
+    let t = at_most(n, ts.len());
+    both(i, both(j, t))
+}
+
+fn lists_long(vertex_num: u32, edge_num: u32, lengths: &[u32], numbers: &[u32]) -> bool
+    ensures { λ r. ⌜ r ≡ listsLong «vertex_num» «edge_num» (now (lengths .entry)) (now (numbers .entry)) ⌝ }
+{
+    let twice = at_most(2 * (edge_num as usize), numbers.len());
+    let sum = sum_within(lengths, vertex_num as usize, numbers.len());
+    both(twice, sum)
+}
+
+// Question 7, of counts, ends, boundary and defect bytes.
+fn columns_sound(
+    vertex_num: u32,
+    edge_num: u32,
+    ends_a: &[u32],
+    ends_b: &[u32],
+    boundary: &[u8],
+    defect: &[u8],
+) -> bool
+    ensures { λ r. ⌜ r ≡ columnsSound «vertex_num» «edge_num» (now («ends_a» .entry)) (now («ends_b» .entry)) (now (boundary .entry)) (now (defect .entry)) ⌝ }
+{
+    let code = code_sound(vertex_num, edge_num, ends_a, ends_b, boundary);
+    let marks = marks_sound(defect, vertex_num as usize);
+    both(code, marks)
+}
+
+// Questions 11, 13 and 14, of an order for at most 4,096 vertices.
+fn vertex_order_questions(vertex_num: u32, order: &[u32]) -> u32
+    requires { ⌜ «vertex_num» ≤ 4096 ⌝ }
+    ensures { λ r. ⌜ r ≡ orderDoor «vertex_num» (now (order .entry)) ⌝ }
+{
+    if order.len() != vertex_num as usize {
+        return 11;
+    }
+    order_questions(each_below(order, vertex_num), order)
+}
+
+// The first question of reorder_vertices that is not met, or 0, given whether 6 and 7 are.
+fn reorder_questions(long: bool, sound: bool, vertex_num: u32, order: &[u32]) -> u32
+    requires { ⌜ (sound ≡ true → «vertex_num» ≤ 4096) ⌝ }
+    ensures { λ r. ⌜ r ≡ ask long 6 (ask sound 7 (orderDoor «vertex_num» (now (order .entry)))) ⌝ }
+{
+    if !long {
+        return 6;
+    }
+    if !sound {
+        return 7;
+    }
+    vertex_order_questions(vertex_num, order)
+}
+
+// The first question of reorder_vertices that is not met, or 0.
+fn reorder_door(
+    vertex_num: u32,
+    edge_num: u32,
+    order: &[u32],
+    ends_a: &[u32],
+    ends_b: &[u32],
+    boundary: &[u8],
+    defect: &[u8],
+    is: &[f64],
+    js: &[f64],
+    ts: &[f64],
+    lengths: &[u32],
+    numbers: &[u32],
+    scratch: &[u32],
+) -> u32
+    ensures { λ r. ⌜ r ≡ reorderDoor «vertex_num» «edge_num» (now (order .entry)) (codeColumns (now («ends_a» .entry)) (now («ends_b» .entry)) (now (boundary .entry)) (now (defect .entry)) (now (is .entry)) (now (js .entry)) (now (ts .entry)) (now (lengths .entry)) (now (numbers .entry)) (now (scratch .entry))) ⌝ }
+{
+    let long = columns_long(
+        vertex_num,
+        edge_num,
+        ends_a,
+        ends_b,
+        boundary,
+        defect,
+        is,
+        js,
+        ts,
+        lengths,
+        numbers,
+        scratch,
+    );
+    let sound = columns_sound(vertex_num, edge_num, ends_a, ends_b, boundary, defect);
+    reorder_questions(long, sound, vertex_num, order)
+}
+
+// Renumbers the vertices: new vertex k is the old vertex that the order names at place k. What belongs to a vertex moves with it, edge ends are renamed.
+pub fn reorder_vertices(
+    vertex_num: u32,
+    edge_num: u32,
+    order: &[u32],
+    ends_a: &mut [u32],
+    ends_b: &mut [u32],
+    boundary: &mut [u8],
+    defect: &mut [u8],
+    is: &mut [f64],
+    js: &mut [f64],
+    ts: &mut [f64],
+    lengths: &mut [u32],
+    numbers: &mut [u32],
+    scratch: &mut [u32],
+) -> Done
+    ensures { λ r. ⌜ ReorderedVertices «vertex_num» «edge_num» (now (order .entry))
+        (codeColumns (now («ends_a» .entry)) (now («ends_b» .entry)) (now (boundary .entry)) (now (defect .entry)) (now (is .entry)) (now (js .entry)) (now (ts .entry)) (now (lengths .entry)) (now (numbers .entry)) (now (scratch .entry)))
+        r
+        (codeColumns (now («ends_a» .exit)) (now («ends_b» .exit)) (now (boundary .exit)) (now (defect .exit)) (now (is .exit)) (now (js .exit)) (now (ts .exit)) (now (lengths .exit)) (now (numbers .exit)) (now (scratch .exit))) ⌝ }
+{
+    let number = reorder_door(
+        vertex_num,
+        edge_num,
+        order,
+        ends_a,
+        ends_b,
+        boundary,
+        defect,
+        is,
+        js,
+        ts,
+        lengths,
+        numbers,
+        scratch,
+    );
+    if number != 0 {
+        return done_of(number);
+    }
+    rename_ends(order, ends_a, ends_b, edge_num as usize);
+    move_u8(order, boundary);
+    move_u8(order, defect);
+    move_positions(order, is, js, ts);
+    move_lists(order, lengths, numbers, scratch);
+    move_u32(order, lengths);
+    Done::Accepted
+}

@@ -1,0 +1,106 @@
+-- `reorder_columns::gather_positions` meets its contract: after k turns the first k listed positions are stored. Assumes nothing.
+use borrow.Author.Needs.{needs}
+use mathlib.Core.Path.{_≡_, refl, sym, ap, _∙_}
+use mathlib.Core.List.{List, map}
+use Prim.Native.Nat.{ℕ, _≤_, _<_, _-_, _+_}
+use native.Mathlib.Omega.{arith}
+use lib.ListN.{getD, length, take, set, length-set}
+use lib.Seq.{sets, length-sets}
+use lib.Ieee.{Float}
+use Rattle.columns.specs.Places.{zeroFloat, positionAt}
+use Rattle.columns.specs.declared.VisualizePosition.{VisualizePosition}
+use Rattle.reorder_orders.proofs.Gathering.{gather-more, gather-end}
+use Rattle.reorder_columns.proofs.gather_positions.Statement.{statement}
+use Rattle.reorder_columns.proofs.gather_positions.Tie as tie
+use Rattle.reorder_columns.proofs.gather_positions.Reads as reads
+use Rattle.reorder_columns.proofs.gather_positions.Lts as lts
+use Rattle.columns.proofs.VisualizePosition.load.Reads as load-reads
+use Rattle.columns.proofs.VisualizePosition.store.Reads as store-reads
+use Rattle.reorder_orders.proofs.wide.Reads as wide-reads
+
+abbrev Inv-loop : tie.InvT-loop
+Inv-loop list from-i from-j from-t is₀ js₀ ts₀ k₀ is js ts k = (k ≤ length list) × (is ≡ sets is₀ 0 (map (λ u. getD from-i u zeroFloat) (take k list))) × (js ≡ sets js₀ 0 (map (λ u. getD from-j u zeroFloat) (take k list))) × (ts ≡ sets ts₀ 0 (map (λ u. getD from-t u zeroFloat) (take k list)))
+
+abbrev μ-loop : tie.MeasureT-loop
+μ-loop list from-i from-j from-t is₀ js₀ ts₀ k₀ is js ts k = length list - k
+
+loop-holds : tie.Need-loop-holds Inv-loop μ-loop
+loop-holds c = (search needs, refl, refl, refl)
+
+mul-wide : tie.Need-mul-wide Inv-loop μ-loop
+mul-wide c = search needs
+
+shared-slice-read-wide : tie.Need-shared-slice-read-wide Inv-loop μ-loop
+shared-slice-read-wide c = search needs
+
+wide-requires : tie.Need-wide-requires Inv-loop μ-loop
+wide-requires c κs = tt
+
+load-requires : tie.Need-load-requires Inv-loop μ-loop
+load-requires c κs = tt
+
+store-requires : tie.Need-store-requires Inv-loop μ-loop
+store-requires c κs = tt
+
+add-k : tie.Need-add-k Inv-loop μ-loop
+add-k c = search needs
+
+loop-less : tie.Need-loop-less Inv-loop μ-loop
+loop-less c = search needs
+
+loop-again : tie.Need-loop-again Inv-loop μ-loop
+loop-again c =
+    let s = c .before .before .before .before .before .before .before .before .before .before .before .before .before .before .before .before .before .before .before .before .before .before in
+    let a = s .args in
+    let l = c .before .before .before .before .before .before .before .before .before .before .before .before .before .before .loop in
+    let v = c .before .before .before .before .before .before .before .before .before .before .load .ensures in
+    let w = c .before .before .before .before .before .before .before .before .before .before .before .wide .ensures .0 in
+    let e = c .before .before .before .before .before .before .store .ensures in
+    let b : l .k < length (a .list .now) = omega (arith, c .before .before .before .before .before .before .before .before .before .before .before .before .before .loop-test .taken) in (
+      omega (arith, b),
+      e .0 ∙ gather-more (λ u. getD (a .from-i .now) u zeroFloat) (a .list .now) (a .is .now) (l .k) b (l .inv .1) (ap (λ (p : VisualizePosition). p .i) v ∙ ap (λ (u : ℕ). getD (a .from-i .now) u zeroFloat) w),
+      e .1 ∙ gather-more (λ u. getD (a .from-j .now) u zeroFloat) (a .list .now) (a .js .now) (l .k) b (l .inv .2) (ap (λ (p : VisualizePosition). p .j) v ∙ ap (λ (u : ℕ). getD (a .from-j .now) u zeroFloat) w),
+      e .2 ∙ gather-more (λ u. getD (a .from-t .now) u zeroFloat) (a .list .now) (a .ts .now) (l .k) b (l .inv .3) (ap (λ (p : VisualizePosition). p .t) v ∙ ap (λ (u : ℕ). getD (a .from-t .now) u zeroFloat) w),
+    )
+
+same-length : tie.Need-same-length Inv-loop μ-loop
+same-length c = ap length (c .before .loop .inv .1) ∙ simp length-sets
+
+same-length-2 : tie.Need-same-length-2 Inv-loop μ-loop
+same-length-2 c = ap length (c .before .loop .inv .2) ∙ simp length-sets
+
+same-length-3 : tie.Need-same-length-3 Inv-loop μ-loop
+same-length-3 c = ap length (c .before .loop .inv .3) ∙ simp length-sets
+
+returns : tie.Need-returns Inv-loop μ-loop
+returns c =
+    let s = c .before .before .before .before .before .before .before .before .before in
+    let a = s .args in
+    let l = c .before .loop in
+    let e : l .k ≡ length (a .list .now) = omega arith in (
+      gather-end (λ u. getD (a .from-i .now) u zeroFloat) (a .list .now) (a .is .now) (l .k) e (s .pre .0) (l .inv .1),
+      (
+        gather-end (λ u. getD (a .from-j .now) u zeroFloat) (a .list .now) (a .js .now) (l .k) e (s .pre .1) (l .inv .2),
+        gather-end (λ u. getD (a .from-t .now) u zeroFloat) (a .list .now) (a .ts .now) (l .k) e (s .pre .2) (l .inv .3),
+      ),
+    )
+
+pub gather-positions-spec : {M : Type 1} → statement M
+gather-positions-spec =
+    tie.close
+    (tie.spec
+    Inv-loop
+    μ-loop
+    loop-holds
+    mul-wide
+    shared-slice-read-wide
+    wide-requires
+    load-requires
+    store-requires
+    add-k
+    loop-less
+    loop-again
+    same-length
+    same-length-2
+    same-length-3
+    returns)

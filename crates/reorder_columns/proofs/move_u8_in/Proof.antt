@@ -1,0 +1,41 @@
+-- `reorder_columns::move_u8_in` meets its contract. Assumes nothing.
+use mathlib.Core.Path.{_≡_, refl, sym, ap, _∙_}
+use mathlib.Core.List.{List}
+use Prim.Native.Nat.{ℕ, _≤_, _<_}
+use native.Mathlib.Omega.{arith}
+use lib.ListN.{length, getD}
+use Rattle.columns.specs.Lists.{over}
+use Rattle.reorder_orders.proofs.Permutation.{order-below}
+use Rattle.reorder_columns.proofs.Copies.{length-copied, moved-copy}
+use Rattle.reorder_columns.proofs.move_u8_in.Statement.{statement}
+use Rattle.reorder_columns.proofs.move_u8_in.Tie as tie
+use Rattle.reorder_columns.proofs.move_u8_in.Reads as reads
+use Rattle.reorder_columns.proofs.move_u8_in.Lts as lts
+use Rattle.columns_stores.proofs.copy_u8.Reads as copy-u8-reads
+use Rattle.reorder_columns.proofs.gather_u8.Reads as gather-u8-reads
+
+copy-u8-requires : tie.Need-copy-u8-requires
+copy-u8-requires c κs = tt
+
+gather-u8-requires : tie.Need-gather-u8-requires
+gather-u8-requires c κs =
+    let s = c .before .before .before .before .before .before .before .before .before .before in
+    let a = s .args in
+    let l = length-copied (length (a .order .now)) (a .copy .now) (a .column .now) (c .before .before .before .before .copy-u8 .ensures) (s .pre .2) (s .pre .1) in
+    ((λ i h. omega (arith, l, s .pre .2, order-below (a .order .now) (s .pre .0) i h)), s .pre .1)
+
+same-length : tie.Need-same-length
+same-length c = c .before .column .given
+
+same-length-2 : tie.Need-same-length-2
+same-length-2 c = c .before .before .before .before .before .before .copy .given
+
+returns : tie.Need-returns
+returns c =
+    let s = c .before .before .before .before .before .before .before .before .before .before .before .before .before in
+    let a = s .args in
+    c .before .before .gather-u8 .ensures ∙ ap (λ (l : List ℕ). over l (a .column .now)) (moved-copy (a .order .now) (s .pre .0) 0 (a .copy .now) (a .column .now) (c .before .before .before .before .before .before .before .copy-u8 .ensures) (s .pre .2) (s .pre .1))
+
+pub move-u8-in-spec : {M : Type 1} → statement M
+move-u8-in-spec =
+    tie.close (tie.spec copy-u8-requires gather-u8-requires same-length same-length-2 returns)

@@ -1,0 +1,105 @@
+-- `reorder_orders::fresh_in` meets its contract: after i turns the first i numbers are marked and differ. Assumes nothing.
+use borrow.Author.Needs.{needs}
+use mathlib.Core.Path.{_≡_, refl, sym, ap, _∙_}
+use mathlib.Core.Bool.{Bool, true}
+use Prim.Native.Nat.{ℕ, _≤_, _<_, _-_, _+_}
+use native.Mathlib.Omega.{arith}
+use lib.ListN.{getD, length, length-set}
+use Rattle.columns.specs.Questions.{every}
+use Rattle.columns.proofs.Tests.{every-more}
+use Rattle.reorder_orders.specs.Order.{noneTwice}
+use Rattle.reorder_orders.proofs.Gathering.{unseen, Seen, seen-none, seen-twice, seen-once, seen-more}
+use Rattle.reorder_orders.proofs.fresh_in.Statement.{statement}
+use Rattle.reorder_orders.proofs.fresh_in.Tie as tie
+use Rattle.reorder_orders.proofs.fresh_in.Reads as reads
+use Rattle.reorder_orders.proofs.fresh_in.Lts as lts
+use Rattle.reorder_orders.proofs.wide.Reads as wide-reads
+
+abbrev Inv-loop : tie.InvT-loop
+Inv-loop order seen₀ i₀ seen i = (i ≤ length order) × (length seen ≡ length seen₀) × Seen order i seen × (every i (λ k. unseen order k (getD order k 0)) ≡ true)
+
+abbrev μ-loop : tie.MeasureT-loop
+μ-loop order seen₀ i₀ seen i = length order - i
+
+loop-holds : tie.Need-loop-holds Inv-loop μ-loop
+unfolding every
+loop-holds c = (search needs, refl, seen-none (c .before .before .args .order .now) (c .before .before .args .seen .now) (c .before .before .pre .1), refl)
+
+mul-wide : tie.Need-mul-wide Inv-loop μ-loop
+mul-wide c = search needs
+
+shared-slice-read-wide : tie.Need-shared-slice-read-wide Inv-loop μ-loop
+shared-slice-read-wide c = search needs
+
+wide-requires : tie.Need-wide-requires Inv-loop μ-loop
+wide-requires c κs = tt
+
+slice-read-if1 : tie.Need-slice-read-if1 Inv-loop μ-loop
+slice-read-if1 c =
+    let s = c .before .before .before .before .before .before .before in
+    let l = c .before .before .before .before .loop in
+    omega (arith, l .inv .1, c .before .wide .ensures .0, s .pre .0 (l .i) (omega arith))
+
+same-length : tie.Need-same-length Inv-loop μ-loop
+same-length c = c .before .before .before .before .before .loop .inv .1
+
+returns : tie.Need-returns Inv-loop μ-loop
+returns c =
+    let s = c .before .before .before .before .before .before .before .before in
+    let l = c .before .before .before .before .before .loop in
+    seen-twice (s .args .order .now) (l .i) (l .seen) (omega arith) (l .inv .2) (c .before .before .wide .ensures .0) (omega (arith, l .inv .1, c .before .before .wide .ensures .0, s .pre .0 (l .i) (omega arith))) (c .if1 .taken)
+
+slice-write-seen : tie.Need-slice-write-seen Inv-loop μ-loop
+slice-write-seen c =
+    let s = c .before .before .before .before .before .before .before .before in
+    let l = c .before .before .before .before .before .loop in
+    omega (arith, l .inv .1, c .before .before .wide .ensures .0, s .pre .0 (l .i) (omega arith))
+
+add-i : tie.Need-add-i Inv-loop μ-loop
+add-i c = search needs
+
+loop-less : tie.Need-loop-less Inv-loop μ-loop
+loop-less c = search needs
+
+loop-again : tie.Need-loop-again Inv-loop μ-loop
+loop-again c =
+    let s = c .before .before .before .before .before .before .before .before in
+    let l = c .before .before .before .before .before .loop in
+    let o = s .args .order .now in
+    let b : c .before .before .wide .result < length (l .seen) = omega (arith, l .inv .1, c .before .before .wide .ensures .0, s .pre .0 (l .i) (omega arith)) in (
+      omega arith,
+      simp length-set (l .inv .1),
+      seen-more o (l .i) (l .seen) (l .inv .2) (c .before .before .wide .ensures .0) b,
+      every-more (λ k. unseen o k (getD o k 0)) (l .i) (l .inv .3) (seen-once o (l .i) (l .seen) (l .inv .2) (c .before .before .wide .ensures .0) b (c .if1 .left)),
+    )
+
+same-length-2 : tie.Need-same-length-2 Inv-loop μ-loop
+same-length-2 c = c .before .loop .inv .1
+
+returns-2 : tie.Need-returns-2 Inv-loop μ-loop
+unfolding noneTwice
+returns-2 c =
+    let s = c .before .before .before .before in
+    let l = c .before .loop in
+    let e : l .i ≡ length (s .args .order .now) = omega arith in
+    sym (ap (λ (n : ℕ). every n (λ k. unseen (s .args .order .now) k (getD (s .args .order .now) k 0))) (sym e) ∙ l .inv .3)
+
+pub fresh-in-spec : {M : Type 1} → statement M
+fresh-in-spec =
+    tie.close
+    (tie.spec
+    Inv-loop
+    μ-loop
+    loop-holds
+    mul-wide
+    shared-slice-read-wide
+    wide-requires
+    slice-read-if1
+    same-length
+    returns
+    slice-write-seen
+    add-i
+    loop-less
+    loop-again
+    same-length-2
+    returns-2)

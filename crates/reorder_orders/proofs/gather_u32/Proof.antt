@@ -1,0 +1,91 @@
+-- `reorder_orders::gather_u32` meets its contract: after i turns the first i listed places are stored. Assumes nothing.
+use borrow.Author.Needs.{needs}
+use mathlib.Core.Path.{_≡_, refl, sym, ap, _∙_}
+use mathlib.Core.List.{map}
+use Prim.Native.Nat.{ℕ, _≤_, _<_, _-_, _+_}
+use native.Mathlib.Omega.{arith}
+use lib.ListN.{getD, length, take}
+use lib.Seq.{sets, length-sets}
+use Rattle.reorder_orders.proofs.Gathering.{gather-more, gather-end}
+use Rattle.reorder_orders.proofs.gather_u32.Statement.{statement}
+use Rattle.reorder_orders.proofs.gather_u32.Tie as tie
+use Rattle.reorder_orders.proofs.gather_u32.Reads as reads
+use Rattle.reorder_orders.proofs.gather_u32.Lts as lts
+use Rattle.reorder_orders.proofs.wide.Reads as wide-reads
+
+abbrev Inv-loop : tie.InvT-loop
+Inv-loop list from to₀ i₀ to i = (i ≤ length list) × (to ≡ sets to₀ 0 (map (λ u. getD from u 0) (take i list))) × (length to ≡ length to₀)
+
+abbrev μ-loop : tie.MeasureT-loop
+μ-loop list from to₀ i₀ to i = length list - i
+
+loop-holds : tie.Need-loop-holds Inv-loop μ-loop
+loop-holds c = (search needs, refl, refl)
+
+mul-wide : tie.Need-mul-wide Inv-loop μ-loop
+mul-wide c = search needs
+
+shared-slice-read-wide : tie.Need-shared-slice-read-wide Inv-loop μ-loop
+shared-slice-read-wide c = search needs
+
+wide-requires : tie.Need-wide-requires Inv-loop μ-loop
+wide-requires c κs = tt
+
+mul-to : tie.Need-mul-to Inv-loop μ-loop
+mul-to c = search needs
+
+shared-slice-read-to : tie.Need-shared-slice-read-to Inv-loop μ-loop
+shared-slice-read-to c =
+    let s = c .before .before .before .before .before .before .before .before in
+    let l = c .before .before .before .before .loop in
+    omega (arith, c .before .wide .ensures .0, s .pre .0 (l .i) (omega arith))
+
+mul-to-2 : tie.Need-mul-to-2 Inv-loop μ-loop
+mul-to-2 c = search needs
+
+slice-write-to : tie.Need-slice-write-to Inv-loop μ-loop
+slice-write-to c =
+    let s = c .before .before .before .before .before .before .before .before in
+    let l = c .before .before .before .before .loop in
+    omega (arith, l .inv .2, s .pre .1)
+
+add-i : tie.Need-add-i Inv-loop μ-loop
+add-i c = search needs
+
+loop-less : tie.Need-loop-less Inv-loop μ-loop
+loop-less c = search needs
+
+loop-again : tie.Need-loop-again Inv-loop μ-loop
+loop-again c =
+    let s = c .before .before .before .before .before .before .before .before in
+    let l = c .before .before .before .before .loop in
+    (omega arith, gather-more (λ u. getD (s .args .from .now) u 0) (s .args .list .now) (s .args .to .now) (l .i) (omega arith) (l .inv .1) (ap (λ (k : ℕ). getD (s .args .from .now) k 0) (c .before .wide .ensures .0)), simp lib.ListN.length-set (l .inv .2))
+
+same-length : tie.Need-same-length Inv-loop μ-loop
+same-length c = c .before .loop .inv .2
+
+returns : tie.Need-returns Inv-loop μ-loop
+returns c =
+    let s = c .before .before .before .before .before in
+    let l = c .before .loop in
+    gather-end (λ u. getD (s .args .from .now) u 0) (s .args .list .now) (s .args .to .now) (l .i) (omega arith) (s .pre .1) (l .inv .1)
+
+pub gather-u32-spec : {M : Type 1} → statement M
+gather-u32-spec =
+    tie.close
+    (tie.spec
+    Inv-loop
+    μ-loop
+    loop-holds
+    mul-wide
+    shared-slice-read-wide
+    wide-requires
+    mul-to
+    shared-slice-read-to
+    mul-to-2
+    slice-write-to
+    add-i
+    loop-less
+    loop-again
+    same-length
+    returns)

@@ -1,0 +1,23 @@
+-- `reorder_orders::none_twice` meets its contract. Assumes nothing.
+use Prim.Native.Nat.{ℕ}
+use native.Mathlib.Omega.{arith}
+use lib.ListN.{length-replicate}
+use Rattle.columns_pairs.proofs.PairTests.{zeros-at}
+use borrow.Author.Needs.{needs}
+use Rattle.reorder_orders.proofs.none_twice.Statement.{statement}
+use Rattle.reorder_orders.proofs.none_twice.Tie as tie
+use Rattle.reorder_orders.proofs.none_twice.Reads as reads
+use Rattle.reorder_orders.proofs.none_twice.Lts as lts
+use Rattle.reorder_orders.proofs.fresh_in.Reads as fresh-in-reads
+
+slice-aggregate-fresh-in : tie.Need-slice-aggregate-fresh-in
+slice-aggregate-fresh-in c = search needs
+
+fresh-in-requires : tie.Need-fresh-in-requires
+fresh-in-requires c κs = ((λ i h. omega (arith, c .before .before .pre i h, length-replicate {A = ℕ} 4096 0)), zeros-at 4096)
+
+returns : tie.Need-returns
+returns c = search needs
+
+pub none-twice-spec : {M : Type 1} → statement M
+none-twice-spec = tie.close (tie.spec slice-aggregate-fresh-in fresh-in-requires returns)

@@ -1,0 +1,231 @@
+-- What an accepted call says of its columns, and what a call answers and leaves, accepted and refused. Assumes nothing.
+use mathlib.Core.Path.{_≡_, refl, sym, ap, _∙_, subst}
+use mathlib.Core.Bool.{Bool, true, false, _&&_, cond}
+use mathlib.Core.List.{List, [], _∷_, _++_}
+use Prim.Native.Nat.{ℕ, zero, suc, _+_, _%_, _≤_, _<_, min}
+use native.Mathlib.Nat.{zero-add}
+use native.Mathlib.Decide.{ℕ-discrete}
+use native.Mathlib.Omega.{arith}
+use lib.ListN.{length, getD, take, drop, replicate, length-take, length-replicate, take-append-drop}
+use lib.Seq.{sets, length-take-le, getD-take}
+use lib.Dec.{leb, eqb}
+use borrow.Author.Tests.{leb-true, eq-eqb, ne-eqb}
+use Rattle.columns.specs.Lists.{over, after}
+use Rattle.columns.specs.Questions.{ask, allBelow, marksSound, boundariesSound, vertexCountSound, edgeCountSound}
+use Rattle.columns.specs.Answers.{done}
+use Rattle.columns.specs.declared.Done.{Done}
+use Rattle.columns.specs.declared.Done.the-variants.{Accepted, Refused}
+use Rattle.columns.proofs.Columns.{after-accepted, after-refused, over-in, sets-over}
+use Rattle.columns.proofs.Tests.{and-both, below-at, within-at}
+use Rattle.columns_neighbors.specs.Sound.{graphSound}
+use Rattle.columns_neighbors.specs.Steps.{InRange}
+use Rattle.columns_neighbors.proofs.Ends.{GraphSound, graph-says}
+use Rattle.columns.proofs.Doors.{met, goes-on}
+use Rattle.sampling_calls.specs.declared.SyndromeAnswer.{SyndromeAnswer}
+use Rattle.sampling_calls.specs.declared.SyndromeAnswer.the-variants as syndrome
+use Rattle.sampling_calls.specs.declared.ListAnswer.{ListAnswer}
+use Rattle.sampling_calls.specs.declared.ListAnswer.the-variants as list
+use Rattle.sampling_calls.specs.Records.{CodeGraph, graphLong, codeSound, SyndromeColumns, syndromeLong}
+use Rattle.columns_marked.specs.Marked.{marked}
+use Rattle.sampling_flips.specs.Flip.{flipEach}
+use Rattle.columns_answers.proofs.Said.{accepts-of, refuses-of}
+use Rattle.sampling_calls.specs.Errors.{SyndromeLeft, errorsDoor}
+use Rattle.sampling_calls.specs.Syndrome.{endsIn, isDefectOf, syndromeOf, syndromeDoor, FoundSyndrome}
+use Rattle.sampling_flips.specs.Steps.{Fits}
+use Rattle.sampling_flips.proofs.Flipping.{length-flipEach, flipEach-front, flipEach-virtual}
+use Rattle.sampling_calls.proofs.Inner.{flipEach-inner}
+use Rattle.columns_marked.proofs.Marks.{chosen-same}
+
+-- ---- questions 6 and 7
+
+pub record GraphLong (g : CodeGraph) : Type 0 where
+  pub long-a : g .edges ≤ length (g .endsA)
+  pub long-b : g .edges ≤ length (g .endsB)
+  pub long-boundary : g .vertices ≤ length (g .boundary)
+
+pub graph-long-of : (g : CodeGraph) → graphLong g ≡ true → GraphLong g
+unfolding graphLong
+graph-long-of g p =
+    let (a, q) = and-both (leb (g .edges) (length (g .endsA))) _ p in
+    let (b, m) = and-both (leb (g .edges) (length (g .endsB))) _ q in
+    record { long-a = leb-true _ _ a; long-b = leb-true _ _ b; long-boundary = leb-true _ _ m }
+
+pub record SyndromeLong (v e : ℕ) (s : SyndromeColumns) : Type 0 where
+  pub long-defect : v ≤ length (s .defect)
+  pub long-erasure : e ≤ length (s .erasure)
+  pub long-defects : v ≤ length (s .defectList)
+  pub long-erasures : e ≤ length (s .erasureList)
+
+pub syndrome-long-of : (v e : ℕ) (s : SyndromeColumns) → syndromeLong v e s ≡ true → SyndromeLong v e s
+unfolding syndromeLong
+syndrome-long-of v e s p =
+    let (d, q) = and-both (leb v (length (s .defect))) _ p in
+    let (r, t) = and-both (leb e (length (s .erasure))) _ q in
+    let (x, y) = and-both (leb v (length (s .defectList))) _ t in
+    record { long-defect = leb-true _ _ d; long-erasure = leb-true _ _ r; long-defects = leb-true _ _ x; long-erasures = leb-true _ _ y }
+
+pub record CodeSound (g : CodeGraph) : Type 0 where
+  pub graph : GraphSound (g .vertices) (g .edges) (g .endsA) (g .endsB)
+  pub boundaries : boundariesSound (g .vertices) (g .boundary) ≡ true
+
+pub code-sound-of : (g : CodeGraph) → codeSound g ≡ true → CodeSound g
+unfolding codeSound
+code-sound-of g p =
+    let (a, b) = and-both (graphSound (g .vertices) (g .edges) (g .endsA) (g .endsB)) _ p in
+    record { graph = graph-says (g .vertices) (g .edges) (g .endsA) (g .endsB) a; boundaries = b }
+
+pub fits-of : (g : CodeGraph) (d : List ℕ) → GraphLong g → CodeSound g → g .vertices ≤ length d → Fits (g .vertices) (g .edges) (g .endsA) (g .endsB) (g .boundary) d
+fits-of g d l s h = record {
+  long-a = l .long-a;
+  long-b = l .long-b;
+  in-a = s .graph .in-a;
+  in-b = s .graph .in-b;
+  long-boundary = l .long-boundary;
+  long-defect = h;
+}
+
+-- ---- generate_errors
+
+pub record ErrorsMet (g : CodeGraph) (ks : List ℕ) (s : SyndromeColumns) : Type 0 where
+  pub long : GraphLong g
+  pub lists : SyndromeLong (g .vertices) (g .edges) s
+  pub sound : CodeSound g
+  pub defects : marksSound (g .vertices) (s .defect) ≡ true
+  pub erasures : marksSound (g .edges) (s .erasure) ≡ true
+  pub named : (i : ℕ) → i < length ks → getD ks i 0 < g .edges
+
+pub errors-met : (g : CodeGraph) (ks : List ℕ) (s : SyndromeColumns) → errorsDoor g ks s ≡ 0 → ErrorsMet g ks s
+unfolding errorsDoor
+errors-met g ks s z =
+    let six = graphLong g && syndromeLong (g .vertices) (g .edges) s in
+    let seven = codeSound g && (marksSound (g .vertices) (s .defect) && marksSound (g .edges) (s .erasure)) in
+    let last = ask (allBelow (g .edges) ks) 13 0 in
+    let z₇ = goes-on six 5 (ask seven 7 last) z in
+    let z₁₃ = goes-on seven 6 last z₇ in
+    let (l, x) = and-both (graphLong g) _ (met six 5 (ask seven 7 last) z) in
+    let (c, y) = and-both (codeSound g) _ (met seven 6 last z₇) in
+    let (d, r) = and-both (marksSound (g .vertices) (s .defect)) _ y in
+    record {
+      long = graph-long-of g l;
+      lists = syndrome-long-of (g .vertices) (g .edges) s x;
+      sound = code-sound-of g c;
+      defects = d;
+      erasures = r;
+      named = below-at (g .edges) ks (met (allBelow (g .edges) ks) 12 0 z₁₃);
+    }
+
+-- ---- columns afterwards
+
+module _ {A : Type 0} where
+  pub over-take : (n : ℕ) (xs : List A) → n ≤ length xs → over (take n xs) xs ≡ xs
+  over-take n xs h = ap (λ (k : ℕ). take n xs ++ drop k xs) (length-take-le n xs h) ∙ take-append-drop n xs
+
+-- only the first n bytes are looked at
+pub marked-over : (n : ℕ) (vs column : List ℕ) → length vs ≡ n → marked n (over vs column) ≡ marked n vs
+unfolding marked
+marked-over n vs column e =
+    chosen-same n _ _ (λ k h. ap (λ (x : ℕ). eqb x 1) (over-in vs column 0 k (omega arith)))
+
+pub marked-take : (n : ℕ) (xs : List ℕ) → marked n (take n xs) ≡ marked n xs
+unfolding marked
+marked-take n xs = chosen-same n _ _ (λ k h. ap (λ (x : ℕ). eqb x 1) (getD-take n xs k 0 h))
+
+-- flips in the first v places of a column leave the others
+pub flipEach-over : (v e : ℕ) (a b m ks xs d : List ℕ) → length xs ≡ v → InRange a e v → InRange b e v → ((i : ℕ) → i < length ks → getD ks i 0 < e)
+    → flipEach a b m ks (over xs d) ≡ over (flipEach a b m ks xs) d
+flipEach-over v e a b m ks xs d l ra rb named =
+    flipEach-front a b m ks xs (drop (length xs) d) (λ i h.
+    let x = ra (getD ks i 0) (named i h) in
+    let y = rb (getD ks i 0) (named i h) in
+    (omega (arith, x), omega (arith, y)))
+    ∙ ap (λ (k : ℕ). flipEach a b m ks xs ++ drop k d) (sym (length-flipEach a b m ks xs))
+
+-- ---- what a call answers and leaves
+
+module _ (number v e : ℕ) (defects erasures : List ℕ) (before : SyndromeColumns) where
+  pub left-refused : {n : ℕ} → n ≡ number → (n ≡ 0 → ⊥) → SyndromeLeft number v e defects erasures before (syndrome.Refused n) before
+  left-refused {n} e f =
+      let g : number ≡ 0 → ⊥ = λ z. f (e ∙ z) in
+      record {
+        answers = refuses-of e f;
+        defect-is = sym (after-refused number defects (before .defect) g);
+        erasure-is = sym (after-refused number erasures (before .erasure) g);
+        defects-listed = sym (after-refused number (marked v defects) (before .defectList) g);
+        erasures-listed = sym (after-refused number (marked _ erasures) (before .erasureList) g);
+      }
+
+  pub left-accepted : (last : SyndromeColumns) {d s : ℕ} → number ≡ 0
+      → length defects ≡ v → length erasures ≡ e
+      → last .defect ≡ over defects (before .defect) → last .erasure ≡ over erasures (before .erasure)
+      → d ≡ length (marked v (last .defect)) → last .defectList ≡ over (marked v (last .defect)) (before .defectList)
+      → s ≡ length (marked e (last .erasure)) → last .erasureList ≡ over (marked e (last .erasure)) (before .erasureList)
+      → SyndromeLeft number v e defects erasures before (syndrome.Counts d s) last
+  left-accepted last {d} {s} z ld ls pd ps nd xd ns xs =
+      let md : marked v (last .defect) ≡ marked v defects = ap (marked v) pd ∙ marked-over v defects (before .defect) ld in
+      let ms : marked e (last .erasure) ≡ marked e erasures = ap (marked e) ps ∙ marked-over e erasures (before .erasure) ls in
+      let cd : d ≡ length (marked v defects) = nd ∙ ap length md in
+      let cs : s ≡ length (marked e erasures) = ns ∙ ap length ms in
+      record {
+        answers = rw (cd, cs) (accepts-of z);
+        defect-is = pd ∙ sym (after-accepted number defects (before .defect) z);
+        erasure-is = ps ∙ sym (after-accepted number erasures (before .erasure) z);
+        defects-listed = xd ∙ ap (λ (l : List ℕ). over l (before .defectList)) md ∙ sym (after-accepted number (marked v defects) (before .defectList) z);
+        erasures-listed = xs ∙ ap (λ (l : List ℕ). over l (before .erasureList)) ms ∙ sym (after-accepted number (marked e erasures) (before .erasureList) z);
+      }
+
+-- ---- syndrome_of
+
+pub record SyndromeMet (g : CodeGraph) (ks defectList : List ℕ) : Type 0 where
+  pub long : GraphLong g
+  pub room : g .vertices ≤ length defectList
+  pub sound : CodeSound g
+  pub named : (i : ℕ) → i < length ks → getD ks i 0 < g .edges
+
+pub syndrome-met : (g : CodeGraph) (ks defectList : List ℕ) → syndromeDoor g ks defectList ≡ 0 → SyndromeMet g ks defectList
+unfolding syndromeDoor
+syndrome-met g ks defectList z =
+    let six = graphLong g && leb (g .vertices) (length defectList) in
+    let last = ask (allBelow (g .edges) ks) 13 0 in
+    let z₇ = goes-on six 5 (ask (codeSound g) 7 last) z in
+    let (l, x) = and-both (graphLong g) _ (met six 5 (ask (codeSound g) 7 last) z) in
+    record {
+      long = graph-long-of g l;
+      room = leb-true _ _ x;
+      sound = code-sound-of g (met (codeSound g) 6 last z₇);
+      named = below-at (g .edges) ks (met (allBelow (g .edges) ks) 12 0 (goes-on (codeSound g) 6 last z₇));
+    }
+
+-- the defect bytes of errors over no defects are those of the syndrome
+syndrome-bytes : (g : CodeGraph) (ks d : List ℕ) (u : ℕ) → u < length d → getD d u 0 ≡ 0
+    → eqb (getD (flipEach (g .endsA) (g .endsB) (g .boundary) ks d) u 0) 1 ≡ isDefectOf g ks u
+unfolding isDefectOf
+syndrome-bytes g ks d u h z = elim (ℕ-discrete (getD (g .boundary) u 0) 0) [
+  | yes e ↦
+      let n = flipEach-inner (g .endsA) (g .endsB) (g .boundary) u e ks d h (omega arith) in
+      ap (λ (x : ℕ). eqb x 1) (n ∙ ap (λ (x : ℕ). (x + endsIn (g .endsA) (g .endsB) ks u) % 2) z ∙ ap (λ (x : ℕ). x % 2) (zero-add _))
+      ∙ ap (λ (t : Bool). t && eqb (endsIn (g .endsA) (g .endsB) ks u % 2) 1) (sym (eq-eqb (getD (g .boundary) u 0) 0 e))
+  | no e ↦
+      ap (λ (x : ℕ). eqb x 1) (flipEach-virtual (g .endsA) (g .endsB) (g .boundary) u e ks d h ∙ z)
+      ∙ ap (λ (t : Bool). t && eqb (endsIn (g .endsA) (g .endsB) ks u % 2) 1) (sym (ne-eqb (getD (g .boundary) u 0) 0 e))
+]
+
+pub marked-syndrome : (g : CodeGraph) (ks d : List ℕ) → g .vertices ≤ length d → ((u : ℕ) → u < g .vertices → getD d u 0 ≡ 0)
+    → marked (g .vertices) (flipEach (g .endsA) (g .endsB) (g .boundary) ks d) ≡ syndromeOf g ks
+unfolding marked syndromeOf
+marked-syndrome g ks d l z = chosen-same (g .vertices) _ _ (λ u h. syndrome-bytes g ks d u (omega arith) (z u h))
+
+module _ (g : CodeGraph) (ks defectList : List ℕ) where
+  pub syndrome-refused : {n : ℕ} → n ≡ syndromeDoor g ks defectList → (n ≡ 0 → ⊥) → FoundSyndrome g ks defectList (list.Refused n) defectList
+  syndrome-refused {n} e f =
+      let h : syndromeDoor g ks defectList ≡ 0 → ⊥ = λ z. f (e ∙ z) in
+      record {
+        answers = refuses-of e f;
+        listed = sym (after-refused (syndromeDoor g ks defectList) (syndromeOf g ks) defectList h);
+      }
+
+  pub syndrome-accepted : {last : List ℕ} {n : ℕ} → syndromeDoor g ks defectList ≡ 0 → n ≡ length (syndromeOf g ks) → last ≡ over (syndromeOf g ks) defectList
+      → FoundSyndrome g ks defectList (list.Count n) last
+  syndrome-accepted z p q = record {
+    answers = rw p (accepts-of z);
+    listed = q ∙ sym (after-accepted (syndromeDoor g ks defectList) (syndromeOf g ks) defectList z);
+  }

@@ -1,0 +1,29 @@
+-- `sampling_calls::doors::probabilities_sound` meets its contract. Assumes nothing.
+use mathlib.Core.Bool.{_&&_}
+use mathlib.Core.Path.{_∙_}
+use Rattle.sampling_calls.specs.Sampling.{probabilitiesSound}
+use Rattle.sampling_calls.proofs.doors.probabilities_sound.Statement.{statement}
+use Rattle.sampling_calls.proofs.doors.probabilities_sound.Tie as tie
+use Rattle.sampling_calls.proofs.doors.probabilities_sound.Reads as reads
+use Rattle.sampling_calls.proofs.doors.probabilities_sound.Lts as lts
+use Rattle.columns.proofs.questions.both.Reads as both-reads
+use Rattle.weights_questions.proofs.are_erasure_probabilities.Reads as are-erasure-probabilities-reads
+use Rattle.weights_questions.proofs.are_probabilities.Reads as are-probabilities-reads
+
+are-probabilities-requires : tie.Need-are-probabilities-requires
+are-probabilities-requires c κs = tt
+
+are-erasure-probabilities-requires : tie.Need-are-erasure-probabilities-requires
+are-erasure-probabilities-requires c κs = tt
+
+both-requires : tie.Need-both-requires
+both-requires c κs = tt
+
+returns : tie.Need-returns
+unfolding probabilitiesSound
+returns c = c .both .ensures ∙ (λ i. (c .before .before .are-probabilities .ensures) i && (c .before .are-erasure-probabilities .ensures) i)
+
+pub probabilities-sound-spec : {M : Type 1} → statement M
+probabilities-sound-spec =
+    tie.close
+    (tie.spec are-probabilities-requires are-erasure-probabilities-requires both-requires returns)

@@ -1,0 +1,74 @@
+-- `sampling_calls::doors::sampling_door` meets its contract. Assumes nothing.
+use Rattle.columns.specs.Questions.{ask}
+use mathlib.Core.Bool.{_&&_}
+use mathlib.Core.Path.{_∙_}
+use Rattle.sampling_calls.specs.Sampling.{samplingDoor}
+use Rattle.sampling_calls.proofs.doors.sampling_door.Statement.{statement}
+use Rattle.sampling_calls.proofs.doors.sampling_door.Tie as tie
+use Rattle.sampling_calls.proofs.doors.sampling_door.Reads as reads
+use Rattle.sampling_calls.proofs.doors.sampling_door.Lts as lts
+use Rattle.columns.proofs.questions.asked.Reads as asked-reads
+use Rattle.columns.proofs.questions.at_most.Reads as at-most-reads
+use Rattle.columns.proofs.questions.both.Reads as both-reads
+use Rattle.sampling_calls.proofs.doors.code_sound.Reads as code-sound-reads
+use Rattle.sampling_calls.proofs.doors.graph_long.Reads as graph-long-reads
+use Rattle.sampling_calls.proofs.doors.probabilities_sound.Reads as probabilities-sound-reads
+use Rattle.sampling_calls.proofs.doors.syndrome_long.Reads as syndrome-long-reads
+
+graph-long-requires : tie.Need-graph-long-requires
+graph-long-requires c κs = tt
+
+at-most-requires : tie.Need-at-most-requires
+at-most-requires c κs = tt
+
+at-most-requires-2 : tie.Need-at-most-requires-2
+at-most-requires-2 c κs = tt
+
+syndrome-long-requires : tie.Need-syndrome-long-requires
+syndrome-long-requires c κs = tt
+
+code-sound-requires : tie.Need-code-sound-requires
+code-sound-requires c κs = tt
+
+probabilities-sound-requires : tie.Need-probabilities-sound-requires
+probabilities-sound-requires c κs = tt
+
+both-requires : tie.Need-both-requires
+both-requires c κs = tt
+
+both-requires-2 : tie.Need-both-requires-2
+both-requires-2 c κs = tt
+
+both-requires-3 : tie.Need-both-requires-3
+both-requires-3 c κs = tt
+
+asked-requires : tie.Need-asked-requires
+asked-requires c κs = tt
+
+asked-requires-2 : tie.Need-asked-requires-2
+asked-requires-2 c κs = tt
+
+asked-requires-3 : tie.Need-asked-requires-3
+asked-requires-3 c κs = tt
+
+returns : tie.Need-returns
+unfolding samplingDoor
+returns c = c .asked3 .ensures ∙ (λ i. ask ((c .before .before .before .both3 .ensures ∙ (λ i. (c .before .before .before .before .before .before .before .before .before .before .before .graph-long .ensures) i && (c .before .before .before .before .both2 .ensures ∙ (λ i. (c .before .before .before .before .before .before .before .before .before .before .at-most .ensures) i && (c .before .before .before .before .before .both .ensures ∙ (λ i. (c .before .before .before .before .before .before .before .before .before .at-most2 .ensures) i && (c .before .before .before .before .before .before .before .before .syndrome-long .ensures) i)) i)) i)) i) 6 ((c .before .asked2 .ensures ∙ (λ i. ask ((c .before .before .before .before .before .before .before .code-sound .ensures) i) 7 ((c .before .before .asked .ensures ∙ (λ i. ask ((c .before .before .before .before .before .before .probabilities-sound .ensures) i) 9 0)) i))) i))
+
+pub sampling-door-spec : {M : Type 1} → statement M
+sampling-door-spec =
+    tie.close
+    (tie.spec
+    graph-long-requires
+    at-most-requires
+    at-most-requires-2
+    syndrome-long-requires
+    code-sound-requires
+    probabilities-sound-requires
+    both-requires
+    both-requires-2
+    both-requires-3
+    asked-requires
+    asked-requires-2
+    asked-requires-3
+    returns)

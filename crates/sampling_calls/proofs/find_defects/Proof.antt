@@ -1,0 +1,38 @@
+-- `sampling_calls::find_defects` meets its contract. Assumes nothing.
+use Rattle.columns_pairs.proofs.PairTests.{zeros-at, zeros-room}
+use Prim.Native.Nat.{ℕ}
+use native.Mathlib.Omega.{arith}
+use borrow.Author.Needs.{needs}
+use Rattle.sampling_calls.proofs.find_defects.Statement.{statement}
+use Rattle.sampling_calls.proofs.find_defects.Tie as tie
+use Rattle.sampling_calls.proofs.find_defects.Reads as reads
+use Rattle.sampling_calls.proofs.find_defects.Lts as lts
+use Rattle.sampling_calls.proofs.collect_defects.Reads as collect-defects-reads
+
+slice-aggregate-collect-defects : tie.Need-slice-aggregate-collect-defects
+slice-aggregate-collect-defects c = search needs
+
+collect-defects-requires : tie.Need-collect-defects-requires
+collect-defects-requires c κs =
+    let p = c .before .before .before .before .before .before .before .pre in (
+      record {
+        long-a = p .1 .0 .0;
+        long-b = p .1 .0 .1;
+        in-a = p .1 .1 .0 .0;
+        in-b = p .1 .1 .0 .1;
+        long-boundary = p .0 .1;
+        long-defect = zeros-room _ 4096 (p .0 .0);
+      },
+      ((p .1 .1 .1, zeros-at 4096), (p .0 .2, omega arith)),
+    )
+
+same-length : tie.Need-same-length
+same-length c = c .before .defect-list .given
+
+returns : tie.Need-returns
+returns c = search needs
+
+pub find-defects-spec : {M : Type 1} → statement M
+find-defects-spec =
+    tie.close
+    (tie.spec slice-aggregate-collect-defects collect-defects-requires same-length returns)

@@ -1,0 +1,113 @@
+-- `sampling_calls::generate_errors` meets its contract. Assumes nothing.
+use mathlib.Core.Path.{_≡_, refl, sym, ap, _∙_}
+use mathlib.Core.List.{List}
+use Prim.Native.Nat.{ℕ, _≤_, _<_}
+use native.Mathlib.Omega.{arith}
+use lib.ListN.{length, getD, take}
+use lib.Seq.{length-take-le}
+use Rattle.sampling_calls.specs.Records.{CodeGraph, codeGraph, SyndromeColumns, syndromeColumns}
+use Rattle.sampling_flips.specs.Flip.{flipEach}
+use Rattle.sampling_calls.specs.Errors.{errorsDoor}
+use Rattle.sampling_flips.specs.Steps.{Fits}
+use Rattle.sampling_flips.proofs.Flipping.{length-flipEach}
+use Rattle.sampling_calls.proofs.Accepting.{ErrorsMet, errors-met, fits-of, over-take, flipEach-over, left-refused, left-accepted}
+use borrow.Author.Needs.{needs}
+use Rattle.sampling_calls.proofs.generate_errors.Statement.{statement}
+use Rattle.sampling_calls.proofs.generate_errors.Tie as tie
+use Rattle.sampling_calls.proofs.generate_errors.Reads as reads
+use Rattle.sampling_calls.proofs.generate_errors.Lts as lts
+use Rattle.sampling_calls.proofs.doors.errors_door.Reads as errors-door-reads
+use Rattle.sampling_flips.proofs.flip_all.Reads as flip-all-reads
+use Rattle.columns_marked.proofs.list_marked.Reads as list-marked-reads
+
+errors-door-requires : tie.Need-errors-door-requires
+errors-door-requires c κs = tt
+
+flip-all-requires : tie.Need-flip-all-requires
+flip-all-requires c κs =
+    let a = c .before .before .before .before .before .before .before .before .before .before .before .before .before .before .args in
+    let g : CodeGraph = codeGraph (a .vertex-num) (a .edge-num) (a .ends-a .now) (a .ends-b .now) (a .boundary .now) in
+    let s : SyndromeColumns = syndromeColumns (a .defect .now) (a .erasure .now) (a .defect-list .now) (a .erasure-list .now) in
+    let k : ErrorsMet g (a .list .now) s = errors-met g (a .list .now) s (sym (c .before .before .errors-door .ensures) ∙ c .before .if1 .taken) in
+    (fits-of g (a .defect .now) (k .long) (k .sound) (k .lists .long-defect), k .named)
+
+list-marked-requires : tie.Need-list-marked-requires
+list-marked-requires c κs =
+    let a = c .before .before .before .before .before .before .before .before .before .before .before .before .before .before .before .before .before .before .before .args in
+    let g : CodeGraph = codeGraph (a .vertex-num) (a .edge-num) (a .ends-a .now) (a .ends-b .now) (a .boundary .now) in
+    let s : SyndromeColumns = syndromeColumns (a .defect .now) (a .erasure .now) (a .defect-list .now) (a .erasure-list .now) in
+    let k : ErrorsMet g (a .list .now) s = errors-met g (a .list .now) s (sym (c .before .before .before .before .before .before .before .errors-door .ensures) ∙ c .before .before .before .before .before .before .if1 .taken) in
+    let l = simp length-flipEach at (ap length (c .before .before .before .before .flip-all .ensures)) in
+    (omega (arith, l, k .lists .long-defect), omega (arith, k .lists .long-defects), omega (arith, k .sound .graph .few-vertices))
+
+list-marked-requires-2 : tie.Need-list-marked-requires-2
+list-marked-requires-2 c κs =
+    let a = c .before .before .before .before .before .before .before .before .before .before .before .before .before .before .before .before .before .before .before .before .before .before .before .args in
+    let g : CodeGraph = codeGraph (a .vertex-num) (a .edge-num) (a .ends-a .now) (a .ends-b .now) (a .boundary .now) in
+    let s : SyndromeColumns = syndromeColumns (a .defect .now) (a .erasure .now) (a .defect-list .now) (a .erasure-list .now) in
+    let k : ErrorsMet g (a .list .now) s = errors-met g (a .list .now) s (sym (c .before .before .before .before .before .before .before .before .before .before .before .errors-door .ensures) ∙ c .before .before .before .before .before .before .before .before .before .before .if1 .taken) in
+    (omega (arith, k .lists .long-erasure), omega (arith, k .lists .long-erasures), omega (arith, k .sound .graph .few-edges))
+
+same-length : tie.Need-same-length
+same-length c = c .before .before .before .before .before .before .before .before .before .before .defect .given
+
+same-length-2 : tie.Need-same-length-2
+same-length-2 c = c .before .before .before .before .before .defect-list .given
+
+same-length-3 : tie.Need-same-length-3
+same-length-3 c = c .before .erasure-list .given
+
+returns : tie.Need-returns
+returns c =
+    let a = c .before .before .before .before .before .before .before .before .before .before .before .before .before .before .before .before .before .before .before .before .before .before .before .before .before .before .args in
+    let g : CodeGraph = codeGraph (a .vertex-num) (a .edge-num) (a .ends-a .now) (a .ends-b .now) (a .boundary .now) in
+    let s : SyndromeColumns = syndromeColumns (a .defect .now) (a .erasure .now) (a .defect-list .now) (a .erasure-list .now) in
+    let z : errorsDoor g (a .list .now) s ≡ 0 = sym (c .before .before .before .before .before .before .before .before .before .before .before .before .before .before .errors-door .ensures) ∙ c .before .before .before .before .before .before .before .before .before .before .before .before .before .if1 .taken in
+    let k : ErrorsMet g (a .list .now) s = errors-met g (a .list .now) s z in
+    let f : Fits (a .vertex-num) (a .edge-num) (a .ends-a .now) (a .ends-b .now) (a .boundary .now) (a .defect .now) = fits-of g (a .defect .now) (k .long) (k .sound) (k .lists .long-defect) in
+    let x = c .before .before .before .before .before .before .list-marked .ensures in
+    let y = c .before .before .list-marked2 .ensures in
+    left-accepted (errorsDoor g (a .list .now) s) (a .vertex-num) (a .edge-num)
+    (flipEach (a .ends-a .now) (a .ends-b .now) (a .boundary .now) (a .list .now) (take (a .vertex-num) (a .defect .now))) (take (a .edge-num) (a .erasure .now)) s _ z
+    (length-flipEach (a .ends-a .now) (a .ends-b .now) (a .boundary .now) (a .list .now) (take (a .vertex-num) (a .defect .now)) ∙ length-take-le (a .vertex-num) (a .defect .now) (k .lists .long-defect))
+    (length-take-le (a .edge-num) (a .erasure .now) (k .lists .long-erasure))
+    (c .before .before .before .before .before .before .before .before .before .before .before .flip-all .ensures ∙ ap (flipEach (a .ends-a .now) (a .ends-b .now) (a .boundary .now) (a .list .now)) (sym (over-take (a .vertex-num) (a .defect .now) (k .lists .long-defect)))
+    ∙ flipEach-over (a .vertex-num) (a .edge-num) (a .ends-a .now) (a .ends-b .now) (a .boundary .now) (a .list .now) (take (a .vertex-num) (a .defect .now)) (a .defect .now)
+    (length-take-le (a .vertex-num) (a .defect .now) (k .lists .long-defect)) (f .in-a) (f .in-b) (k .named))
+    (sym (over-take (a .edge-num) (a .erasure .now) (k .lists .long-erasure)))
+    (x .0) (x .1) (y .0) (y .1)
+
+same-length-4 : tie.Need-same-length-4
+same-length-4 c = search needs
+
+same-length-5 : tie.Need-same-length-5
+same-length-5 c = search needs
+
+same-length-6 : tie.Need-same-length-6
+same-length-6 c = search needs
+
+returns-2 : tie.Need-returns-2
+returns-2 c =
+    let a = c .before .before .before .before .before .before .before .before .before .before .before .before .before .args in
+    let g : CodeGraph = codeGraph (a .vertex-num) (a .edge-num) (a .ends-a .now) (a .ends-b .now) (a .boundary .now) in
+    let s : SyndromeColumns = syndromeColumns (a .defect .now) (a .erasure .now) (a .defect-list .now) (a .erasure-list .now) in
+    left-refused (errorsDoor g (a .list .now) s) (a .vertex-num) (a .edge-num)
+    (flipEach (a .ends-a .now) (a .ends-b .now) (a .boundary .now) (a .list .now) (take (a .vertex-num) (a .defect .now))) (take (a .edge-num) (a .erasure .now)) s
+    (c .before .errors-door .ensures) (c .if1 .left)
+
+pub generate-errors-spec : {M : Type 1} → statement M
+generate-errors-spec =
+    tie.close
+    (tie.spec
+    errors-door-requires
+    flip-all-requires
+    list-marked-requires
+    list-marked-requires-2
+    same-length
+    same-length-2
+    same-length-3
+    returns
+    same-length-4
+    same-length-5
+    same-length-6
+    returns-2)

@@ -1,0 +1,132 @@
+-- `sampling_calls::generate_random_errors` meets its contract. Assumes nothing.
+use mathlib.Core.Path.{_≡_, refl, sym, ap, _∙_}
+use mathlib.Core.List.{List}
+use Prim.Native.Nat.{ℕ, _≤_, _<_}
+use native.Mathlib.Omega.{arith}
+use lib.ListN.{length, getD, replicate}
+use lib.Seq.{length-sets}
+use lib.Ieee.{Float}
+use Rattle.sampling_generator.specs.Random.{seedFromU64}
+use Rattle.sampling_calls.specs.Records.{CodeGraph, codeGraph, SyndromeColumns, syndromeColumns}
+use Rattle.sampling_edges.specs.Draws.{sampledErasures}
+use Rattle.sampling_calls.specs.Sampling.{samplingDoor, sampledDefects}
+use Rattle.sampling_calls.proofs.Accepting.{fits-of, left-refused, left-accepted}
+use Rattle.sampling_calls.proofs.Draws.{SamplingMet, sampling-met, sampled-from, sampled-defect, sampled-erasure, length-defect, length-erasure, length-sampledDefects, length-sampledErasures}
+use borrow.Author.Needs.{needs}
+use Rattle.sampling_calls.proofs.generate_random_errors.Statement.{statement}
+use Rattle.sampling_calls.proofs.generate_random_errors.Tie as tie
+use Rattle.sampling_calls.proofs.generate_random_errors.Reads as reads
+use Rattle.sampling_calls.proofs.generate_random_errors.Lts as lts
+use Rattle.columns_stores.proofs.fill_u8.Reads as fill-u8-reads
+use Rattle.sampling_generator.proofs.DeterministicRng.seed_from_u64.Reads as seed-from-u64-reads
+use Rattle.sampling_calls.proofs.doors.sampling_door.Reads as sampling-door-reads
+use Rattle.columns_marked.proofs.list_marked.Reads as list-marked-reads
+use Rattle.sampling_edges.proofs.sample_edges.Reads as sample-edges-reads
+
+sampling-door-requires : tie.Need-sampling-door-requires
+sampling-door-requires c κs = tt
+
+fill-u8-requires : tie.Need-fill-u8-requires
+fill-u8-requires c κs = tt
+
+seed-from-u64-requires : tie.Need-seed-from-u64-requires
+seed-from-u64-requires c κs = tt
+
+sample-edges-requires : tie.Need-sample-edges-requires
+sample-edges-requires c κs =
+    let a = c .before .before .before .before .before .before .before .before .before .before .before .before .before .before .before .before .before .before .before .before .before .before .args in
+    let g : CodeGraph = codeGraph (a .vertex-num) (a .edge-num) (a .ends-a .now) (a .ends-b .now) (a .boundary .now) in
+    let s : SyndromeColumns = syndromeColumns (a .defect .now) (a .erasure .now) (a .defect-list .now) (a .erasure-list .now) in
+    let k : SamplingMet g (a .p .now) (a .pe .now) s = sampling-met g (a .p .now) (a .pe .now) s (sym (c .before .before .before .before .before .before .before .before .sampling-door .ensures) ∙ c .before .before .before .before .before .before .before .if1 .taken) in
+    let l = simp length-sets at (ap length (c .before .before .before .before .before .fill-u8 .ensures)) in
+    (fits-of g _ (k .long) (k .sound) (omega (arith, l, k .lists .long-defect)), (k .long-p, k .long-pe, k .lists .long-erasure))
+
+list-marked-requires : tie.Need-list-marked-requires
+list-marked-requires c κs =
+    let a = c .before .before .before .before .before .before .before .before .before .before .before .before .before .before .before .before .before .before .before .before .before .before .before .before .before .before .before .before .before .args in
+    let g : CodeGraph = codeGraph (a .vertex-num) (a .edge-num) (a .ends-a .now) (a .ends-b .now) (a .boundary .now) in
+    let s : SyndromeColumns = syndromeColumns (a .defect .now) (a .erasure .now) (a .defect-list .now) (a .erasure-list .now) in
+    let k : SamplingMet g (a .p .now) (a .pe .now) s = sampling-met g (a .p .now) (a .pe .now) s (sym (c .before .before .before .before .before .before .before .before .before .before .before .before .before .before .before .sampling-door .ensures) ∙ c .before .before .before .before .before .before .before .before .before .before .before .before .before .before .if1 .taken) in
+    let l = length-defect _ g (a .p .now) (a .pe .now) (a .defect .now) (a .erasure .now) (k .sound) (k .lists .long-defect) (k .lists .long-erasure) (c .before .before .before .before .before .before .before .before .before .before .before .before .fill-u8 .ensures) (c .before .before .before .before .before .before .sample-edges .ensures) in
+    (omega (arith, l, k .lists .long-defect), k .lists .long-defects, omega (arith, k .sound .graph .few-vertices))
+
+list-marked-requires-2 : tie.Need-list-marked-requires-2
+list-marked-requires-2 c κs =
+    let a = c .before .before .before .before .before .before .before .before .before .before .before .before .before .before .before .before .before .before .before .before .before .before .before .before .before .before .before .before .before .before .before .before .before .before .args in
+    let g : CodeGraph = codeGraph (a .vertex-num) (a .edge-num) (a .ends-a .now) (a .ends-b .now) (a .boundary .now) in
+    let s : SyndromeColumns = syndromeColumns (a .defect .now) (a .erasure .now) (a .defect-list .now) (a .erasure-list .now) in
+    let k : SamplingMet g (a .p .now) (a .pe .now) s = sampling-met g (a .p .now) (a .pe .now) s (sym (c .before .before .before .before .before .before .before .before .before .before .before .before .before .before .before .before .before .before .before .before .sampling-door .ensures) ∙ c .before .before .before .before .before .before .before .before .before .before .before .before .before .before .before .before .before .before .before .if1 .taken) in
+    let l = length-erasure _ g (a .p .now) (a .pe .now) (a .defect .now) (a .erasure .now) (k .sound) (k .lists .long-defect) (k .lists .long-erasure) (c .before .before .before .before .before .before .before .before .before .before .before .before .before .before .before .before .before .fill-u8 .ensures) (c .before .before .before .before .before .before .before .before .before .before .before .sample-edges .ensures) in
+    (omega (arith, l, k .lists .long-erasure), k .lists .long-erasures, k .sound .graph .few-edges)
+
+same-length : tie.Need-same-length
+same-length c = search needs
+
+same-length-2 : tie.Need-same-length-2
+same-length-2 c = c .before .before .before .before .before .before .before .before .before .before .before .erasure .given
+
+same-length-3 : tie.Need-same-length-3
+same-length-3 c = c .before .before .before .before .before .before .defect-list .given
+
+same-length-4 : tie.Need-same-length-4
+same-length-4 c = c .before .erasure-list .given
+
+returns : tie.Need-returns
+returns c =
+    let a = c .before .before .before .before .before .before .before .before .before .before .before .before .before .before .before .before .before .before .before .before .before .before .before .before .before .before .before .before .before .before .before .before .before .before .before .before .before .args in
+    let g : CodeGraph = codeGraph (a .vertex-num) (a .edge-num) (a .ends-a .now) (a .ends-b .now) (a .boundary .now) in
+    let s : SyndromeColumns = syndromeColumns (a .defect .now) (a .erasure .now) (a .defect-list .now) (a .erasure-list .now) in
+    let z : samplingDoor g (a .p .now) (a .pe .now) s ≡ 0 = sym (c .before .before .before .before .before .before .before .before .before .before .before .before .before .before .before .before .before .before .before .before .before .before .before .sampling-door .ensures) ∙ c .before .before .before .before .before .before .before .before .before .before .before .before .before .before .before .before .before .before .before .before .before .before .if1 .taken in
+    let k : SamplingMet g (a .p .now) (a .pe .now) s = sampling-met g (a .p .now) (a .pe .now) s z in
+    let r = seedFromU64 (a .seed) in
+    let this = sampled-from (c .before .before .before .before .before .before .before .before .before .before .before .before .before .before .before .before .before .seed-from-u64 .ensures) (c .before .before .before .before .before .before .before .before .before .before .before .before .before .before .sample-edges .ensures) in
+    let x = c .before .before .before .before .before .before .before .list-marked .ensures in
+    let y = c .before .before .list-marked2 .ensures in
+    left-accepted (samplingDoor g (a .p .now) (a .pe .now) s) (a .vertex-num) (a .edge-num)
+    (sampledDefects r g (a .p .now) (a .pe .now)) (sampledErasures r (a .pe .now) (a .edge-num)) s _ z
+    (length-sampledDefects r g (a .p .now) (a .pe .now)) (length-sampledErasures r (a .pe .now) (a .edge-num))
+    (sampled-defect r g (a .p .now) (a .pe .now) (a .defect .now) (a .erasure .now) (k .sound) (k .lists .long-defect) (k .lists .long-erasure) (c .before .before .before .before .before .before .before .before .before .before .before .before .before .before .before .before .before .before .before .before .fill-u8 .ensures) this)
+    (sampled-erasure r g (a .p .now) (a .pe .now) (a .defect .now) (a .erasure .now) (k .sound) (k .lists .long-defect) (k .lists .long-erasure) (c .before .before .before .before .before .before .before .before .before .before .before .before .before .before .before .before .before .before .before .before .fill-u8 .ensures) this)
+    (x .0) (x .1) (y .0) (y .1)
+
+same-length-5 : tie.Need-same-length-5
+same-length-5 c = search needs
+
+same-length-6 : tie.Need-same-length-6
+same-length-6 c = search needs
+
+same-length-7 : tie.Need-same-length-7
+same-length-7 c = search needs
+
+same-length-8 : tie.Need-same-length-8
+same-length-8 c = search needs
+
+returns-2 : tie.Need-returns-2
+returns-2 c =
+    let a = c .before .before .before .before .before .before .before .before .before .before .before .before .before .before .before .args in
+    let g : CodeGraph = codeGraph (a .vertex-num) (a .edge-num) (a .ends-a .now) (a .ends-b .now) (a .boundary .now) in
+    let s : SyndromeColumns = syndromeColumns (a .defect .now) (a .erasure .now) (a .defect-list .now) (a .erasure-list .now) in
+    left-refused (samplingDoor g (a .p .now) (a .pe .now) s) (a .vertex-num) (a .edge-num)
+    (sampledDefects (seedFromU64 (a .seed)) g (a .p .now) (a .pe .now)) (sampledErasures (seedFromU64 (a .seed)) (a .pe .now) (a .edge-num)) s
+    (c .before .sampling-door .ensures) (c .if1 .left)
+
+pub generate-random-errors-spec : {M : Type 1} → statement M
+generate-random-errors-spec =
+    tie.close
+    (tie.spec
+    sampling-door-requires
+    fill-u8-requires
+    seed-from-u64-requires
+    sample-edges-requires
+    list-marked-requires
+    list-marked-requires-2
+    same-length
+    same-length-2
+    same-length-3
+    same-length-4
+    returns
+    same-length-5
+    same-length-6
+    same-length-7
+    same-length-8
+    returns-2)

@@ -1,0 +1,39 @@
+-- `generate_errors`.
+use Prim.Native.Nat.{ℕ}
+use mathlib.Core.Path.{_≡_}
+use mathlib.Core.Bool.{Bool, _&&_}
+use mathlib.Core.List.{List}
+use lib.ListN.{length, take}
+use Rattle.columns.specs.Lists.{after}
+use Rattle.columns.specs.Questions.{ask, allBelow, marksSound}
+use Rattle.sampling_calls.specs.declared.SyndromeAnswer.{SyndromeAnswer}
+use Rattle.sampling_calls.specs.Records.{CodeGraph, graphLong, codeSound, SyndromeColumns, syndromeLong}
+use Rattle.columns_marked.specs.Marked.{marked}
+use Rattle.sampling_flips.specs.Flip.{flipEach}
+use Rattle.columns_answers.specs.Said.{Answered}
+use Rattle.sampling_calls.specs.Answers.{said}
+
+-- what a call that generates errors answers and leaves: `number` is the question's, 0 where all are met;
+-- then the defect and erasure bytes are those given, and both lists name the bytes 1, ascending
+pub record SyndromeLeft (number v e : ℕ) (defects erasures : List ℕ) (before : SyndromeColumns) (answer : SyndromeAnswer) (last : SyndromeColumns) : Type 0 where
+  pub answers : Answered (said answer) number (length (marked v defects), length (marked e erasures)) (0, 0)
+  pub defect-is : last .defect ≡ after number defects (before .defect)
+  pub erasure-is : last .erasure ≡ after number erasures (before .erasure)
+  pub defects-listed : last .defectList ≡ after number (marked v defects) (before .defectList)
+  pub erasures-listed : last .erasureList ≡ after number (marked e erasures) (before .erasureList)
+
+-- ---- generate_errors
+
+-- questions 6, 7 and 13
+unfoldable pub errorsDoor : CodeGraph → List ℕ → SyndromeColumns → ℕ
+errorsDoor g list s =
+    ask (graphLong g && syndromeLong (g .vertices) (g .edges) s) 6
+    (ask (codeSound g && (marksSound (g .vertices) (s .defect) && marksSound (g .edges) (s .erasure))) 7
+    (ask (allBelow (g .edges) list) 13 0))
+
+-- an error on each listed edge, over the standing defects; the erasures stay
+abbrev pub GeneratedErrors : CodeGraph → List ℕ → SyndromeColumns → SyndromeAnswer → SyndromeColumns → Type 0
+GeneratedErrors g list before answer last =
+    SyndromeLeft (errorsDoor g list before) (g .vertices) (g .edges)
+    (flipEach (g .endsA) (g .endsB) (g .boundary) list (take (g .vertices) (before .defect))) (take (g .edges) (before .erasure))
+    before answer last

@@ -1,0 +1,38 @@
+-- `generate_random_errors`: errors and erasures by two draws of the seeded generator for every edge.
+use Prim.Native.Nat.{ℕ}
+use mathlib.Core.Bool.{Bool, _&&_}
+use mathlib.Core.List.{List}
+use lib.ListN.{length, take, replicate}
+use lib.Dec.{leb}
+use lib.Ieee.{Float}
+use Rattle.columns.specs.Questions.{ask, all}
+use Rattle.sampling_generator.specs.declared.DeterministicRng.{DeterministicRng}
+use Rattle.sampling_generator.specs.Random.{seedFromU64}
+use Rattle.weights_recipe.specs.Probabilities.{isProbability, isErasureProbability}
+use Rattle.sampling_flips.specs.Flip.{flipEach}
+use Rattle.sampling_edges.specs.Draws.{sampledErasures, sampledErrors}
+use Rattle.sampling_calls.specs.declared.SyndromeAnswer.{SyndromeAnswer}
+use Rattle.sampling_calls.specs.Records.{CodeGraph, graphLong, codeSound, SyndromeColumns, syndromeLong}
+use Rattle.sampling_calls.specs.Errors.{SyndromeLeft}
+
+-- the defect bytes: errors on the edges that the draws say, over no defects
+unfoldable pub sampledDefects : DeterministicRng → CodeGraph → (p pe : List Float) → List ℕ
+sampledDefects r g p pe =
+    flipEach (g .endsA) (g .endsB) (g .boundary) (sampledErrors r p pe (g .edges)) (replicate (g .vertices) 0)
+
+-- 9: of the first places of p and pe, as many as there are edges
+unfoldable pub probabilitiesSound : (e : ℕ) (p pe : List Float) → Bool
+probabilitiesSound e p pe = all isProbability (take e p) && all isErasureProbability (take e pe)
+
+-- questions 6, 7 and 9
+unfoldable pub samplingDoor : CodeGraph → (p pe : List Float) → SyndromeColumns → ℕ
+samplingDoor g p pe s =
+    ask (graphLong g && (leb (g .edges) (length p) && (leb (g .edges) (length pe) && syndromeLong (g .vertices) (g .edges) s))) 6
+    (ask (codeSound g) 7
+    (ask (probabilitiesSound (g .edges) p pe) 9 0))
+
+abbrev pub GeneratedRandomErrors : (seed : ℕ) → CodeGraph → (p pe : List Float) → SyndromeColumns → SyndromeAnswer → SyndromeColumns → Type 0
+GeneratedRandomErrors seed g p pe before answer last =
+    SyndromeLeft (samplingDoor g p pe before) (g .vertices) (g .edges)
+    (sampledDefects (seedFromU64 seed) g p pe) (sampledErasures (seedFromU64 seed) pe (g .edges))
+    before answer last

@@ -1,0 +1,38 @@
+-- `sampling_edges::sample_edge` meets its contract. Assumes nothing.
+use mathlib.Core.Path.{_≡_, refl, sym, ap, _∙_}
+use mathlib.Core.Bool.{Bool, cond}
+use lib.Ieee.{Float, lt}
+use Rattle.sampling_generator.specs.declared.DeterministicRng.{DeterministicRng}
+use Rattle.sampling_generator.specs.Random.{wordOf, nextOf, drawOf}
+use Rattle.sampling_edges.proofs.sample_edge.Statement.{statement}
+use Rattle.sampling_edges.proofs.sample_edge.Tie as tie
+use Rattle.sampling_edges.proofs.sample_edge.Reads as reads
+use Rattle.sampling_edges.proofs.sample_edge.Lts as lts
+use Rattle.sampling_generator.proofs.DeterministicRng.next_f64.Reads as next-f64-reads
+use Rattle.sampling_edges.proofs.error_probability.Reads as error-probability-reads
+
+next-f64-requires : tie.Need-next-f64-requires
+next-f64-requires c κs = tt
+
+next-f64-requires-2 : tie.Need-next-f64-requires-2
+next-f64-requires-2 c κs = tt
+
+error-probability-requires : tie.Need-error-probability-requires
+error-probability-requires c κs = tt
+
+returns : tie.Need-returns
+returns c =
+    let a = c .before .before .before .before .before .before .before .args in
+    let one = c .before .before .before .before .before .before .next-f64 in
+    let two = c .before .before .before .next-f642 in
+    record {
+      erased = ap (λ (x : Float). lt x (a .pe)) (one .ensures .0);
+      error =
+          ap (λ (x : Float). lt x (c .before .before .error-probability .result)) (two .ensures .0 ∙ ap (λ (x : DeterministicRng). drawOf (wordOf x)) (one .ensures .1))
+          ∙ ap (lt (drawOf (wordOf (nextOf (a .rng))))) (c .before .before .error-probability .ensures);
+      state = two .ensures .1 ∙ ap nextOf (one .ensures .1);
+    }
+
+pub sample-edge-spec : {M : Type 1} → statement M
+sample-edge-spec =
+    tie.close (tie.spec next-f64-requires next-f64-requires-2 error-probability-requires returns)

@@ -1,0 +1,28 @@
+-- `sampling_flips::flip_edge_if` meets its contract. Assumes nothing.
+use mathlib.Core.Path.{_≡_, refl, sym, ap, _∙_}
+use mathlib.Core.Bool.{Bool}
+use Rattle.columns.specs.Lists.{when}
+use Rattle.sampling_flips.specs.Flip.{flipEach}
+use borrow.Author.Needs.{needs}
+use Rattle.sampling_flips.proofs.flip_edge_if.Statement.{statement}
+use Rattle.sampling_flips.proofs.flip_edge_if.Tie as tie
+use Rattle.sampling_flips.proofs.flip_edge_if.Reads as reads
+use Rattle.sampling_flips.proofs.flip_edge_if.Lts as lts
+use Rattle.sampling_flips.proofs.flip_edge.Reads as flip-edge-reads
+
+flip-edge-requires : tie.Need-flip-edge-requires
+flip-edge-requires c κs = search needs
+
+same-length : tie.Need-same-length
+same-length c = c .before .defect .given
+
+returns : tie.Need-returns
+unfolding flipEach
+returns c = simp (c .before .before .before .before .if1 .taken) (c .before .before .flip-edge .ensures)
+
+returns-2 : tie.Need-returns-2
+unfolding flipEach
+returns-2 c = simp (c .if1 .left)
+
+pub flip-edge-if-spec : {M : Type 1} → statement M
+flip-edge-if-spec = tie.close (tie.spec flip-edge-requires same-length returns returns-2)

@@ -1,0 +1,21 @@
+-- `sanity_calls::sanity::or_else` meets its contract. Assumes nothing.
+use mathlib.Core.Path.{_≡_, refl, sym, ap, _∙_}
+use Rattle.sanity_verdicts.proofs.Scans.{sound-of, or-sound, or-found}
+use Rattle.sanity_calls.proofs.sanity.or_else.Statement.{statement}
+use Rattle.sanity_calls.proofs.sanity.or_else.Tie as tie
+
+is-sound-requires : tie.Need-is-sound-requires
+is-sound-requires c κs = tt
+
+returns : tie.Need-returns
+returns c =
+    let s = c .before .before .args in
+    sym (or-sound (s .found) (s .next) (sound-of (s .found) (sym (c .before .is-sound .ensures) ∙ c .if1 .taken)))
+
+returns-2 : tie.Need-returns-2
+returns-2 c =
+    let s = c .before .before .args in
+    sym (or-found (s .found) (s .next) (sym (c .before .is-sound .ensures) ∙ c .if1 .left))
+
+pub or-else-spec : {M : Type 1} → statement M
+or-else-spec = tie.close (tie.spec is-sound-requires returns returns-2)

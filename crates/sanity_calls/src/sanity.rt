@@ -1,0 +1,120 @@
+// Whether a graph is reasonable.
+ghost use mathlib.Core.Path.{_≡_};
+ghost use mathlib.Core.Bool.{Bool};
+ghost use Prim.Native.Nat.{ℕ, _+_, _≤_};
+ghost use lib.ListN.{length, take};
+ghost use lib.Dec.{leb};
+ghost use Rattle.sanity_verdicts.specs.Sanity.{total, orElse, verdict, sanityLong, SanityChecked};
+use columns::questions::at_most;
+use columns::questions::both;
+use columns::questions::lesser;
+use sanity_lists::vertices_checked;
+use sanity_pairs::duplicates;
+use sanity_verdicts::Verdict;
+use sanity_verdicts::is_sound;
+
+fn wide(x: u32) -> usize
+    ensures { λ r. ⌜ r ≡ x ⌝ }
+{
+    x as usize
+}
+
+// Whether the first n lengths, or all where there are fewer, sum up to at most the room.
+fn lists_fit(lengths: &[u32], n: usize, room: usize) -> bool
+    ensures { λ r. ⌜ r ≡ leb (total (take n (now (lengths .entry)))) room ⌝ }
+{
+    let m = lesser(n, lengths.len());
+    let mut left = room;
+    let mut i: usize = 0;
+    while i < m {
+        let len = wide(lengths[i]);
+        if left < len {
+            return false;
+        }
+        left -= len;
+        i += 1;
+    }
+    true
+}
+
+// Question 6.
+fn sanity_long(
+    vertex_num: u32,
+    edge_num: u32,
+    ends_a: &[u32],
+    ends_b: &[u32],
+    list_lengths: &[u32],
+    neighbor_numbers: &[u32],
+) -> bool
+    ensures { λ r. ⌜ r ≡ sanityLong «vertex_num» «edge_num» (now («ends_a» .entry)) (now («ends_b» .entry)) (now («list_lengths» .entry)) (now («neighbor_numbers» .entry)) ⌝ }
+{
+    let v = vertex_num as usize;
+    let e = edge_num as usize;
+    let a = at_most(e, ends_a.len());
+    let b = at_most(e, ends_b.len());
+    let l = at_most(v, list_lengths.len());
+    let twice = at_most(2 * e, neighbor_numbers.len());
+    let sum = lists_fit(list_lengths, v, neighbor_numbers.len());
+    both(both(a, both(b, l)), both(twice, sum))
+}
+
+// What comes first: a finding, or what comes next.
+fn or_else(found: Verdict, next: Verdict) -> Verdict
+    ensures { λ r. ⌜ r ≡ orElse found next ⌝ }
+{
+    if is_sound(found) { next } else { found }
+}
+
+// The verdict on columns that are long enough.
+fn verdict_of(
+    vertex_num: u32,
+    edge_num: u32,
+    ends_a: &[u32],
+    ends_b: &[u32],
+    list_lengths: &[u32],
+    neighbor_numbers: &[u32],
+) -> Verdict
+    requires { ⌜ («edge_num» ≤ length (now «ends_a»)) × («edge_num» ≤ length (now «ends_b»)) × («vertex_num» ≤ length (now «list_lengths»)) × (total (take «vertex_num» (now «list_lengths»)) ≤ length (now «neighbor_numbers»)) ⌝ }
+    ensures { λ r. ⌜ r ≡ verdict «vertex_num» «edge_num» (now («ends_a» .entry)) (now («ends_b» .entry)) (now («list_lengths» .entry)) (now («neighbor_numbers» .entry)) ⌝ }
+{
+    if vertex_num == 0 {
+        return Verdict::Empty;
+    }
+    if edge_num == 0 {
+        return Verdict::Empty;
+    }
+    let edges = duplicates(ends_a, ends_b, edge_num);
+    let vertices = vertices_checked(list_lengths, neighbor_numbers, vertex_num);
+    or_else(edges, vertices)
+}
+
+// The first thing wrong with a graph: no vertices or no edges, two edges that join one pair, a vertex without edges, an edge twice at a vertex.
+pub fn sanity_check(
+    vertex_num: u32,
+    edge_num: u32,
+    ends_a: &[u32],
+    ends_b: &[u32],
+    list_lengths: &[u32],
+    neighbor_numbers: &[u32],
+) -> Verdict
+    ensures { λ r. ⌜ SanityChecked «vertex_num» «edge_num» (now («ends_a» .entry)) (now («ends_b» .entry)) (now («list_lengths» .entry)) (now («neighbor_numbers» .entry)) r ⌝ }
+{
+    if !sanity_long(
+        vertex_num,
+        edge_num,
+        ends_a,
+        ends_b,
+        list_lengths,
+        neighbor_numbers,
+    ) {
+        return Verdict::Refused(6);
+    }
+    verdict_of(
+        vertex_num,
+        edge_num,
+        ends_a,
+        ends_b,
+        list_lengths,
+        neighbor_numbers,
+    )
+}

@@ -1,0 +1,153 @@
+-- Laws of stamps, and of numbers twice in a list. Assumes nothing.
+use mathlib.Core.Path.{_≡_, refl, sym, ap, _∙_, subst}
+use mathlib.Core.Bool.{Bool, true, false, cond, false≢true}
+use mathlib.Core.List.{List}
+use Prim.Native.Nat.{ℕ, zero, suc, _+_, _≤_, _<_}
+use native.Mathlib.Decide.{ℕ-discrete}
+use native.Mathlib.Omega.{arith}
+use borrow.Author.Tests.{eq-eqb, ne-eqb, eqb-true}
+use lib.Dec.{eqb}
+use lib.ListN.{length, getD, set, take, drop, length-set, length-take, length-drop}
+use lib.Seq.{getD-set-same, getD-set-other, getD-take, getD-drop}
+use Rattle.sanity_verdicts.specs.declared.Verdict.{Verdict}
+use Rattle.sanity_verdicts.specs.declared.Verdict.the-variants.{Sound, NoEdges, EdgeTwice}
+use Rattle.sanity_verdicts.specs.Sanity.{edgeNumbered, vertexNumbered, firstOf, foundIf, twice, atVertex, listAt, total}
+use Rattle.sanity_verdicts.specs.Steps.{isSound}
+use Rattle.sanity_lists.specs.Steps.{Seen, Stamped, Below}
+use Rattle.sanity_verdicts.proofs.Scans.{first-next, first-stop, first-all, first-any, first-same, found-true, found-false}
+
+module _ (numbers : List ℕ) (start : ℕ) where
+  -- seen at place j, and nowhere
+  pub seen-at : (i x j : ℕ) → j < i → getD numbers (start + j) 0 ≡ x → Seen numbers start i x true
+  seen-at i x j h e = record { yes = λ t. (j, (h, e)); no = λ t. absurd (false≢true (sym t)) }
+
+  pub seen-none : (i x : ℕ) → ((j : ℕ) → j < i → getD numbers (start + j) 0 ≡ x → ⊥) → Seen numbers start i x false
+  seen-none i x f = record { yes = λ t. absurd (false≢true t); no = λ t. f }
+
+  -- seen by its stamp
+  pub seen-stamp : (i x stamp : ℕ) (mark : List ℕ) → x < 32768 → Stamped numbers start i stamp mark → Seen numbers start i x (eqb (getD mark x 0) stamp)
+  seen-stamp i x stamp mark h s = record {
+    yes = λ t. s .stamped x h (eqb-true (getD mark x 0) stamp t);
+    no = λ t j l e. false≢true (sym t ∙ eq-eqb (getD mark x 0) stamp (subst (λ (y : ℕ). getD mark y 0 ≡ stamp) e (s .has j l (rw e h))));
+  }
+
+  -- one number more: stamped, or beyond the stamps
+  module _ (i x stamp : ℕ) (mark : List ℕ) (e : getD numbers (start + i) 0 ≡ x) (s : Stamped numbers start i stamp mark) where
+    pub stamp-one : x < 32768 → Stamped numbers start (i + 1) stamp (set mark x stamp)
+    stamp-one h = record {
+      len = length-set mark x stamp ∙ s .len;
+      most = λ y l. most y l (ℕ-discrete y x);
+      stamped = λ y l t. stamped y l t (ℕ-discrete y x);
+      has = λ j l t. has j l t (ℕ-discrete (getD numbers (start + j) 0) x) (ℕ-discrete j i);
+    }
+      where
+        at-x : getD (set mark x stamp) x 0 ≡ stamp
+        at-x = getD-set-same mark x stamp 0 (omega (arith, s .len))
+
+        most : (y : ℕ) → y < 32768 → Dec (y ≡ x) → getD (set mark x stamp) y 0 ≤ stamp
+        most y l (yes q) = rw q (omega (arith, at-x))
+        most y l (no q) = rw (getD-set-other mark x y stamp 0 q) (s .most y l)
+
+        stamped : (y : ℕ) → y < 32768 → getD (set mark x stamp) y 0 ≡ stamp → Dec (y ≡ x) → (j : ℕ) × ((j < i + 1) × (getD numbers (start + j) 0 ≡ y))
+        stamped y l t (yes q) = (i, (omega arith, e ∙ sym q))
+        stamped y l t (no q) = let (j, (k, r)) = s .stamped y l (sym (getD-set-other mark x y stamp 0 q) ∙ t) in (j, (omega arith, r))
+
+        has : (j : ℕ) → j < i + 1 → getD numbers (start + j) 0 < 32768 → Dec (getD numbers (start + j) 0 ≡ x) → Dec (j ≡ i) → getD (set mark x stamp) (getD numbers (start + j) 0) 0 ≡ stamp
+        has j l t (yes q) d = ap (λ (y : ℕ). getD (set mark x stamp) y 0) q ∙ at-x
+        has j l t (no q) (yes r) = absurd (q (ap (λ (m : ℕ). getD numbers (start + m) 0) r ∙ e))
+        has j l t (no q) (no r) = getD-set-other mark x (getD numbers (start + j) 0) stamp 0 q ∙ s .has j (omega arith) t
+
+    pub stamp-none : 32768 ≤ x → Stamped numbers start (i + 1) stamp mark
+    stamp-none h = record {
+      len = s .len;
+      most = s .most;
+      stamped = λ y l t. let (j, (k, r)) = s .stamped y l t in (j, (omega arith, r));
+      has = λ j l t. has j l t (ℕ-discrete j i);
+    }
+      where
+        has : (j : ℕ) → j < i + 1 → getD numbers (start + j) 0 < 32768 → Dec (j ≡ i) → getD mark (getD numbers (start + j) 0) 0 ≡ stamp
+        has j l t (yes r) = absurd (let q : getD numbers (start + j) 0 ≡ x = ap (λ (m : ℕ). getD numbers (start + m) 0) r ∙ e in omega arith)
+        has j l t (no r) = s .has j (omega arith) t
+
+  -- a new stamp, before the first number
+  pub stamp-new : (v : ℕ) (mark : List ℕ) → Below v mark → Stamped numbers start 0 (v + 1) mark
+  stamp-new v mark b = record {
+    len = b .len;
+    most = λ x h. omega (arith, b .most x h);
+    stamped = λ x h t. absurd (omega (arith, b .most x h));
+    has = λ j h. absurd (omega arith);
+  }
+
+pub stamp-below : {numbers : List ℕ} {start i stamp : ℕ} {mark : List ℕ} → Stamped numbers start i stamp mark → Below stamp mark
+stamp-below s = record { len = s .len; most = s .most }
+
+pub below-more : (v : ℕ) {mark : List ℕ} → Below v mark → Below (v + 1) mark
+below-more v b = record { len = b .len; most = λ x h. omega (arith, b .most x h) }
+
+-- ---- the loop over a list
+
+-- the part of a column that starts at a place and has a length
+abbrev pub part : (numbers : List ℕ) (start len : ℕ) → List ℕ
+part numbers start len = take len (drop start numbers)
+
+-- the finding at place i of a vertex's list
+finding : (list : List ℕ) (v i : ℕ) → Verdict
+finding list v i = firstOf i (λ j. foundIf (eqb (getD list j 0) (getD list i 0)) (EdgeTwice (edgeNumbered (getD list i 0)) (vertexNumbered v)))
+
+-- no finding at the first i places
+pub NoneTwice : (list : List ℕ) (v i : ℕ) → Type 0
+NoneTwice list v i = firstOf i (finding list v) ≡ Sound
+
+pub none-start : (list : List ℕ) (v : ℕ) → NoneTwice list v 0
+unfolding NoneTwice firstOf
+none-start list v = refl
+
+module _ (numbers : List ℕ) (start len v : ℕ) (fits : start + len ≤ length numbers) where
+  list-length : length (part numbers start len) ≡ len
+  list-length = omega (arith, length-take len (drop start numbers), length-drop start numbers)
+
+  list-at : (i : ℕ) → i < len → getD (part numbers start len) i 0 ≡ getD numbers (start + i) 0
+  list-at i h = getD-take len (drop start numbers) i 0 h ∙ getD-drop start numbers i 0
+
+  module _ (i x : ℕ) (h : i < len) (e : getD numbers (start + i) 0 ≡ x) where
+    finding-none : Seen numbers start i x false → finding (part numbers start len) v i ≡ Sound
+    unfolding finding
+    finding-none s = first-all _ i (λ j l. found-false _ _ (ne-eqb (getD (part numbers start len) j 0) (getD (part numbers start len) i 0) (λ q. s .no refl j l (sym (list-at j (omega arith)) ∙ q ∙ list-at i h ∙ e))))
+
+    finding-some : Seen numbers start i x true → finding (part numbers start len) v i ≡ EdgeTwice (edgeNumbered x) (vertexNumbered v)
+    unfolding finding
+    finding-some s =
+        let list = part numbers start len in
+        let (j, (l, q)) = s .yes refl in
+        first-any (λ j. eqb (getD list j 0) (getD list i 0)) (EdgeTwice (edgeNumbered (getD list i 0)) (vertexNumbered v)) i j l (eq-eqb _ _ (list-at j (omega arith) ∙ q ∙ sym e ∙ sym (list-at i h)))
+        ∙ ap (λ (y : ℕ). EdgeTwice (edgeNumbered y) (vertexNumbered v)) (list-at i h ∙ e)
+
+    pub none-next : {r : Bool} → Seen numbers start i x r → r ≡ false → NoneTwice (part numbers start len) v i → NoneTwice (part numbers start len) v (i + 1)
+    unfolding NoneTwice
+    none-next {r} s f n = first-next (finding (part numbers start len) v) i n (finding-none (subst (Seen numbers start i x) f s))
+
+    pub twice-stop : {r : Bool} → Seen numbers start i x r → r ≡ true → NoneTwice (part numbers start len) v i → EdgeTwice (edgeNumbered x) (vertexNumbered v) ≡ twice (part numbers start len) v
+    unfolding NoneTwice twice finding
+    twice-stop {r} s t n =
+        let it = finding-some (subst (Seen numbers start i x) t s) in
+        sym (first-stop (finding (part numbers start len) v) (length (part numbers start len)) i (omega (arith, list-length)) n (ap isSound it) ∙ it)
+
+  pub twice-none : NoneTwice (part numbers start len) v len → Sound ≡ twice (part numbers start len) v
+  unfolding NoneTwice twice finding
+  twice-none n = sym (ap (λ (k : ℕ). firstOf k (finding (part numbers start len) v)) list-length ∙ n)
+
+-- ---- the finding at a vertex
+
+pub no-edges : (list : List ℕ) (len v : ℕ) → len ≡ 0 → NoEdges (vertexNumbered v) ≡ atVertex list len v
+unfolding atVertex
+no-edges list len v e = ap (λ (t : Bool). cond t (NoEdges (vertexNumbered v)) (twice list v)) (sym (eq-eqb len 0 e))
+
+pub some-edges : (list : List ℕ) (len v : ℕ) → (len ≡ 0 → ⊥) → twice list v ≡ atVertex list len v
+unfolding atVertex
+some-edges list len v f = ap (λ (t : Bool). cond t (NoEdges (vertexNumbered v)) (twice list v)) (sym (ne-eqb len 0 f))
+
+-- the finding at vertex v, from where its list starts and its length
+pub vertex-is : (lengths numbers : List ℕ) (v : ℕ) {len start : ℕ} {r : Verdict} → len ≡ getD lengths v 0 → start ≡ total (take v lengths)
+    → r ≡ atVertex (part numbers start len) len v → r ≡ atVertex (listAt lengths numbers v) (getD lengths v 0) v
+unfolding listAt
+vertex-is lengths numbers v {len} {start} {r} p q e = e ∙ λ i. atVertex (take (p i) (drop (q i) numbers)) (p i) v

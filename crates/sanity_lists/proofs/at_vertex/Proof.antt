@@ -1,0 +1,26 @@
+-- `sanity_lists::at_vertex` meets its contract. Assumes nothing.
+use mathlib.Core.Path.{_≡_, refl, sym, ap, _∙_}
+use Rattle.sanity_lists.proofs.Stamping.{no-edges, some-edges, below-more}
+use borrow.Author.Needs.{needs}
+use Rattle.sanity_lists.proofs.at_vertex.Statement.{statement}
+use Rattle.sanity_lists.proofs.at_vertex.Tie as tie
+
+returns : tie.Need-returns
+returns c =
+    let s = c .before .before .before in
+    (no-edges _ (s .args .len) (s .args .v) (c .if1 .taken), below-more (s .args .v) (s .pre .1))
+
+twice-in-requires : tie.Need-twice-in-requires
+twice-in-requires c κs = search needs
+
+same-length : tie.Need-same-length
+same-length c = c .before .mark .given
+
+returns-2 : tie.Need-returns-2
+returns-2 c =
+    let s = c .before .before .before .before .before .before .before in
+    let t = c .before .before .twice-in .ensures in
+    (t .0 ∙ some-edges _ (s .args .len) (s .args .v) (c .before .before .before .before .if1 .left), t .1)
+
+pub at-vertex-spec : {M : Type 1} → statement M
+at-vertex-spec = tie.close (tie.spec returns twice-in-requires same-length returns-2)

@@ -1,0 +1,27 @@
+-- `sanity_lists::stamp_next` meets its contract. Assumes nothing.
+use Rattle.sanity_lists.proofs.Stamping.{stamp-one, stamp-none}
+use borrow.Author.Needs.{needs}
+use Rattle.sanity_lists.proofs.stamp_next.Statement.{statement}
+use Rattle.sanity_lists.proofs.stamp_next.Tie as tie
+
+mul-mark : tie.Need-mul-mark
+mul-mark c = search needs
+
+slice-write-mark : tie.Need-slice-write-mark
+slice-write-mark c = search needs
+
+same-length : tie.Need-same-length
+same-length c = search needs
+
+returns : tie.Need-returns
+returns c =
+    let s = c .before in
+    stamp-one (s .args .numbers .now) (s .args .start) (s .args .i) (s .args .x) (s .args .stamp) (s .args .mark .now) (s .pre .1) (s .pre .0) (c .if1 .taken)
+
+returns-2 : tie.Need-returns-2
+returns-2 c =
+    let s = c .before in
+    stamp-none (s .args .numbers .now) (s .args .start) (s .args .i) (s .args .x) (s .args .stamp) (s .args .mark .now) (s .pre .1) (s .pre .0) (c .if1 .left)
+
+pub stamp-next-spec : {M : Type 1} → statement M
+stamp-next-spec = tie.close (tie.spec mul-mark slice-write-mark same-length returns returns-2)

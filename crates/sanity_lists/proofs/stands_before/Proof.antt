@@ -1,0 +1,67 @@
+-- `sanity_lists::stands_before` meets its contract. Invariant: x is none of the first j numbers. Assumes nothing.
+use mathlib.Core.Path.{_≡_, refl, sym, ap, _∙_}
+use Prim.Native.Nat.{ℕ, _+_, _-_, _≤_, _<_}
+use native.Mathlib.Omega.{arith}
+use lib.ListN.{getD}
+use Rattle.sanity_verdicts.proofs.Scans.{below-next}
+use Rattle.sanity_lists.proofs.Stamping.{seen-at, seen-none}
+use borrow.Author.Needs.{needs}
+use Rattle.sanity_lists.proofs.stands_before.Statement.{statement}
+use Rattle.sanity_lists.proofs.stands_before.Tie as tie
+
+abbrev Inv-loop : tie.InvT-loop
+Inv-loop numbers start i x j₀ j = (j ≤ i) × ((m : ℕ) → m < j → getD numbers (start + m) 0 ≡ x → ⊥)
+
+abbrev μ-loop : tie.MeasureT-loop
+μ-loop numbers start i x j₀ j = i - j
+
+loop-holds : tie.Need-loop-holds Inv-loop μ-loop
+loop-holds c = (omega arith, λ m h. absurd (omega arith))
+
+add-if1 : tie.Need-add-if1 Inv-loop μ-loop
+add-if1 c = search needs
+
+mul-if1 : tie.Need-mul-if1 Inv-loop μ-loop
+mul-if1 c = search needs
+
+shared-slice-read-if1 : tie.Need-shared-slice-read-if1 Inv-loop μ-loop
+shared-slice-read-if1 c = search needs
+
+returns : tie.Need-returns Inv-loop μ-loop
+returns c =
+    let s = c .before .before .before .before .args in
+    seen-at (s .numbers .now) (s .start) (s .i) (s .x) (c .before .before .before .loop .j) (omega arith) (c .if1 .taken)
+
+add-j : tie.Need-add-j Inv-loop μ-loop
+add-j c = search needs
+
+loop-less : tie.Need-loop-less Inv-loop μ-loop
+loop-less c = search needs
+
+loop-again : tie.Need-loop-again Inv-loop μ-loop
+loop-again c =
+    let s = c .before .before .before .before .args in
+    let l = c .before .before .before .loop in
+    (omega arith, below-next (λ m. getD (s .numbers .now) (s .start + m) 0 ≡ s .x) (l .j) (l .inv .1) (c .if1 .left))
+
+returns-2 : tie.Need-returns-2 Inv-loop μ-loop
+returns-2 c =
+    let s = c .before .before .args in
+    let l = c .before .loop in
+    seen-none (s .numbers .now) (s .start) (s .i) (s .x) (λ m h. l .inv .1 m (omega arith))
+
+pub stands-before-spec : {M : Type 1} → statement M
+stands-before-spec =
+    tie.close
+    (tie.spec
+    Inv-loop
+    μ-loop
+    loop-holds
+    add-if1
+    mul-if1
+    shared-slice-read-if1
+    returns
+    add-j
+    loop-less
+    loop-again
+    returns-2)

@@ -1,0 +1,91 @@
+-- `sanity_lists::twice_in` meets its contract. Invariant: the first i numbers are stamped, and none of them stands there twice. Assumes nothing.
+use mathlib.Core.Path.{_≡_, refl, sym, ap, _∙_, subst}
+use Prim.Native.Nat.{ℕ, _+_, _-_, _≤_, _<_}
+use native.Mathlib.Omega.{arith}
+use Rattle.sanity_lists.specs.Steps.{Stamped}
+use Rattle.sanity_lists.proofs.Stamping.{part, NoneTwice, none-start, none-next, twice-stop, twice-none, stamp-new, stamp-below}
+use borrow.Author.Needs.{needs}
+use Rattle.sanity_lists.proofs.twice_in.Statement.{statement}
+use Rattle.sanity_lists.proofs.twice_in.Tie as tie
+
+abbrev Inv-loop : tie.InvT-loop
+Inv-loop numbers start len v mark₀ stamp i₀ mark i =
+    (i ≤ len) × Stamped numbers start i stamp mark × NoneTwice (part numbers start len) v i
+
+abbrev μ-loop : tie.MeasureT-loop
+μ-loop numbers start len v mark₀ stamp i₀ mark i = len - i
+
+add-stamp : tie.Need-add-stamp Inv-loop μ-loop
+add-stamp c = search needs
+
+loop-holds : tie.Need-loop-holds Inv-loop μ-loop
+loop-holds c =
+    let s = c .before .before in
+    (omega arith, stamp-new (s .args .numbers .now) (s .args .start) (s .args .v) (s .args .mark .now) (s .pre .1), none-start (part (s .args .numbers .now) (s .args .start) (s .args .len)) (s .args .v))
+
+add-x : tie.Need-add-x Inv-loop μ-loop
+add-x c = search needs
+
+mul-x : tie.Need-mul-x Inv-loop μ-loop
+mul-x c = search needs
+
+shared-slice-read-x : tie.Need-shared-slice-read-x Inv-loop μ-loop
+shared-slice-read-x c = search needs
+
+is-seen-requires : tie.Need-is-seen-requires Inv-loop μ-loop
+is-seen-requires c κs = (omega arith, c .before .before .before .loop .inv .1)
+
+same-length : tie.Need-same-length Inv-loop μ-loop
+same-length c = c .before .before .before .before .before .loop .inv .1 .len ∙ sym (c .before .before .before .before .before .before .before .before .pre .1 .len)
+
+returns : tie.Need-returns Inv-loop μ-loop
+returns c =
+    let s = c .before .before .before .before .before .before .before .before in
+    let l = c .before .before .before .before .before .loop in
+    (twice-stop (s .args .numbers .now) (s .args .start) (s .args .len) (s .args .v) (s .pre .0 .0) (l .i) _ (omega arith) refl (c .before .is-seen .ensures) (c .if1 .taken) (l .inv .2), stamp-below (l .inv .1))
+
+stamp-next-requires : tie.Need-stamp-next-requires Inv-loop μ-loop
+stamp-next-requires c κs = (c .before .before .before .before .before .before .loop .inv .1, refl)
+
+add-i : tie.Need-add-i Inv-loop μ-loop
+add-i c = search needs
+
+loop-less : tie.Need-loop-less Inv-loop μ-loop
+loop-less c = search needs
+
+loop-again : tie.Need-loop-again Inv-loop μ-loop
+loop-again c =
+    let s = c .before .before .before .before .before .before .before .before .before .before .before .before in
+    let l = c .before .before .before .before .before .before .before .before .before .loop in
+    (omega arith, c .before .before .stamp-next .ensures, none-next (s .args .numbers .now) (s .args .start) (s .args .len) (s .args .v) (s .pre .0 .0) (l .i) _ (omega arith) refl (c .before .before .before .before .before .is-seen .ensures) (c .before .before .before .before .if1 .left) (l .inv .2))
+
+same-length-2 : tie.Need-same-length-2 Inv-loop μ-loop
+same-length-2 c = c .before .loop .inv .1 .len ∙ sym (c .before .before .before .before .pre .1 .len)
+
+returns-2 : tie.Need-returns-2 Inv-loop μ-loop
+returns-2 c =
+    let s = c .before .before .before .before in
+    let l = c .before .loop in
+    let e : l .i ≡ s .args .len = omega arith in
+    (twice-none (s .args .numbers .now) (s .args .start) (s .args .len) (s .args .v) (s .pre .0 .0) (subst (NoneTwice (part (s .args .numbers .now) (s .args .start) (s .args .len)) (s .args .v)) e (l .inv .2)), stamp-below (l .inv .1))
+
+pub twice-in-spec : {M : Type 1} → statement M
+twice-in-spec =
+    tie.close
+    (tie.spec
+    Inv-loop
+    μ-loop
+    add-stamp
+    loop-holds
+    add-x
+    mul-x
+    shared-slice-read-x
+    is-seen-requires
+    same-length
+    returns
+    stamp-next-requires
+    add-i
+    loop-less
+    loop-again
+    same-length-2
+    returns-2)

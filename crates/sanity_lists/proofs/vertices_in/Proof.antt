@@ -1,0 +1,121 @@
+-- `sanity_lists::vertices_in` meets its contract. Invariant: no finding at the first v vertices; start is where the list of v starts; no stamp is above v. Assumes nothing.
+use mathlib.Core.Path.{_≡_, refl, sym, ap, _∙_}
+use mathlib.Core.List.{List}
+use Prim.Native.Nat.{ℕ, _+_, _-_, _≤_, _<_}
+use native.Mathlib.Omega.{arith}
+use lib.ListN.{length, getD, take}
+use borrow.Author.Tests.{not-true, not-false}
+use Rattle.sanity_verdicts.specs.declared.Verdict.{Verdict}
+use Rattle.sanity_verdicts.specs.declared.Verdict.the-variants.{Sound}
+use Rattle.sanity_verdicts.specs.Sanity.{firstOf, atVertex, listAt, total}
+use Rattle.sanity_verdicts.specs.Steps.{isSound}
+use Rattle.sanity_lists.specs.Steps.{Below}
+use Rattle.sanity_verdicts.proofs.Scans.{sound-of, first-none, first-next, first-stop}
+use Rattle.sanity_verdicts.proofs.Sums.{total-none, total-more, total-part}
+use Rattle.sanity_lists.proofs.Stamping.{vertex-is}
+use borrow.Author.Needs.{needs}
+use Rattle.sanity_lists.proofs.vertices_in.Statement.{statement}
+use Rattle.sanity_lists.proofs.vertices_in.Tie as tie
+
+-- the finding at vertex u
+abbrev finding : List ℕ → List ℕ → ℕ → Verdict
+finding lengths numbers u = atVertex (listAt lengths numbers u) (getD lengths u 0) u
+
+-- the list of vertex v ends within the column
+room : (lengths numbers : List ℕ) (n v : ℕ) {start len : ℕ} → v < n → n ≤ length lengths → total (take n lengths) ≤ length numbers → start ≡ total (take v lengths) → len ≡ getD lengths v 0 → start + len ≤ length numbers
+room lengths numbers n v h l t p q = omega (arith, total-more lengths v (omega arith), total-part lengths (v + 1) n (omega arith))
+
+abbrev Inv-loop : tie.InvT-loop
+Inv-loop lengths numbers n mark₀ start₀ v₀ mark start v =
+    (v ≤ n) × Below v mark × (start ≡ total (take v lengths)) × (firstOf v (finding lengths numbers) ≡ Sound)
+
+abbrev μ-loop : tie.MeasureT-loop
+μ-loop lengths numbers n mark₀ start₀ v₀ mark start v = n - v
+
+loop-holds : tie.Need-loop-holds Inv-loop μ-loop
+loop-holds c =
+    let s = c .before .before .before in
+    (omega arith, s .pre .1, sym (total-none (s .args .lengths .now)), first-none (finding (s .args .lengths .now) (s .args .numbers .now)))
+
+cast-wide : tie.Need-cast-wide Inv-loop μ-loop
+cast-wide c = search needs
+
+mul-wide : tie.Need-mul-wide Inv-loop μ-loop
+mul-wide c = search needs
+
+shared-slice-read-wide : tie.Need-shared-slice-read-wide Inv-loop μ-loop
+shared-slice-read-wide c = omega (arith, c .before .before .before .before .before .before .pre .0 .0)
+
+wide-requires : tie.Need-wide-requires Inv-loop μ-loop
+wide-requires c κs = tt
+
+at-vertex-requires : tie.Need-at-vertex-requires Inv-loop μ-loop
+at-vertex-requires c κs =
+    let s = c .before .before .before .before .before .before .before .before in
+    let l = c .before .before .before .before .loop in
+    ((room (s .args .lengths .now) (s .args .numbers .now) (s .args .n) (l .v) (omega arith) (s .pre .0 .0) (s .pre .0 .1) (l .inv .2) (c .before .wide .ensures), omega arith), l .inv .1)
+
+is-sound-requires : tie.Need-is-sound-requires Inv-loop μ-loop
+is-sound-requires c κs = tt
+
+same-length : tie.Need-same-length Inv-loop μ-loop
+same-length c = c .before .before .before .before .at-vertex .ensures .1 .len ∙ sym (c .before .before .before .before .before .before .before .before .before .before .before .before .before .pre .1 .len)
+
+returns : tie.Need-returns Inv-loop μ-loop
+returns c =
+    let s = c .before .before .before .before .before .before .before .before .before .before .before .before .before in
+    let l = c .before .before .before .before .before .before .before .before .before .loop in
+    let is = vertex-is (s .args .lengths .now) (s .args .numbers .now) (l .v) (c .before .before .before .before .before .before .wide .ensures) (l .inv .2) (c .before .before .before .before .at-vertex .ensures .0) in
+    is ∙ sym (first-stop (finding (s .args .lengths .now) (s .args .numbers .now)) (s .args .n) (l .v) (omega arith) (l .inv .3) (ap isSound (sym is) ∙ sym (c .before .is-sound .ensures) ∙ not-true _ (c .if1 .taken)))
+
+add-start : tie.Need-add-start Inv-loop μ-loop
+add-start c =
+    let s = c .before .before .before .before .before .before .before .before .before .before .before .before .before in
+    let l = c .before .before .before .before .before .before .before .before .before .loop in
+    omega (arith, room (s .args .lengths .now) (s .args .numbers .now) (s .args .n) (l .v) (omega arith) (s .pre .0 .0) (s .pre .0 .1) (l .inv .2) (c .before .before .before .before .before .before .wide .ensures))
+
+add-v : tie.Need-add-v Inv-loop μ-loop
+add-v c = search needs
+
+loop-less : tie.Need-loop-less Inv-loop μ-loop
+loop-less c = search needs
+
+loop-again : tie.Need-loop-again Inv-loop μ-loop
+loop-again c =
+    let s = c .before .before .before .before .before .before .before .before .before .before .before .before .before in
+    let l = c .before .before .before .before .before .before .before .before .before .loop in
+    let is = vertex-is (s .args .lengths .now) (s .args .numbers .now) (l .v) (c .before .before .before .before .before .before .wide .ensures) (l .inv .2) (c .before .before .before .before .at-vertex .ensures .0) in
+    let none = sym is ∙ sound-of _ (sym (c .before .is-sound .ensures) ∙ not-false _ (c .if1 .left)) in
+    (omega arith, c .before .before .before .before .at-vertex .ensures .1, omega (arith, l .inv .2, c .before .before .before .before .before .before .wide .ensures, total-more (s .args .lengths .now) (l .v) (omega (arith, s .pre .0 .0))), first-next (finding (s .args .lengths .now) (s .args .numbers .now)) (l .v) (l .inv .3) none)
+
+same-length-2 : tie.Need-same-length-2 Inv-loop μ-loop
+same-length-2 c = c .before .loop .inv .1 .len ∙ sym (c .before .before .before .before .before .pre .1 .len)
+
+returns-2 : tie.Need-returns-2 Inv-loop μ-loop
+returns-2 c =
+    let s = c .before .before .before .before .before in
+    let l = c .before .loop in
+    let e : l .v ≡ s .args .n = omega arith in
+    sym (ap (λ (k : ℕ). firstOf k (finding (s .args .lengths .now) (s .args .numbers .now))) (sym e) ∙ l .inv .3)
+
+pub vertices-in-spec : {M : Type 1} → statement M
+vertices-in-spec =
+    tie.close
+    (tie.spec
+    Inv-loop
+    μ-loop
+    loop-holds
+    cast-wide
+    mul-wide
+    shared-slice-read-wide
+    wide-requires
+    at-vertex-requires
+    is-sound-requires
+    same-length
+    returns
+    add-start
+    add-v
+    loop-less
+    loop-again
+    same-length-2
+    returns-2)

@@ -1,0 +1,116 @@
+// The first vertex without edges or with an edge twice: numbers below 32,768 are stamped in a local array, others compared one by one.
+ghost use mathlib.Core.Path.{_≡_};
+ghost use mathlib.Core.Bool.{Bool};
+ghost use Prim.Native.Nat.{ℕ, _+_, _<_, _≤_};
+ghost use lib.ListN.{length, getD, take, drop};
+ghost use Rattle.sanity_verdicts.specs.Sanity.{firstOf, twice, atVertex, listAt, total};
+ghost use Rattle.sanity_lists.specs.Steps.{Seen, Stamped, Below};
+use columns::EdgeIndex;
+use columns::VertexIndex;
+use sanity_verdicts::Verdict;
+use sanity_verdicts::is_sound;
+
+fn wide(x: u32) -> usize
+    ensures { λ r. ⌜ r ≡ x ⌝ }
+{
+    x as usize
+}
+
+// Whether x is one of the first i numbers from place start on.
+fn stands_before(numbers: &[u32], start: usize, i: usize, x: u32) -> bool
+    requires { ⌜ start + i ≤ length (now numbers) ⌝ }
+    ensures { λ r. ⌜ Seen (now (numbers .entry)) start i x r ⌝ }
+{
+    let mut j: usize = 0;
+    while j < i {
+        if numbers[start + j] == x {
+            return true;
+        }
+        j += 1;
+    }
+    false
+}
+
+// The same, by the stamps where x has one.
+fn is_seen(numbers: &[u32], start: usize, i: usize, x: u32, mark: &[u32], stamp: u32) -> bool
+    requires { ⌜ start + i ≤ length (now numbers) ⌝ }
+    requires { ⌜ Stamped (now numbers) start i stamp (now mark) ⌝ }
+    ensures { λ r. ⌜ Seen (now (numbers .entry)) start i x r ⌝ }
+{
+    if x < 32768 {
+        let at = x as usize;
+        return mark[at] == stamp;
+    }
+    stands_before(numbers, start, i, x)
+}
+
+// Stamps x, the number after the first i.
+fn stamp_next(numbers: &[u32], start: usize, i: usize, x: u32, mark: &mut [u32], stamp: u32)
+    requires { ⌜ Stamped (now numbers) start i stamp (now mark) ⌝ }
+    requires { ⌜ getD (now numbers) (start + i) 0 ≡ x ⌝ }
+    ensures { λ _. ⌜ Stamped (now (numbers .entry)) start (i + 1) stamp (now (mark .exit)) ⌝ }
+{
+    if x < 32768 {
+        let at = x as usize;
+        mark[at] = stamp;
+    }
+}
+
+// The first number twice in the list of vertex v, which starts at a place and has a length.
+fn twice_in(numbers: &[u32], start: usize, len: usize, v: u32, mark: &mut [u32]) -> Verdict
+    requires { ⌜ (start + len ≤ length (now numbers)) × (v < 4294967295) ⌝ }
+    requires { ⌜ Below v (now mark) ⌝ }
+    ensures { λ r. ⌜ (r ≡ twice (take len (drop start (now (numbers .entry)))) v) × Below (v + 1) (now (mark .exit)) ⌝ }
+{
+    let stamp = v + 1;
+    let mut i: usize = 0;
+    while i < len {
+        let x = numbers[start + i];
+        if is_seen(numbers, start, i, x, mark, stamp) {
+            return Verdict::EdgeTwice(EdgeIndex(x), VertexIndex(v));
+        }
+        stamp_next(numbers, start, i, x, mark, stamp);
+        i += 1;
+    }
+    Verdict::Sound
+}
+
+// The finding at vertex v.
+fn at_vertex(numbers: &[u32], start: usize, len: usize, v: u32, mark: &mut [u32]) -> Verdict
+    requires { ⌜ (start + len ≤ length (now numbers)) × (v < 4294967295) ⌝ }
+    requires { ⌜ Below v (now mark) ⌝ }
+    ensures { λ r. ⌜ (r ≡ atVertex (take len (drop start (now (numbers .entry)))) len v) × Below (v + 1) (now (mark .exit)) ⌝ }
+{
+    if len == 0 {
+        return Verdict::NoEdges(VertexIndex(v));
+    }
+    twice_in(numbers, start, len, v, mark)
+}
+
+// The first finding among n vertices; mark holds 0 alone.
+fn vertices_in(lengths: &[u32], numbers: &[u32], n: u32, mark: &mut [u32]) -> Verdict
+    requires { ⌜ (n ≤ length (now lengths)) × (total (take n (now lengths)) ≤ length (now numbers)) ⌝ }
+    requires { ⌜ Below 0 (now mark) ⌝ }
+    ensures { λ r. ⌜ r ≡ firstOf n (λ u. atVertex (listAt (now (lengths .entry)) (now (numbers .entry)) u) (getD (now (lengths .entry)) u 0) u) ⌝ }
+{
+    let mut start: usize = 0;
+    let mut v: u32 = 0;
+    while v < n {
+        let len = wide(lengths[v as usize]);
+        let found = at_vertex(numbers, start, len, v, mark);
+        if !is_sound(found) {
+            return found;
+        }
+        start += len;
+        v += 1;
+    }
+    Verdict::Sound
+}
+
+pub fn vertices_checked(lengths: &[u32], numbers: &[u32], n: u32) -> Verdict
+    requires { ⌜ (n ≤ length (now lengths)) × (total (take n (now lengths)) ≤ length (now numbers)) ⌝ }
+    ensures { λ r. ⌜ r ≡ firstOf n (λ u. atVertex (listAt (now (lengths .entry)) (now (numbers .entry)) u) (getD (now (lengths .entry)) u 0) u) ⌝ }
+{
+    let mut mark = [0u32; 32768];
+    vertices_in(lengths, numbers, n, &mut mark)
+}

@@ -1,0 +1,65 @@
+-- `test_codelist::answer_all` meets its contract. Assumes nothing.
+use mathlib.Core.Path.{_≡_, refl, _∙_}
+use Prim.Native.Nat.{_-_, _≤_}
+use native.Mathlib.Omega.{arith}
+use lib.ListN.{length}
+use borrow.Author.Needs.{needs}
+use Rattle.test_codelist.proofs.answer_all.Statement.{statement}
+use Rattle.test_codelist.proofs.answer_all.Tie as tie
+
+abbrev Inv-loop : tie.InvT-loop
+Inv-loop list text₀ at₀ text at = (at ≤ length list) × (length text ≡ length text₀)
+
+abbrev μ-loop : tie.MeasureT-loop
+μ-loop list text₀ at₀ text at = length list - at
+
+loop-holds : tie.Need-loop-holds Inv-loop μ-loop
+loop-holds c = (omega arith, refl)
+
+find-requires : tie.Need-find-requires Inv-loop μ-loop
+find-requires c κs = omega arith
+
+sub-answer : tie.Need-sub-answer Inv-loop μ-loop
+sub-answer c = omega (arith, c .find .ensures .0)
+
+part-answer-start : tie.Need-part-answer-start Inv-loop μ-loop
+part-answer-start c = omega arith
+
+part-answer-end : tie.Need-part-answer-end Inv-loop μ-loop
+part-answer-end c = omega (arith, c .find .ensures .1, c .find .ensures .0)
+
+answer-requires : tie.Need-answer-requires Inv-loop μ-loop
+answer-requires c κs = search needs
+
+past-requires : tie.Need-past-requires Inv-loop μ-loop
+past-requires c κs = search needs
+
+loop-less : tie.Need-loop-less Inv-loop μ-loop
+loop-less c = omega arith
+
+loop-again : tie.Need-loop-again Inv-loop μ-loop
+loop-again c = (omega arith, search needs)
+
+same-length : tie.Need-same-length Inv-loop μ-loop
+same-length c = c .before .loop .inv .1
+
+returns : tie.Need-returns Inv-loop μ-loop
+returns c = search needs
+
+pub answer-all-spec : {M : Type 1} → statement M
+answer-all-spec =
+    tie.close
+    (tie.spec
+    Inv-loop
+    μ-loop
+    loop-holds
+    find-requires
+    sub-answer
+    part-answer-start
+    part-answer-end
+    answer-requires
+    past-requires
+    loop-less
+    loop-again
+    same-length
+    returns)

@@ -1,0 +1,71 @@
+// Runs the published vectors of SplitMix64 and Xoshiro256**, then draws from three seeds. What it prints is compared with the file stdout.
+use libc::STDOUT_FILENO;
+use sampling_generator::DeterministicRng;
+
+fn show(n: u64) {
+    io::print_decimal(STDOUT_FILENO, n);
+    io::write_all(STDOUT_FILENO, b"\n");
+}
+
+// The first n words of SplitMix64 from a seed.
+fn split_mix(seed: u64, n: u32) {
+    let mut state = seed;
+    let mut i: u32 = 0;
+    while i < n {
+        state = DeterministicRng::split_mix_next(state);
+        show(DeterministicRng::split_mix_word(state));
+        i += 1;
+    }
+}
+
+// The next n words of a generator.
+fn words(start: DeterministicRng, n: u32) {
+    let mut rng = start;
+    let mut i: u32 = 0;
+    while i < n {
+        let next = rng.next_u64();
+        show(next.word);
+        rng = next.rng;
+        i += 1;
+    }
+}
+
+// The four state words that a seed gives, and the bits of the next n draws.
+fn draws(seed: u64, n: u32) {
+    let start = DeterministicRng::seed_from_u64(seed);
+    show(start.s0);
+    show(start.s1);
+    show(start.s2);
+    show(start.s3);
+    let mut rng = start;
+    let mut i: u32 = 0;
+    while i < n {
+        let drawn = rng.next_f64();
+        show_f64(drawn.value);
+        rng = drawn.rng;
+        i += 1;
+    }
+}
+
+fn show_f64(x: f64) {
+    if x != x {
+        return;
+    }
+    show(f64::to_bits(x));
+}
+
+fn main() {
+    split_mix(1477776061723855037, 50);
+    words(
+        DeterministicRng {
+            s0: 1,
+            s1: 2,
+            s2: 3,
+            s3: 4,
+        },
+        10,
+    );
+    draws(0, 100);
+    draws(1, 100);
+    draws(0xffff_ffff_ffff_ffff, 100);
+}

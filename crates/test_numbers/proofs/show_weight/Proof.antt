@@ -1,0 +1,40 @@
+-- `test_numbers::show_weight` is safe and ends. Assumes nothing.
+use borrow.Author.Needs.{needs}
+use mathlib.Core.Path.{_≡_, sym, subst}
+use mathlib.Core.Bool.{false, true≢false}
+use native.Mathlib.Nat.{lt-of-le-of-lt}
+use lib.IntN.{ℤ, pos, negsuc, natAbs}
+use lib.Dec.{T, lit<}
+use lib.Signed.{ltZ, nonNeg, natAbs-le}
+use mir.Syntax.{w32, w64}
+use mir.Val.{Fits, toZ, ofZ}
+use mir.ValLaws.{toZ-ofZ}
+use Rattle.test_numbers.proofs.show_weight.Statement.{statement}
+use Rattle.test_numbers.proofs.show_weight.Tie as tie
+
+not-negative : (z : ℤ) → ltZ z (pos 0) ≡ false → T (nonNeg z)
+not-negative (pos n) e = tt
+not-negative (negsuc n) e = absurd (true≢false e)
+
+show-none-requires : tie.Need-show-none-requires
+show-none-requires c κs = search needs
+
+cast-show : tie.Need-cast-show
+cast-show c =
+    let s : tie.Start = c .before in (
+      not-negative (toZ w32 (ofZ w32 (s .args .w))) (c .if1 .left),
+      subst (λ (z : ℤ). Fits w64 (natAbs z)) (sym (toZ-ofZ w32 (s .args .w) (s .fits .w))) (record { fits = lt-of-le-of-lt (natAbs-le (s .args .w) (s .fits .w .sfits)) (lit< tt) }),
+    )
+
+show-requires : tie.Need-show-requires
+show-requires c κs = search needs
+
+returns : tie.Need-returns
+returns c = search needs
+
+returns-2 : tie.Need-returns-2
+returns-2 c = search needs
+
+pub show-weight-spec : {M : Type 1} → statement M
+show-weight-spec =
+    tie.close (tie.spec show-none-requires cast-show show-requires returns returns-2)

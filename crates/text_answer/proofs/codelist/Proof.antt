@@ -1,0 +1,32 @@
+-- `text_answer::codelist` meets its contract. Assumes nothing.
+use native.Mathlib.Omega.{arith}
+use Prim.Native.Nat.{ℕ, _≤_}
+use lib.ListN.{length}
+use Rattle.text_answer.specs.Answer.{textOf}
+use Rattle.text_answer.proofs.Sizes.{text-few}
+use Rattle.text_answer.proofs.Texts.{too-short, long-enough}
+use Rattle.text_answer.proofs.codelist.Statement.{statement}
+use Rattle.text_answer.proofs.codelist.Tie as tie
+
+returns : tie.Need-returns
+returns c = too-short (c .before .before .before .args .input .now) (c .before .before .before .args .text .now) (c .if1 .taken)
+
+read-line-requires : tie.Need-read-line-requires
+read-line-requires c κs = tt
+
+write-answer-requires : tie.Need-write-answer-requires
+write-answer-requires c κs = tt
+
+cast-t8 : tie.Need-cast-t8
+cast-t8 c = omega (arith, c .before .before .write-answer .ensures .next, text-few (c .before .before .before .before .read-line .result))
+
+same-length : tie.Need-same-length
+same-length c = c .before .text .given
+
+returns-2 : tie.Need-returns-2
+returns-2 c = long-enough (c .before .before .before .before .before .before .before .before .args .input .now) (c .before .before .before .before .before .before .before .before .args .text .now) _ (c .before .before .before .before .read-line .result) _ (c .before .before .before .before .before .if1 .left) (c .before .before .before .before .read-line .ensures) (c .before .before .write-answer .ensures)
+
+pub codelist-spec : {M : Type 1} → statement M
+codelist-spec =
+    tie.close
+    (tie.spec returns read-line-requires write-answer-requires cast-t8 same-length returns-2)

@@ -1,0 +1,51 @@
+-- What `codelist` prints for an input: document 01, "The program `codelist`".
+use Prim.Native.Nat.{ℕ}
+use mathlib.Core.Path.{_≡_}
+use mathlib.Core.Bool.{Bool, true, false}
+use mathlib.Core.List.{List}
+use lib.Dec.{leb}
+use lib.ListN.{length}
+use lib.Ieee.{binary64, ofBits}
+use Rattle.columns.specs.Lists.{after}
+use Rattle.columns.specs.Questions.{ask}
+use Rattle.columns_answers.specs.Said.{Said, accepts, refuses, Answered}
+use Rattle.text_input.specs.declared.CodeLine.{CodeLine}
+use Rattle.text_input.specs.declared.LineRead.{LineRead}
+use Rattle.text_input.specs.Line.{wellFormed, lineOf, said as lineSaid}
+use Rattle.text_numbers.specs.Text.{refusalLine}
+use Rattle.text_listing.specs.Listing.{codeText}
+use Rattle.text_answer.specs.declared.Listed.{Listed}
+use Rattle.text_answer.specs.declared.Listed.the-variants.{Text, Refused}
+
+-- ---- the text for an input
+
+-- whether question 1 is met, and the five numbers
+abbrev pub textBy : Bool → CodeLine → List ℕ
+textBy true l = codeText (l .kind) (l .d) (l .rounds) (ofBits binary64 (l .bits)) (l .max)
+textBy false l = refusalLine 1
+
+abbrev pub textOf : LineRead → List ℕ
+textOf r = textBy (lineSaid r .accepted) (lineSaid r .values)
+
+abbrev pub answerText : (input : List ℕ) → List ℕ
+answerText input = textBy (wellFormed input) (lineOf input)
+
+-- ---- the call
+
+-- the places that a text column needs: no text is longer
+abbrev pub textRoom : ℕ
+textRoom = 320000
+
+-- document 01's number for each case, and how many bytes the text has: 0 where the call was refused
+abbrev pub said : Listed → Said ℕ
+said (Text bytes) = accepts bytes
+said (Refused number) = refuses number 0
+
+-- question 6 of the text column
+abbrev pub textDoor : List ℕ → ℕ
+textDoor text = ask (leb textRoom (length text)) 6 0
+
+-- the answer, and the text column before and after
+pub record CodeListed (input before text : List ℕ) (r : Listed) : Type 0 where
+  pub answer : Answered (said r) (textDoor before) (length (answerText input)) 0
+  pub written : text ≡ after (textDoor before) (answerText input) before

@@ -1,0 +1,65 @@
+-- `text_input::fields::decimal_sound` meets its contract. Assumes nothing.
+use mathlib.Core.Path.{_≡_, refl, sym, ap, _∙_, subst}
+use mathlib.Core.Bool.{Bool, true, false, not, _&&_, _||_, cond}
+use mathlib.Core.List.{List}
+use Prim.Native.Nat.{ℕ, _+_, _-_, _*_, _≤_, _<_}
+use native.Mathlib.Omega.{arith}
+use lib.Dec.{leb, eqb}
+use lib.ListN.{length, getD, take, drop, length-drop}
+use lib.Seq.{getD-drop}
+use borrow.Author.Tests.{leb-true, le-leb, lt-leb, eq-eqb, ne-eqb, not-true, not-false}
+use Rattle.columns.specs.Questions.{all}
+use Rattle.columns.proofs.Tests.{all-more, all-fails, all-end}
+use Rattle.text_input.specs.Line.{isDigit, isHexDigit, digits, digitOf, hexDigitOf, number, decimalSound, hexSound}
+use Rattle.text_input.proofs.Runs.{digits-within, seen-none, seen-next, seen-stop, seen-end, number-more, number-none, decimal-small, hex-small}
+use borrow.Author.Needs.{needs}
+use Rattle.text_input.proofs.fields.decimal_sound.Statement.{statement}
+use Rattle.text_input.proofs.fields.decimal_sound.Tie as tie
+
+both-requires : tie.Need-both-requires
+both-requires c κs = tt
+
+byte-at-requires : tie.Need-byte-at-requires
+byte-at-requires c κs = tt
+
+no-leading-zero-requires : tie.Need-no-leading-zero-requires
+no-leading-zero-requires c κs = tt
+
+add-byte-at : tie.Need-add-byte-at
+add-byte-at c = search needs
+
+byte-at-requires-2 : tie.Need-byte-at-requires-2
+byte-at-requires-2 c κs = tt
+
+both-requires-2 : tie.Need-both-requires-2
+both-requires-2 c κs = tt
+
+both-requires-3 : tie.Need-both-requires-3
+both-requires-3 c κs = tt
+
+returns : tie.Need-returns
+unfolding decimalSound
+returns c =
+    let s = c .before .before .before .before .before .before .before .args in
+    let t : List ℕ = drop (s .at) (s .text .now) in
+    let n : s .n ≡ digits t = c .before .before .before .before .before .before .before .pre .2 in
+    let few = c .before .before .before .before .before .both .ensures ∙ ap (λ (k : ℕ). leb 1 k && leb k 9) n in
+    let zero : s .at + 0 ≡ s .at = omega arith in
+    let first : c .before .before .before .before .byte-at .result ≡ getD t 0 0 = c .before .before .before .before .byte-at .ensures ∙ ap (λ (k : ℕ). getD (s .text .now) k 0) (sym zero) ∙ sym (getD-drop (s .at) (s .text .now) 0 0) in
+    let plain = c .before .before .before .no-leading-zero .ensures ∙ (λ k. eqb (n k) 1 || not (eqb (first k) 48)) in
+    let last : c .before .before .byte-at2 .result ≡ getD t (digits t) 0 = c .before .before .byte-at2 .ensures ∙ sym (getD-drop (s .at) (s .text .now) (s .n) 0) ∙ ap (λ (k : ℕ). getD t k 0) n in
+    let rest = c .before .both2 .ensures ∙ (λ k. plain k && eqb (last k) (s .stop)) in
+    c .both3 .ensures ∙ (λ k. few k && rest k)
+
+pub decimal-sound-spec : {M : Type 1} → statement M
+decimal-sound-spec =
+    tie.close
+    (tie.spec
+    both-requires
+    byte-at-requires
+    no-leading-zero-requires
+    add-byte-at
+    byte-at-requires-2
+    both-requires-2
+    both-requires-3
+    returns)

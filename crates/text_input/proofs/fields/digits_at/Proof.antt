@@ -1,0 +1,72 @@
+-- `text_input::fields::digits_at` meets its contract. Assumes nothing.
+use mathlib.Core.Path.{_≡_, refl, sym, ap, _∙_, subst}
+use mathlib.Core.Bool.{Bool, true, false, not, _&&_, _||_, cond}
+use mathlib.Core.List.{List}
+use Prim.Native.Nat.{ℕ, _+_, _-_, _*_, _≤_, _<_}
+use native.Mathlib.Omega.{arith}
+use lib.Dec.{leb, eqb}
+use lib.ListN.{length, getD, take, drop, length-drop}
+use lib.Seq.{getD-drop}
+use borrow.Author.Tests.{leb-true, le-leb, lt-leb, eq-eqb, ne-eqb, not-true, not-false}
+use Rattle.columns.specs.Questions.{all}
+use Rattle.columns.proofs.Tests.{all-more, all-fails, all-end}
+use Rattle.text_input.specs.Line.{isDigit, isHexDigit, digits, digitOf, hexDigitOf, number, decimalSound, hexSound}
+use Rattle.text_input.proofs.Runs.{digits-within, seen-none, seen-next, seen-stop, seen-end, number-more, number-none, decimal-small, hex-small}
+use Rattle.text_input.proofs.fields.digits_at.Statement.{statement}
+use Rattle.text_input.proofs.fields.digits_at.Tie as tie
+
+abbrev Inv-loop : tie.InvT-loop
+Inv-loop text at n₀ n = (at + n ≤ length text + 1000) × (digits (drop at text) ≡ n + digits (drop (at + n) text))
+
+abbrev μ-loop : tie.MeasureT-loop
+μ-loop text at n₀ n = length text - (at + n)
+
+loop-holds : tie.Need-loop-holds Inv-loop μ-loop
+loop-holds c = (omega (arith, c .before .pre), seen-none (c .before .args .text .now) (c .before .args .at) 0)
+
+add-loop : tie.Need-add-loop Inv-loop μ-loop
+add-loop c = omega (arith, c .loop .inv .0, c .loop .inv .1, digits-within (drop (c .before .before .args .at) (c .before .before .args .text .now)), length-drop (c .before .before .args .at) (c .before .before .args .text .now), c .before .before .pre)
+
+add-is-digit : tie.Need-add-is-digit Inv-loop μ-loop
+add-is-digit c = omega arith
+
+shared-slice-read-is-digit : tie.Need-shared-slice-read-is-digit Inv-loop μ-loop
+shared-slice-read-is-digit c = omega arith
+
+is-digit-requires : tie.Need-is-digit-requires Inv-loop μ-loop
+is-digit-requires c κs = tt
+
+returns : tie.Need-returns Inv-loop μ-loop
+returns c = (seen-stop (c .before .before .before .before .before .before .args .text .now) (c .before .before .before .before .before .before .args .at) (c .before .before .before .before .loop .n) (c .before .before .before .loop-test .taken) (sym (c .before .is-digit .ensures) ∙ not-true _ (c .if1 .taken)) (c .before .before .before .before .loop .inv .1), omega arith)
+
+add-n : tie.Need-add-n Inv-loop μ-loop
+add-n c = omega arith
+
+loop-less : tie.Need-loop-less Inv-loop μ-loop
+loop-less c = omega arith
+
+loop-again : tie.Need-loop-again Inv-loop μ-loop
+loop-again c = (omega arith, seen-next (c .before .before .before .before .before .before .args .text .now) (c .before .before .before .before .before .before .args .at) (c .before .before .before .before .loop .n) (c .before .before .before .loop-test .taken) (sym (c .before .is-digit .ensures) ∙ not-false _ (c .if1 .left)) (c .before .before .before .before .loop .inv .1))
+
+returns-2 : tie.Need-returns-2 Inv-loop μ-loop
+returns-2 c =
+    let s = c .before .before .before .args in
+    let e = seen-end (c .before .before .before .args .text .now) (c .before .before .before .args .at) (c .before .loop .n) (c .loop-test .left) (c .before .loop .inv .1) in
+    (e, omega (arith, e, digits-within (drop (s .at) (s .text .now)), length-drop (s .at) (s .text .now)))
+
+pub digits-at-spec : {M : Type 1} → statement M
+digits-at-spec =
+    tie.close
+    (tie.spec
+    Inv-loop
+    μ-loop
+    loop-holds
+    add-loop
+    add-is-digit
+    shared-slice-read-is-digit
+    is-digit-requires
+    returns
+    add-n
+    loop-less
+    loop-again
+    returns-2)

@@ -1,0 +1,46 @@
+-- `text_listing::built::write_reply` meets its contract. Assumes nothing.
+use Rattle.text_listing.proofs.Texts.{refused-reply, crossed-reply}
+use borrow.Author.Needs.{needs}
+use Rattle.text_listing.proofs.built.write_reply.Statement.{statement}
+use Rattle.text_listing.proofs.built.write_reply.Tie as tie
+
+enum-known-reply : tie.Need-enum-known-reply
+enum-known-reply c = search needs
+
+write-refusal-requires : tie.Need-write-refusal-requires
+write-refusal-requires c κs = tt
+
+enum-known-reply-2 : tie.Need-enum-known-reply-2
+enum-known-reply-2 c = search needs
+
+write-listing-requires : tie.Need-write-listing-requires
+write-listing-requires c κs = search needs
+
+same-length : tie.Need-same-length
+same-length c = c .before .text .given
+
+returns : tie.Need-returns
+returns c =
+    let s = c .before .before .before .before .before .before .before .before .before .before .before .before .args in
+    refused-reply _ _ _ _ _ _ _ _ _ (s .reply) _ (c .before .before .write-refusal .ensures) (let t = c .before .before .before .before .before .reply .given in let u = c .before .before .before .before .known-told .given in cc)
+
+same-length-2 : tie.Need-same-length-2
+same-length-2 c = c .before .text2 .given
+
+returns-2 : tie.Need-returns-2
+returns-2 c =
+    let s = c .before .before .before .before .before .before .before .before .before .before .before .before .args in
+    crossed-reply _ _ _ _ _ _ _ _ _ (s .reply) _ (c .before .before .write-listing .ensures) (let t = c .before .before .before .before .before .reply2 .given in let u = c .before .before .before .before .known-told2 .given in cc)
+
+pub write-reply-spec : {M : Type 1} → statement M
+write-reply-spec =
+    tie.close
+    (tie.spec
+    enum-known-reply
+    write-refusal-requires
+    enum-known-reply-2
+    write-listing-requires
+    same-length
+    returns
+    same-length-2
+    returns-2)

@@ -1,0 +1,32 @@
+-- `text_numbers::put_field` meets its contract. Assumes nothing.
+use mathlib.Core.Path.{_≡_, refl, sym, ap, _∙_}
+use mathlib.Core.List.{List, [], _∷_, _++_}
+use Prim.Native.Nat.{ℕ, _+_, _-_, _*_, _≤_, _<_}
+use native.Mathlib.Omega.{arith}
+use lib.ListN.{length, getD}
+use Rattle.columns.specs.Lists.{joined}
+use Rattle.text_numbers.specs.Text.{decimal, ended, vertexLine, edgeLine, vertexLines, edgeLines}
+use Rattle.text_numbers.specs.Steps.{Put}
+use Rattle.text_numbers.proofs.Putting.{none, both, more, line-end, field, lettered, renamed, long-kept}
+use Rattle.text_numbers.proofs.Sizes.{decimal-few, vertices-few, edges-few}
+use borrow.Author.Needs.{needs}
+use Rattle.text_numbers.proofs.put_field.Statement.{statement}
+use Rattle.text_numbers.proofs.put_field.Tie as tie
+
+put-byte-requires : tie.Need-put-byte-requires
+put-byte-requires c κs = search needs
+
+put-decimal-requires : tie.Need-put-decimal-requires
+put-decimal-requires c κs = search needs
+
+same-length : tie.Need-same-length
+same-length c = search needs
+
+returns : tie.Need-returns
+returns c =
+    let n = c .before .before .before .before .before .before .before .before .before .args .n in
+    let z = both (0x2c ∷ []) (decimal n) (c .before .before .before .before .before .before .put-byte .ensures) (c .before .before .put-decimal .ensures) in
+    (z, omega (arith, z .next, decimal-few n))
+
+pub put-field-spec : {M : Type 1} → statement M
+put-field-spec = tie.close (tie.spec put-byte-requires put-decimal-requires same-length returns)

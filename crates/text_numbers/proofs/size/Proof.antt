@@ -1,0 +1,54 @@
+-- `text_numbers::size` meets its contract. Assumes nothing.
+use mathlib.Core.Path.{_≡_, refl, sym, ap, _∙_}
+use mathlib.Core.List.{List, [], _∷_, _++_}
+use Prim.Native.Nat.{ℕ, _+_, _-_, _*_, _/_, _%_, _^_, _≤_, _<_}
+use native.Mathlib.Omega.{arith}
+use Rattle.text_numbers.specs.Text.{sizeIn, digitsOf, decimal}
+use Rattle.text_numbers.proofs.Sizes.{size-few, size-here, size-below, size-end, some-power, digit-next, digits-long}
+use Rattle.text_numbers.proofs.size.Statement.{statement}
+use Rattle.text_numbers.proofs.size.Tie as tie
+
+abbrev Inv-loop : tie.InvT-loop
+Inv-loop n k₀ k = (k ≤ 9) × (sizeIn 9 n ≡ sizeIn k n)
+
+abbrev μ-loop : tie.MeasureT-loop
+μ-loop n k₀ k = k
+
+loop-holds : tie.Need-loop-holds Inv-loop μ-loop
+loop-holds c = (omega arith, refl)
+
+power-of-ten-requires : tie.Need-power-of-ten-requires Inv-loop μ-loop
+power-of-ten-requires c κs = omega arith
+
+add-result : tie.Need-add-result Inv-loop μ-loop
+add-result c = omega arith
+
+returns : tie.Need-returns Inv-loop μ-loop
+returns c = (size-here (c .before .before .before .loop .k) (c .before .before .before .before .args .n) (c .before .before .loop-test .taken) (omega (arith, c .before .power-of-ten .ensures)) ∙ sym (c .before .before .before .loop .inv .1), omega arith)
+
+sub-k : tie.Need-sub-k Inv-loop μ-loop
+sub-k c = omega arith
+
+loop-less : tie.Need-loop-less Inv-loop μ-loop
+loop-less c = omega arith
+
+loop-again : tie.Need-loop-again Inv-loop μ-loop
+loop-again c = (omega arith, c .before .before .before .loop .inv .1 ∙ size-below (c .before .before .before .loop .k) (c .before .before .before .before .args .n) (c .before .before .loop-test .taken) (omega (arith, c .before .power-of-ten .ensures)))
+
+returns-2 : tie.Need-returns-2 Inv-loop μ-loop
+returns-2 c = (size-end (c .before .loop .k) (c .before .before .args .n) (c .loop-test .left) ∙ sym (c .before .loop .inv .1), omega arith)
+
+pub size-spec : {M : Type 1} → statement M
+size-spec =
+    tie.close
+    (tie.spec
+    Inv-loop
+    μ-loop
+    loop-holds
+    power-of-ten-requires
+    add-result
+    returns
+    sub-k
+    loop-less
+    loop-again
+    returns-2)

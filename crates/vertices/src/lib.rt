@@ -1,5 +1,0 @@
-// The vertices of a graph: filled in from its edges, and checked.
-pub mod fill;
-pub mod sanity;
-
-pub use verdicts::Verdict;

@@ -1,5 +1,0 @@
--- What the calls of document 01's section "Weights" ask and answer. Question 9 stands in edge_weights, the setters in set_probabilities.
--- Answers: what `weight_of_p` answers. Calls: each call's number, answer and columns afterwards. Steps: what a pass keeps.
-pub mod Answers
-pub mod Calls
-pub mod Steps

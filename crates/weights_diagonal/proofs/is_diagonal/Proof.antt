@@ -1,0 +1,15 @@
+-- `weights_diagonal::is_diagonal` meets its contract. Assumes nothing.
+use mathlib.Core.Path.{ap}
+use lib.Ieee.{Float, lt}
+use Rattle.weights_recipe.specs.Constants.{one}
+use Rattle.weights_diagonal.proofs.is_diagonal.Statement.{statement}
+use Rattle.weights_diagonal.proofs.is_diagonal.Tie as tie
+
+manhattan-distance-requires : tie.Need-manhattan-distance-requires
+manhattan-distance-requires c κs = tt
+
+returns : tie.Need-returns
+returns c = ap (λ (x : Float). lt one x) (c .manhattan-distance .ensures)
+
+pub is-diagonal-spec : {M : Type 1} → statement M
+is-diagonal-spec = tie.close (tie.spec manhattan-distance-requires returns)

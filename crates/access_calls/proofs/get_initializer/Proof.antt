@@ -11,15 +11,6 @@ use borrow.Author.Needs.{needs}
 use Rattle.access_calls.proofs.get_initializer.Statement.{statement}
 use Rattle.access_calls.proofs.get_initializer.Tie as tie
 
-initializer-door-requires : tie.Need-initializer-door-requires
-initializer-door-requires c κs = tt
-
-copy-u32-requires : tie.Need-copy-u32-requires
-copy-u32-requires c κs = tt
-
-copy-u32-requires-2 : tie.Need-copy-u32-requires-2
-copy-u32-requires-2 c κs = tt
-
 store-weights-requires : tie.Need-store-weights-requires
 store-weights-requires c κs =
     let s = c .before .before .before .before .before .before .before .before .before .before .before .before .before .before .before .before .before .before .before .before .before .before .before .args in
@@ -72,18 +63,6 @@ returns c =
       virtual-left = p .1 ∙ sym (after-accepted q vs (s .to-virtual .now) z);
     }
 
-same-length-5 : tie.Need-same-length-5
-same-length-5 c = search needs
-
-same-length-6 : tie.Need-same-length-6
-same-length-6 c = search needs
-
-same-length-7 : tie.Need-same-length-7
-same-length-7 c = search needs
-
-same-length-8 : tie.Need-same-length-8
-same-length-8 c = search needs
-
 returns-2 : tie.Need-returns-2
 returns-2 c =
     let s = c .before .before .before .before .before .before .before .before .before .before .before .before .before .before .args in
@@ -104,21 +83,4 @@ returns-2 c =
     }
 
 pub get-initializer-spec : {M : Type 1} → statement M
-get-initializer-spec =
-    tie.close
-    (tie.spec
-    initializer-door-requires
-    copy-u32-requires
-    copy-u32-requires-2
-    store-weights-requires
-    list-set-requires
-    same-length
-    same-length-2
-    same-length-3
-    same-length-4
-    returns
-    same-length-5
-    same-length-6
-    same-length-7
-    same-length-8
-    returns-2)
+get-initializer-spec = tie.close (tie.spec (λ c κs. tt) (λ c κs. tt) (λ c κs. tt) store-weights-requires list-set-requires same-length same-length-2 same-length-3 same-length-4 returns (λ c. search needs) (λ c. search needs) (λ c. search needs) (λ c. search needs) returns-2)

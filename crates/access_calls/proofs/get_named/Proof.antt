@@ -12,27 +12,6 @@ use Rattle.access_calls.proofs.get_named.Tie as tie
 number : (c : tie.After-asked2) → let s = c .before .before .before .before .before .before .before .before .before .args in c .asked2 .result ≡ getDoor (s .sound) (s .n) (s .column .now) (s .list .now)
 number c = cc
 
-at-most-requires : tie.Need-at-most-requires
-at-most-requires c κs = tt
-
-at-most-requires-2 : tie.Need-at-most-requires-2
-at-most-requires-2 c κs = tt
-
-marks-sound-requires : tie.Need-marks-sound-requires
-marks-sound-requires c κs = tt
-
-both-requires : tie.Need-both-requires
-both-requires c κs = tt
-
-both-requires-2 : tie.Need-both-requires-2
-both-requires-2 c κs = tt
-
-asked-requires : tie.Need-asked-requires
-asked-requires c κs = tt
-
-asked-requires-2 : tie.Need-asked-requires-2
-asked-requires-2 c κs = tt
-
 list-set-requires : tie.Need-list-set-requires
 list-set-requires c κs =
     let s = c .before .before .before .before .before .before .before .before .before .before .before .args in
@@ -66,17 +45,4 @@ returns-2 c =
     }
 
 pub get-named-spec : {M : Type 1} → statement M
-get-named-spec =
-    tie.close
-    (tie.spec
-    at-most-requires
-    at-most-requires-2
-    marks-sound-requires
-    both-requires
-    both-requires-2
-    asked-requires
-    asked-requires-2
-    list-set-requires
-    same-length
-    returns
-    returns-2)
+get-named-spec = tie.close (tie.spec (λ c κs. tt) (λ c κs. tt) (λ c κs. tt) (λ c κs. tt) (λ c κs. tt) (λ c κs. tt) (λ c κs. tt) list-set-requires same-length returns returns-2)

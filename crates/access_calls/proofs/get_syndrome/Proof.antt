@@ -9,9 +9,6 @@ use borrow.Author.Needs.{needs}
 use Rattle.access_calls.proofs.get_syndrome.Statement.{statement}
 use Rattle.access_calls.proofs.get_syndrome.Tie as tie
 
-get-syndrome-door-requires : tie.Need-get-syndrome-door-requires
-get-syndrome-door-requires c κs = tt
-
 list-set-requires : tie.Need-list-set-requires
 list-set-requires c κs =
     let s = c .before .before .before .before .before .before .before .before .before .args in
@@ -57,12 +54,6 @@ returns c =
       erasures-left = r .1 ∙ sym (after-accepted q es (s .erasure-list .now) z);
     }
 
-same-length-3 : tie.Need-same-length-3
-same-length-3 c = search needs
-
-same-length-4 : tie.Need-same-length-4
-same-length-4 c = search needs
-
 returns-2 : tie.Need-returns-2
 returns-2 c =
     let s = c .before .before .before .before .before .before .before .before .args in
@@ -82,15 +73,4 @@ returns-2 c =
     }
 
 pub get-syndrome-spec : {M : Type 1} → statement M
-get-syndrome-spec =
-    tie.close
-    (tie.spec
-    get-syndrome-door-requires
-    list-set-requires
-    list-set-requires-2
-    same-length
-    same-length-2
-    returns
-    same-length-3
-    same-length-4
-    returns-2)
+get-syndrome-spec = tie.close (tie.spec (λ c κs. tt) list-set-requires list-set-requires-2 same-length same-length-2 returns (λ c. search needs) (λ c. search needs) returns-2)

@@ -3,12 +3,6 @@ use Rattle.access_calls.proofs.Doors.{set-tested}
 use Rattle.access_calls.proofs.set_defect_vertices.Statement.{statement}
 use Rattle.access_calls.proofs.set_defect_vertices.Tie as tie
 
-vertex-count-sound-requires : tie.Need-vertex-count-sound-requires
-vertex-count-sound-requires c κs = tt
-
-set-named-requires : tie.Need-set-named-requires
-set-named-requires c κs = tt
-
 same-length : tie.Need-same-length
 same-length c = c .before .defect .given
 
@@ -16,5 +10,4 @@ returns : tie.Need-returns
 returns c = set-tested (c .before .before .before .before .vertex-count-sound .ensures) (c .before .before .set-named .ensures)
 
 pub set-defect-vertices-spec : {M : Type 1} → statement M
-set-defect-vertices-spec =
-    tie.close (tie.spec vertex-count-sound-requires set-named-requires same-length returns)
+set-defect-vertices-spec = tie.close (tie.spec (λ c κs. tt) (λ c κs. tt) same-length returns)

@@ -14,21 +14,6 @@ use Rattle.access_calls.proofs.set_named.Tie as tie
 number : (c : tie.After-asked3) → let s = c .before .before .before .before .before .before .before .args in c .asked3 .result ≡ setDoor (s .sound) (s .n) (s .list .now) (s .column .now)
 number c = cc
 
-at-most-requires : tie.Need-at-most-requires
-at-most-requires c κs = tt
-
-each-below-requires : tie.Need-each-below-requires
-each-below-requires c κs = tt
-
-asked-requires : tie.Need-asked-requires
-asked-requires c κs = tt
-
-asked-requires-2 : tie.Need-asked-requires-2
-asked-requires-2 c κs = tt
-
-asked-requires-3 : tie.Need-asked-requires-3
-asked-requires-3 c κs = tt
-
 set-marks-requires : tie.Need-set-marks-requires
 set-marks-requires c κs =
     let s = c .before .before .before .before .before .before .before .before .before .args in
@@ -48,9 +33,6 @@ returns c =
       left = c .before .before .set-marks .ensures ∙ sym (after-accepted q vs (s .column .now) z);
     }
 
-done-of-requires : tie.Need-done-of-requires
-done-of-requires c κs = tt
-
 returns-2 : tie.Need-returns-2
 returns-2 c =
     let s = c .before .before .before .before .before .before .before .before .before .args in
@@ -63,16 +45,4 @@ returns-2 c =
     }
 
 pub set-named-spec : {M : Type 1} → statement M
-set-named-spec =
-    tie.close
-    (tie.spec
-    at-most-requires
-    each-below-requires
-    asked-requires
-    asked-requires-2
-    asked-requires-3
-    set-marks-requires
-    same-length
-    returns
-    done-of-requires
-    returns-2)
+set-named-spec = tie.close (tie.spec (λ c κs. tt) (λ c κs. tt) (λ c κs. tt) (λ c κs. tt) (λ c κs. tt) set-marks-requires same-length returns (λ c κs. tt) returns-2)

@@ -11,9 +11,6 @@ use borrow.Author.Needs.{needs}
 use Rattle.access_calls.proofs.set_syndrome.Statement.{statement}
 use Rattle.access_calls.proofs.set_syndrome.Tie as tie
 
-set-syndrome-door-requires : tie.Need-set-syndrome-door-requires
-set-syndrome-door-requires c κs = tt
-
 set-marks-requires : tie.Need-set-marks-requires
 set-marks-requires c κs =
     let s = c .before .before .before .before .before .before .before .before .before .args in
@@ -55,15 +52,6 @@ returns c =
       erasures-left = c .before .before .set-marks2 .ensures ∙ sym (after-accepted q (marks e (lists .erasures)) (s .erasure .now) z);
     }
 
-done-of-requires : tie.Need-done-of-requires
-done-of-requires c κs = tt
-
-same-length-3 : tie.Need-same-length-3
-same-length-3 c = search needs
-
-same-length-4 : tie.Need-same-length-4
-same-length-4 c = search needs
-
 returns-2 : tie.Need-returns-2
 returns-2 c =
     let s = c .before .before .before .before .before .before .before .before .before .args in
@@ -81,16 +69,4 @@ returns-2 c =
     }
 
 pub set-syndrome-spec : {M : Type 1} → statement M
-set-syndrome-spec =
-    tie.close
-    (tie.spec
-    set-syndrome-door-requires
-    set-marks-requires
-    set-marks-requires-2
-    same-length
-    same-length-2
-    returns
-    done-of-requires
-    same-length-3
-    same-length-4
-    returns-2)
+set-syndrome-spec = tie.close (tie.spec (λ c κs. tt) set-marks-requires set-marks-requires-2 same-length same-length-2 returns (λ c κs. tt) (λ c. search needs) (λ c. search needs) returns-2)

@@ -11,18 +11,6 @@ use borrow.Author.Needs.{needs}
 use Rattle.access_positions.proofs.get_positions.Statement.{statement}
 use Rattle.access_positions.proofs.get_positions.Tie as tie
 
-positions-door-requires : tie.Need-positions-door-requires
-positions-door-requires c κs = tt
-
-copy-f64-requires : tie.Need-copy-f64-requires
-copy-f64-requires c κs = tt
-
-copy-f64-requires-2 : tie.Need-copy-f64-requires-2
-copy-f64-requires-2 c κs = tt
-
-copy-f64-requires-3 : tie.Need-copy-f64-requires-3
-copy-f64-requires-3 c κs = tt
-
 same-length : tie.Need-same-length
 same-length c = c .before .before .before .before .before .before .before .before .before .to-i .given
 
@@ -48,18 +36,6 @@ returns c =
       t-left = c .before .before .copy-f643 .ensures ∙ copy-after v q (to .t) (from .t) z (l .0 .2) (l .1 .2);
     }
 
-done-of-requires : tie.Need-done-of-requires
-done-of-requires c κs = tt
-
-same-length-4 : tie.Need-same-length-4
-same-length-4 c = search needs
-
-same-length-5 : tie.Need-same-length-5
-same-length-5 c = search needs
-
-same-length-6 : tie.Need-same-length-6
-same-length-6 c = search needs
-
 returns-2 : tie.Need-returns-2
 returns-2 c =
     let s = c .before .before .before .before .before .before .before .before .before .before .before .before .args in
@@ -77,19 +53,4 @@ returns-2 c =
     }
 
 pub get-positions-spec : {M : Type 1} → statement M
-get-positions-spec =
-    tie.close
-    (tie.spec
-    positions-door-requires
-    copy-f64-requires
-    copy-f64-requires-2
-    copy-f64-requires-3
-    same-length
-    same-length-2
-    same-length-3
-    returns
-    done-of-requires
-    same-length-4
-    same-length-5
-    same-length-6
-    returns-2)
+get-positions-spec = tie.close (tie.spec (λ c κs. tt) (λ c κs. tt) (λ c κs. tt) (λ c κs. tt) same-length same-length-2 same-length-3 returns (λ c κs. tt) (λ c. search needs) (λ c. search needs) (λ c. search needs) returns-2)

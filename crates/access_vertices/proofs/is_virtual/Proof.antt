@@ -3,14 +3,8 @@ use mathlib.Core.Path.{sym}
 use Rattle.access_vertices.proofs.is_virtual.Statement.{statement}
 use Rattle.access_vertices.proofs.is_virtual.Tie as tie
 
-boundaries-sound-requires : tie.Need-boundaries-sound-requires
-boundaries-sound-requires c κs = tt
-
-is-marked-requires : tie.Need-is-marked-requires
-is-marked-requires c κs = tt
-
 returns : tie.Need-returns
 returns c = rw (sym (c .before .boundaries-sound .ensures)) (c .is-marked .ensures)
 
 pub is-virtual-spec : {M : Type 1} → statement M
-is-virtual-spec = tie.close (tie.spec boundaries-sound-requires is-marked-requires returns)
+is-virtual-spec = tie.close (tie.spec (λ c κs. tt) (λ c κs. tt) returns)

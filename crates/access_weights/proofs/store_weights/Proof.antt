@@ -23,26 +23,11 @@ loop-holds : tie.Need-loop-holds Inv-loop μ-loop
 unfolding weights each
 loop-holds c = (omega arith, refl, refl)
 
-mul-weight : tie.Need-mul-weight Inv-loop μ-loop
-mul-weight c = search needs
-
-shared-slice-read-weight : tie.Need-shared-slice-read-weight Inv-loop μ-loop
-shared-slice-read-weight c = search needs
-
 mul-weight-2 : tie.Need-mul-weight-2 Inv-loop μ-loop
 mul-weight-2 c = omega (arith, c .before .before .before .pre .1 (c .before .before .loop .k) (omega arith))
 
-mul-weight-3 : tie.Need-mul-weight-3 Inv-loop μ-loop
-mul-weight-3 c = search needs
-
 slice-write-weight : tie.Need-slice-write-weight Inv-loop μ-loop
 slice-write-weight c = omega (arith, c .before .before .loop .inv .1)
-
-add-k : tie.Need-add-k Inv-loop μ-loop
-add-k c = search needs
-
-loop-less : tie.Need-loop-less Inv-loop μ-loop
-loop-less c = search needs
 
 loop-again : tie.Need-loop-again Inv-loop μ-loop
 unfolding weights
@@ -66,19 +51,4 @@ returns c =
     l .inv .2 ∙ sets-over (s .args .weight .now) (each (l .k) f) (omega (arith, length-each (l .k) f, s .pre .0)) ∙ ap (λ (n : ℕ). over (each n f) (s .args .weight .now)) all
 
 pub store-weights-spec : {M : Type 1} → statement M
-store-weights-spec =
-    tie.close
-    (tie.spec
-    Inv-loop
-    μ-loop
-    loop-holds
-    mul-weight
-    shared-slice-read-weight
-    mul-weight-2
-    mul-weight-3
-    slice-write-weight
-    add-k
-    loop-less
-    loop-again
-    same-length
-    returns)
+store-weights-spec = tie.close (tie.spec Inv-loop μ-loop loop-holds (λ c. search needs) (λ c. search needs) mul-weight-2 (λ c. search needs) slice-write-weight (λ c. search needs) (λ c. search needs) loop-again same-length returns)

@@ -2,12 +2,6 @@
 use Rattle.c_codes_new.proofs.moldingcress_new.Statement.{statement}
 use Rattle.c_codes_new.proofs.moldingcress_new.Tie as tie
 
-new-requires : tie.Need-new-requires
-new-requires c κs = tt
-
-created-report-requires : tie.Need-created-report-requires
-created-report-requires c κs = tt
-
 same-length : tie.Need-same-length
 same-length c = c .before .before .before .before .before .before .before .before .before .before .before .before .before .before .before .before .before .before .before .before .before .before .before .before .before .before .ends-a .given
 
@@ -57,22 +51,4 @@ returns c =
     }
 
 pub moldingcress-new-spec : {M : Type 1} → statement M
-moldingcress-new-spec =
-    tie.close
-    (tie.spec
-    new-requires
-    created-report-requires
-    same-length
-    same-length-2
-    same-length-3
-    same-length-4
-    same-length-5
-    same-length-6
-    same-length-7
-    same-length-8
-    same-length-9
-    same-length-10
-    same-length-11
-    same-length-12
-    same-length-13
-    returns)
+moldingcress-new-spec = tie.close (tie.spec (λ c κs. tt) (λ c κs. tt) same-length same-length-2 same-length-3 same-length-4 same-length-5 same-length-6 same-length-7 same-length-8 same-length-9 same-length-10 same-length-11 same-length-12 same-length-13 returns)

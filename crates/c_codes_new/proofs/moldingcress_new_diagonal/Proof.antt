@@ -3,15 +3,6 @@ use Rattle.c_codes_new.proofs.Given.{given}
 use Rattle.c_codes_new.proofs.moldingcress_new_diagonal.Statement.{statement}
 use Rattle.c_codes_new.proofs.moldingcress_new_diagonal.Tie as tie
 
-diagonal-from-requires : tie.Need-diagonal-from-requires
-diagonal-from-requires c κs = tt
-
-new-diagonal-requires : tie.Need-new-diagonal-requires
-new-diagonal-requires c κs = tt
-
-created-report-requires : tie.Need-created-report-requires
-created-report-requires c κs = tt
-
 same-length : tie.Need-same-length
 same-length c = c .before .before .before .before .before .before .before .before .before .before .before .before .before .before .before .before .before .before .before .before .before .before .before .before .before .before .ends-a .given
 
@@ -61,23 +52,4 @@ returns c =
     }
 
 pub moldingcress-new-diagonal-spec : {M : Type 1} → statement M
-moldingcress-new-diagonal-spec =
-    tie.close
-    (tie.spec
-    diagonal-from-requires
-    new-diagonal-requires
-    created-report-requires
-    same-length
-    same-length-2
-    same-length-3
-    same-length-4
-    same-length-5
-    same-length-6
-    same-length-7
-    same-length-8
-    same-length-9
-    same-length-10
-    same-length-11
-    same-length-12
-    same-length-13
-    returns)
+moldingcress-new-diagonal-spec = tie.close (tie.spec (λ c κs. tt) (λ c κs. tt) (λ c κs. tt) same-length same-length-2 same-length-3 same-length-4 same-length-5 same-length-6 same-length-7 same-length-8 same-length-9 same-length-10 same-length-11 same-length-12 same-length-13 returns)

@@ -2,12 +2,6 @@
 use Rattle.c_engine_prebuilt.proofs.moldingcress_fill_boundaries.Statement.{statement}
 use Rattle.c_engine_prebuilt.proofs.moldingcress_fill_boundaries.Tie as tie
 
-fill-boundaries-requires : tie.Need-fill-boundaries-requires
-fill-boundaries-requires c κs = tt
-
-done-number-requires : tie.Need-done-number-requires
-done-number-requires c κs = tt
-
 same-length : tie.Need-same-length
 same-length c = c .before .before .before .before .before .before .before .before .before .before .before .before .before .before .before .before .before .before .before .before .out-weight .given
 
@@ -51,20 +45,4 @@ returns c =
     }
 
 pub moldingcress-fill-boundaries-spec : {M : Type 1} → statement M
-moldingcress-fill-boundaries-spec =
-    tie.close
-    (tie.spec
-    fill-boundaries-requires
-    done-number-requires
-    same-length
-    same-length-2
-    same-length-3
-    same-length-4
-    same-length-5
-    same-length-6
-    same-length-7
-    same-length-8
-    same-length-9
-    same-length-10
-    same-length-11
-    returns)
+moldingcress-fill-boundaries-spec = tie.close (tie.spec (λ c κs. tt) (λ c κs. tt) same-length same-length-2 same-length-3 same-length-4 same-length-5 same-length-6 same-length-7 same-length-8 same-length-9 same-length-10 same-length-11 returns)

@@ -2,12 +2,6 @@
 use Rattle.c_engine_prebuilt.proofs.moldingcress_fill_row.Statement.{statement}
 use Rattle.c_engine_prebuilt.proofs.moldingcress_fill_row.Tie as tie
 
-fill-row-requires : tie.Need-fill-row-requires
-fill-row-requires c κs = tt
-
-done-number-requires : tie.Need-done-number-requires
-done-number-requires c κs = tt
-
 same-length : tie.Need-same-length
 same-length c = c .before .before .before .before .before .before .before .before .before .before .before .before .before .before .before .before .before .out .given
 
@@ -45,18 +39,4 @@ returns c =
     }
 
 pub moldingcress-fill-row-spec : {M : Type 1} → statement M
-moldingcress-fill-row-spec =
-    tie.close
-    (tie.spec
-    fill-row-requires
-    done-number-requires
-    same-length
-    same-length-2
-    same-length-3
-    same-length-4
-    same-length-5
-    same-length-6
-    same-length-7
-    same-length-8
-    same-length-9
-    returns)
+moldingcress-fill-row-spec = tie.close (tie.spec (λ c κs. tt) (λ c κs. tt) same-length same-length-2 same-length-3 same-length-4 same-length-5 same-length-6 same-length-7 same-length-8 same-length-9 returns)

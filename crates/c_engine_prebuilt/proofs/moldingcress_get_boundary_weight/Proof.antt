@@ -2,12 +2,6 @@
 use Rattle.c_engine_prebuilt.proofs.moldingcress_get_boundary_weight.Statement.{statement}
 use Rattle.c_engine_prebuilt.proofs.moldingcress_get_boundary_weight.Tie as tie
 
-get-boundary-weight-requires : tie.Need-get-boundary-weight-requires
-get-boundary-weight-requires c κs = tt
-
-boundary-report-requires : tie.Need-boundary-report-requires
-boundary-report-requires c κs = tt
-
 same-length : tie.Need-same-length
 same-length c = c .before .before .before .before .before .before .before .before .before .before .before .before .before .before .before .before .before .least .given
 
@@ -45,18 +39,4 @@ returns c =
     }
 
 pub moldingcress-get-boundary-weight-spec : {M : Type 1} → statement M
-moldingcress-get-boundary-weight-spec =
-    tie.close
-    (tie.spec
-    get-boundary-weight-requires
-    boundary-report-requires
-    same-length
-    same-length-2
-    same-length-3
-    same-length-4
-    same-length-5
-    same-length-6
-    same-length-7
-    same-length-8
-    same-length-9
-    returns)
+moldingcress-get-boundary-weight-spec = tie.close (tie.spec (λ c κs. tt) (λ c κs. tt) same-length same-length-2 same-length-3 same-length-4 same-length-5 same-length-6 same-length-7 same-length-8 same-length-9 returns)

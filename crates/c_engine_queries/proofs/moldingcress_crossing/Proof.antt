@@ -2,12 +2,6 @@
 use Rattle.c_engine_queries.proofs.moldingcress_crossing.Statement.{statement}
 use Rattle.c_engine_queries.proofs.moldingcress_crossing.Tie as tie
 
-crossing-requires : tie.Need-crossing-requires
-crossing-requires c κs = tt
-
-crossing-report-requires : tie.Need-crossing-report-requires
-crossing-report-requires c κs = tt
-
 same-length : tie.Need-same-length
 same-length c = c .before .before .before .before .before .before .before .before .before .before .before .before .before .before .before .out-weight .given
 
@@ -42,17 +36,4 @@ returns c =
     }
 
 pub moldingcress-crossing-spec : {M : Type 1} → statement M
-moldingcress-crossing-spec =
-    tie.close
-    (tie.spec
-    crossing-requires
-    crossing-report-requires
-    same-length
-    same-length-2
-    same-length-3
-    same-length-4
-    same-length-5
-    same-length-6
-    same-length-7
-    same-length-8
-    returns)
+moldingcress-crossing-spec = tie.close (tie.spec (λ c κs. tt) (λ c κs. tt) same-length same-length-2 same-length-3 same-length-4 same-length-5 same-length-6 same-length-7 same-length-8 returns)

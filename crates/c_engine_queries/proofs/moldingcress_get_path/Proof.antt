@@ -2,12 +2,6 @@
 use Rattle.c_engine_queries.proofs.moldingcress_get_path.Statement.{statement}
 use Rattle.c_engine_queries.proofs.moldingcress_get_path.Tie as tie
 
-get-path-requires : tie.Need-get-path-requires
-get-path-requires c κs = tt
-
-path-report-requires : tie.Need-path-report-requires
-path-report-requires c κs = tt
-
 same-length : tie.Need-same-length
 same-length c = c .before .before .before .before .before .before .before .before .before .before .before .before .before .before .before .before .before .before .out-vertices .given
 
@@ -45,18 +39,4 @@ returns c =
     }
 
 pub moldingcress-get-path-spec : {M : Type 1} → statement M
-moldingcress-get-path-spec =
-    tie.close
-    (tie.spec
-    get-path-requires
-    path-report-requires
-    same-length
-    same-length-2
-    same-length-3
-    same-length-4
-    same-length-5
-    same-length-6
-    same-length-7
-    same-length-8
-    same-length-9
-    returns)
+moldingcress-get-path-spec = tie.close (tie.spec (λ c κs. tt) (λ c κs. tt) same-length same-length-2 same-length-3 same-length-4 same-length-5 same-length-6 same-length-7 same-length-8 same-length-9 returns)

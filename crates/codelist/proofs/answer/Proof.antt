@@ -7,25 +7,13 @@ use borrow.Author.Needs.{needs}
 use Rattle.codelist.proofs.answer.Statement.{statement}
 use Rattle.codelist.proofs.answer.Tie as tie
 
-codelist-requires : tie.Need-codelist-requires
-codelist-requires c κs = tt
-
-enum-known-listed : tie.Need-enum-known-listed
-enum-known-listed c = search needs
-
 show-requires : tie.Need-show-requires
 show-requires c κs =
     let s = c .before .before .before .before .before .before .before .before .before .before in
     shown (s .args .input .now) (s .args .text .now) _ (c .before .before .before .before .before .before .codelist .result) (s .pre) (c .before .before .before .before .before .before .codelist .ensures) _ (let t = c .before .before .listed .given in let u = c .before .known-told .given in cc)
 
-enum-known-listed-2 : tie.Need-enum-known-listed-2
-enum-known-listed-2 c = search needs
-
 same-length : tie.Need-same-length
 same-length c = c .before .before .before .before .before .before .text .given
-
-returns : tie.Need-returns
-returns c = search needs
 
 same-length-2 : tie.Need-same-length-2
 same-length-2 c = c .before .before .before .before .text .given
@@ -36,14 +24,4 @@ returns-2 c =
     absurd (never (s .args .input .now) (s .args .text .now) _ (c .before .before .before .before .before .codelist .result) (s .pre) (c .before .before .before .before .before .codelist .ensures) (λ n q. let t = c .before .listed2 .given in let u = c .known-told2 .given in let z : _≡_ {A = ℕ} 0 1 = cc in omega arith))
 
 pub answer-spec : {M : Type 1} → statement M
-answer-spec =
-    tie.close
-    (tie.spec
-    codelist-requires
-    enum-known-listed
-    show-requires
-    enum-known-listed-2
-    same-length
-    returns
-    same-length-2
-    returns-2)
+answer-spec = tie.close (tie.spec (λ c κs. tt) (λ c. search needs) show-requires (λ c. search needs) same-length (λ c. search needs) same-length-2 returns-2)

@@ -11,8 +11,5 @@ slice-aggregate-print c = let s = c .before .before .before in sym (length-take-
 print-requires : tie.Need-print-requires
 print-requires c κs = c .before .before .before .pre .1
 
-returns : tie.Need-returns
-returns c = search needs
-
 pub show-spec : {M : Type 1} → statement M
-show-spec = tie.close (tie.spec slice-aggregate-print print-requires returns)
+show-spec = tie.close (tie.spec slice-aggregate-print print-requires (λ c. search needs))

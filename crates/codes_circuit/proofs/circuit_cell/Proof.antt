@@ -12,61 +12,19 @@ use borrow.Author.Needs.{needs}
 use Rattle.codes_circuit.proofs.circuit_cell.Statement.{statement}
 use Rattle.codes_circuit.proofs.circuit_cell.Tie as tie
 
-add-across : tie.Need-add-across
-add-across c = search needs
-
-sub-across : tie.Need-sub-across
-sub-across c = search needs
-
-add-down : tie.Need-add-down
-add-down c = search needs
-
-both-requires : tie.Need-both-requires
-both-requires c κs = tt
-
-add-x : tie.Need-add-x
-add-x c = search needs
-
-add-t17 : tie.Need-add-t17
-add-t17 c = search needs
-
 push-requires : tie.Need-push-requires
 unfolding circuitCell
 push-requires c κs =
     let r = room-first ((c .before .before .before .before .before .args .bias + c .before .before .before .before .before .args .i, c .before .before .before .before .before .args .bias + c .before .before .before .before .before .args .i + c .before .before .before .before .before .args .size) ∷ []) _ (c .before .before .before .before .before .pre .0) in
     omega (arith, r .room-a, r .room-b)
 
-add-t16 : tie.Need-add-t16
-add-t16 c = search needs
-
-add-t17-2 : tie.Need-add-t17-2
-add-t17-2 c = search needs
-
 push-if-requires : tie.Need-push-if-requires
 unfolding circuitCell
 push-if-requires c κs = room-first _ _ (room-then _ (c .before .before .before .before .before .before .before .before .before .before .before .before .pre .0) (c .before .before .before .before .before .before .push .ensures))
 
-add-t16-2 : tie.Need-add-t16-2
-add-t16-2 c = search needs
-
-add-t17-3 : tie.Need-add-t17-3
-add-t17-3 c = search needs
-
-add-t32 : tie.Need-add-t32
-add-t32 c = search needs
-
 push-if-requires-2 : tie.Need-push-if-requires-2
 unfolding circuitCell
 push-if-requires-2 c κs = room-first _ _ (room-then _ (room-then _ (c .before .before .before .before .before .before .before .before .before .before .before .before .before .before .before .before .before .before .before .pre .0) (c .before .before .before .before .before .before .before .before .before .before .before .before .before .push .ensures)) (c .before .before .before .before .before .before .push-if .ensures))
-
-add-t16-3 : tie.Need-add-t16-3
-add-t16-3 c = search needs
-
-add-t32-2 : tie.Need-add-t32-2
-add-t32-2 c = search needs
-
-add-t17-4 : tie.Need-add-t17-4
-add-t17-4 c = search needs
 
 add-t37 : tie.Need-add-t37
 add-t37 c = omega (arith, c .before .before .before .before .before .before .before .before .before .before .before .before .before .before .before .before .before .before .before .before .before .before .before .before .before .before .pre .1)
@@ -75,39 +33,9 @@ push-if-requires-3 : tie.Need-push-if-requires-3
 unfolding circuitCell
 push-if-requires-3 c κs = room-as (ap (λ (m : Bool). when {A = Ends} m (c .before .before .before .before .before .before .before .before .before .before .before .before .before .before .before .before .before .before .before .before .before .before .before .before .before .before .args .bias + c .before .before .before .before .before .before .before .before .before .before .before .before .before .before .before .before .before .before .before .before .before .before .before .before .before .before .args .i, c .before .before .before .before .before .before .before .before .before .before .before .before .before .before .before .before .before .before .before .before .before .before .before .before .before .before .args .bias + c .before .before .before .before .before .before .before .before .before .before .before .before .before .before .before .before .before .before .before .before .before .before .before .before .before .before .args .i + (c .before .before .before .before .before .before .before .before .before .before .before .before .before .before .before .before .before .before .before .before .before .before .before .before .before .before .args .d + 1 + 1 + c .before .before .before .before .before .before .before .before .before .before .before .before .before .before .before .before .before .before .before .before .before .before .before .before .before .before .args .size))) (sym (c .before .before .before .before .before .before .before .before .before .before .before .before .before .before .before .before .before .before .before .before .before .before .before .both .ensures))) (room-then _ (room-then _ (room-then _ (c .before .before .before .before .before .before .before .before .before .before .before .before .before .before .before .before .before .before .before .before .before .before .before .before .before .before .pre .0) (c .before .before .before .before .before .before .before .before .before .before .before .before .before .before .before .before .before .before .before .before .push .ensures)) (c .before .before .before .before .before .before .before .before .before .before .before .before .before .push-if .ensures)) (c .before .before .before .before .before .before .push-if2 .ensures))
 
-same-length : tie.Need-same-length
-same-length c = search needs
-
-same-length-2 : tie.Need-same-length-2
-same-length-2 c = search needs
-
 returns : tie.Need-returns
 unfolding circuitCell
 returns c = wrote-then (c .before .before .before .before .before .before .before .before .before .before .before .before .before .before .before .before .before .before .before .before .before .before .before .before .before .push .ensures) (wrote-then (c .before .before .before .before .before .before .before .before .before .before .before .before .before .before .before .before .before .before .push-if .ensures) (wrote-then (c .before .before .before .before .before .before .before .before .before .before .before .push-if2 .ensures) (wrote-as (ap (λ (m : Bool). when {A = Ends} m (c .before .before .before .before .before .before .before .before .before .before .before .before .before .before .before .before .before .before .before .before .before .before .before .before .before .before .before .before .before .before .before .args .bias + c .before .before .before .before .before .before .before .before .before .before .before .before .before .before .before .before .before .before .before .before .before .before .before .before .before .before .before .before .before .before .before .args .i, c .before .before .before .before .before .before .before .before .before .before .before .before .before .before .before .before .before .before .before .before .before .before .before .before .before .before .before .before .before .before .before .args .bias + c .before .before .before .before .before .before .before .before .before .before .before .before .before .before .before .before .before .before .before .before .before .before .before .before .before .before .before .before .before .before .before .args .i + (c .before .before .before .before .before .before .before .before .before .before .before .before .before .before .before .before .before .before .before .before .before .before .before .before .before .before .before .before .before .before .before .args .d + 1 + 1 + c .before .before .before .before .before .before .before .before .before .before .before .before .before .before .before .before .before .before .before .before .before .before .before .before .before .before .before .before .before .before .before .args .size))) (c .before .before .before .before .before .before .before .before .before .before .before .before .before .before .before .before .before .before .before .before .before .before .before .before .before .before .before .before .both .ensures)) (c .before .before .before .before .push-if3 .ensures))))
 
 pub circuit-cell-spec : {M : Type 1} → statement M
-circuit-cell-spec =
-    tie.close
-    (tie.spec
-    add-across
-    sub-across
-    add-down
-    both-requires
-    add-x
-    add-t17
-    push-requires
-    add-t16
-    add-t17-2
-    push-if-requires
-    add-t16-2
-    add-t17-3
-    add-t32
-    push-if-requires-2
-    add-t16-3
-    add-t32-2
-    add-t17-4
-    add-t37
-    push-if-requires-3
-    same-length
-    same-length-2
-    returns)
+circuit-cell-spec = tie.close (tie.spec (λ c. search needs) (λ c. search needs) (λ c. search needs) (λ c κs. tt) (λ c. search needs) (λ c. search needs) push-requires (λ c. search needs) (λ c. search needs) push-if-requires (λ c. search needs) (λ c. search needs) (λ c. search needs) push-if-requires-2 (λ c. search needs) (λ c. search needs) (λ c. search needs) add-t37 push-if-requires-3 (λ c. search needs) (λ c. search needs) returns)

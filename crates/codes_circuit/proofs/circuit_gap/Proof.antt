@@ -15,9 +15,6 @@ Inv-loop ends-a₀ ends-b₀ at d base size next₀ row₀ ends-a ends-b next ro
 abbrev μ-loop : tie.MeasureT-loop
 μ-loop ends-a₀ ends-b₀ at d base size next₀ row₀ ends-a ends-b next row = d - row
 
-add-size : tie.Need-add-size Inv-loop μ-loop
-add-size c = search needs
-
 mul-size : tie.Need-mul-size Inv-loop μ-loop
 mul-size c = omega arith
 
@@ -28,12 +25,6 @@ loop-holds c = (omega arith, wrote-none)
 circuit-row-requires : tie.Need-circuit-row-requires Inv-loop μ-loop
 unfolding circuitGap
 circuit-row-requires c κs = (joined-fits (λ k. circuitRow (c .before .before .before .before .before .before .args .d) (c .before .before .before .before .before .before .args .d * (c .before .before .before .before .before .before .args .d + 1)) (c .before .before .before .before .before .before .args .base) k) (c .before .before .before .before .before .before .args .d) (c .before .before .before .before .before .before .pre .0) (c .before .before .before .loop .inv .1) (c .before .before .loop-test .taken), omega (arith, c .before .before .before .before .before .before .pre .1, row-room (c .before .before .before .before .before .before .args .d) (c .before .before .before .before .before .before .args .d + 1) (c .before .before .loop-test .taken)))
-
-add-row : tie.Need-add-row Inv-loop μ-loop
-add-row c = search needs
-
-loop-less : tie.Need-loop-less Inv-loop μ-loop
-loop-less c = search needs
 
 loop-again : tie.Need-loop-again Inv-loop μ-loop
 loop-again c = (omega arith, joined-turn (λ k. circuitRow (c .before .before .before .before .before .before .before .before .before .before .before .args .d) (c .before .before .before .before .before .before .before .before .before .before .before .args .d * (c .before .before .before .before .before .before .before .before .before .before .before .args .d + 1)) (c .before .before .before .before .before .before .before .before .before .before .before .args .base) k) (c .before .before .before .before .before .before .before .before .loop .inv .1) (c .before .before .before .before .circuit-row .ensures))
@@ -49,18 +40,4 @@ unfolding circuitGap
 returns c = joined-end _ (c .before .loop .inv .1) (c .before .loop .inv .0) (c .loop-test .left)
 
 pub circuit-gap-spec : {M : Type 1} → statement M
-circuit-gap-spec =
-    tie.close
-    (tie.spec
-    Inv-loop
-    μ-loop
-    add-size
-    mul-size
-    loop-holds
-    circuit-row-requires
-    add-row
-    loop-less
-    loop-again
-    same-length
-    same-length-2
-    returns)
+circuit-gap-spec = tie.close (tie.spec Inv-loop μ-loop (λ c. search needs) mul-size loop-holds circuit-row-requires (λ c. search needs) (λ c. search needs) loop-again same-length same-length-2 returns)

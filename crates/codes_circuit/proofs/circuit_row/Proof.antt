@@ -15,31 +15,13 @@ Inv-loop ends-a₀ ends-b₀ at d size base row bias next₀ i₀ ends-a ends-b 
 abbrev μ-loop : tie.MeasureT-loop
 μ-loop ends-a₀ ends-b₀ at d size base row bias next₀ i₀ ends-a ends-b next i = d - i
 
-add-bias : tie.Need-add-bias Inv-loop μ-loop
-add-bias c = search needs
-
-mul-bias : tie.Need-mul-bias Inv-loop μ-loop
-mul-bias c = search needs
-
-add-bias-2 : tie.Need-add-bias-2 Inv-loop μ-loop
-add-bias-2 c = search needs
-
 loop-holds : tie.Need-loop-holds Inv-loop μ-loop
 unfolding joined
 loop-holds c = (omega arith, wrote-none)
 
-sub-loop : tie.Need-sub-loop Inv-loop μ-loop
-sub-loop c = search needs
-
 circuit-cell-requires : tie.Need-circuit-cell-requires Inv-loop μ-loop
 unfolding circuitRow
 circuit-cell-requires c κs = (joined-fits (λ k. circuitCell (c .before .before .before .before .before .before .args .d) (c .before .before .before .before .before .before .args .size) (c .before .before .before .before .before .before .args .base + c .before .before .before .before .before .before .args .row * (c .before .before .before .before .before .before .args .d + 1)) (c .before .before .before .before .before .before .args .row) k) (c .before .before .before .before .before .before .args .d - 1) (c .before .before .before .before .before .before .pre .0) (c .before .before .before .loop .inv .1) (c .before .before .loop-test .taken), omega arith)
-
-add-i : tie.Need-add-i Inv-loop μ-loop
-add-i c = search needs
-
-loop-less : tie.Need-loop-less Inv-loop μ-loop
-loop-less c = search needs
 
 loop-again : tie.Need-loop-again Inv-loop μ-loop
 loop-again c = (omega arith, joined-turn (λ k. circuitCell (c .before .before .before .before .before .before .before .before .before .before .before .args .d) (c .before .before .before .before .before .before .before .before .before .before .before .args .size) (c .before .before .before .before .before .before .before .before .before .before .before .args .base + c .before .before .before .before .before .before .before .before .before .before .before .args .row * (c .before .before .before .before .before .before .before .before .before .before .before .args .d + 1)) (c .before .before .before .before .before .before .before .before .before .before .before .args .row) k) (c .before .before .before .before .before .before .before .before .loop .inv .1) (c .before .before .before .before .circuit-cell .ensures))
@@ -55,20 +37,4 @@ unfolding circuitRow
 returns c = joined-end _ (c .before .loop .inv .1) (c .before .loop .inv .0) (c .loop-test .left)
 
 pub circuit-row-spec : {M : Type 1} → statement M
-circuit-row-spec =
-    tie.close
-    (tie.spec
-    Inv-loop
-    μ-loop
-    add-bias
-    mul-bias
-    add-bias-2
-    loop-holds
-    sub-loop
-    circuit-cell-requires
-    add-i
-    loop-less
-    loop-again
-    same-length
-    same-length-2
-    returns)
+circuit-row-spec = tie.close (tie.spec Inv-loop μ-loop (λ c. search needs) (λ c. search needs) (λ c. search needs) loop-holds (λ c. search needs) circuit-cell-requires (λ c. search needs) (λ c. search needs) loop-again same-length same-length-2 returns)

@@ -51,12 +51,6 @@ gap-edges-requires : tie.Need-gap-edges-requires Inv-loop μ-loop
 unfolding edgesOf layered
 gap-edges-requires c κs = (room-as (gap-at (c .before .before .before .before .before .before .before .before .before .before .before .before .before .before .args .kind) (c .before .before .before .before .before .before .before .before .before .before .before .before .before .before .args .d) (c .before .before .before .before .before .before .before .before .before .before .loop .t) (c .before .before .before .before .before .before .before .before .before .before .before .layer-size .ensures)) (room-then _ (joined-fits (part (c .before .before .before .before .before .before .before .before .before .before .before .before .before .before .args .kind) (c .before .before .before .before .before .before .before .before .before .before .before .before .before .before .args .d)) (c .before .before .before .before .before .before .before .before .before .before .before .before .before .before .args .rounds) (room-first _ _ (c .before .before .before .before .before .before .before .before .before .before .before .before .before .before .pre .0)) (c .before .before .before .before .before .before .before .before .before .before .loop .inv .1) (c .before .before .before .before .before .before .before .before .before .loop-test .taken)) (wrote-as (sym (layer-at (c .before .before .before .before .before .before .before .before .before .before .before .before .before .before .args .kind) (c .before .before .before .before .before .before .before .before .before .before .before .before .before .before .args .d) (c .before .before .before .before .before .before .before .before .before .before .loop .t) (c .before .before .before .before .before .before .before .before .before .before .before .layer-size .ensures))) (c .before .before .before .before .before .before .layer-edges .ensures))), omega (arith, layer-in (c .before .before .before .before .before .before .before .before .before .before .before .before .before .before .args .rounds) (c .before .before .before .before .before .before .before .before .before .before .loop .t) (layerSize (c .before .before .before .before .before .before .before .before .before .before .before .before .before .before .args .kind) (c .before .before .before .before .before .before .before .before .before .before .before .before .before .before .args .d)) (c .before .before .before .before .before .before .before .before .before .before .before .layer-size .ensures) (omega arith) (omega arith)))
 
-add-t : tie.Need-add-t Inv-loop μ-loop
-add-t c = search needs
-
-loop-less : tie.Need-loop-less Inv-loop μ-loop
-loop-less c = search needs
-
 loop-again : tie.Need-loop-again Inv-loop μ-loop
 loop-again c = (omega arith, joined-turn (part (c .before .before .before .before .before .before .before .before .before .before .before .before .before .before .before .before .before .before .before .args .kind) (c .before .before .before .before .before .before .before .before .before .before .before .before .before .before .before .before .before .before .before .args .d)) (c .before .before .before .before .before .before .before .before .before .before .before .before .before .before .before .loop .inv .1) (wrote-then (wrote-as (sym (layer-at (c .before .before .before .before .before .before .before .before .before .before .before .before .before .before .before .before .before .before .before .args .kind) (c .before .before .before .before .before .before .before .before .before .before .before .before .before .before .before .before .before .before .before .args .d) (c .before .before .before .before .before .before .before .before .before .before .before .before .before .before .before .loop .t) (c .before .before .before .before .before .before .before .before .before .before .before .before .before .before .before .before .layer-size .ensures))) (c .before .before .before .before .before .before .before .before .before .before .before .layer-edges .ensures)) (wrote-as (sym (gap-at (c .before .before .before .before .before .before .before .before .before .before .before .before .before .before .before .before .before .before .before .args .kind) (c .before .before .before .before .before .before .before .before .before .before .before .before .before .before .before .before .before .before .before .args .d) (c .before .before .before .before .before .before .before .before .before .before .before .before .before .before .before .loop .t) (c .before .before .before .before .before .before .before .before .before .before .before .before .before .before .before .before .layer-size .ensures))) (c .before .before .before .before .gap-edges .ensures))))
 
@@ -78,22 +72,4 @@ unfolding edgesOf layered
 returns c = wrote-then (joined-end (part (c .before .before .before .before .before .before .before .before .before .before .before .before .args .kind) (c .before .before .before .before .before .before .before .before .before .before .before .before .args .d)) (c .before .before .before .before .before .before .before .before .loop .inv .1) (c .before .before .before .before .before .before .before .before .loop .inv .0) (c .before .before .before .before .before .before .before .loop-test .left)) (wrote-as (sym (ap (λ (n : ℕ). layerEdges (c .before .before .before .before .before .before .before .before .before .before .before .before .args .kind) (c .before .before .before .before .before .before .before .before .before .before .before .before .args .d) (n * layerSize (c .before .before .before .before .before .before .before .before .before .before .before .before .args .kind) (c .before .before .before .before .before .before .before .before .before .before .before .before .args .d))) (le-antisymm (c .before .before .before .before .before .before .before .loop-test .left) (c .before .before .before .before .before .before .before .before .loop .inv .0)) ∙ layer-at (c .before .before .before .before .before .before .before .before .before .before .before .before .args .kind) (c .before .before .before .before .before .before .before .before .before .before .before .before .args .d) (c .before .before .before .before .before .before .before .before .loop .t) (c .before .before .before .before .before .before .before .before .before .layer-size .ensures))) (c .before .before .before .before .layer-edges2 .ensures))
 
 pub code-edges-spec : {M : Type 1} → statement M
-code-edges-spec =
-    tie.close
-    (tie.spec
-    Inv-loop
-    μ-loop
-    layer-size-requires
-    loop-holds
-    mul-layer-edges
-    layer-edges-requires
-    mul-gap-edges
-    gap-edges-requires
-    add-t
-    loop-less
-    loop-again
-    mul-layer-edges-2
-    layer-edges-requires-2
-    same-length
-    same-length-2
-    returns)
+code-edges-spec = tie.close (tie.spec Inv-loop μ-loop layer-size-requires loop-holds mul-layer-edges layer-edges-requires mul-gap-edges gap-edges-requires (λ c. search needs) (λ c. search needs) loop-again mul-layer-edges-2 layer-edges-requires-2 same-length same-length-2 returns)

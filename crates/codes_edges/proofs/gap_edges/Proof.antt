@@ -11,15 +11,6 @@ use borrow.Author.Needs.{needs}
 use Rattle.codes_edges.proofs.gap_edges.Statement.{statement}
 use Rattle.codes_edges.proofs.gap_edges.Tie as tie
 
-sub-straight-rows : tie.Need-sub-straight-rows
-sub-straight-rows c = search needs
-
-add-straight-rows : tie.Need-add-straight-rows
-add-straight-rows c = search needs
-
-add-straight-rows-2 : tie.Need-add-straight-rows-2
-add-straight-rows-2 c = search needs
-
 mul-straight-rows : tie.Need-mul-straight-rows
 mul-straight-rows c = omega (arith, planar-rows (c .before .before .before .before .before .args .kind) (c .before .before .before .before .before .args .d) (λ q. omega arith) (omega arith))
 
@@ -49,18 +40,6 @@ same-length-4 c = c .before .ends-b2 .given
 returns-2 : tie.Need-returns-2
 returns-2 c = wrote-as (sym (circuit-gaps (c .before .before .before .before .before .before .before .before .before .before .before .args .kind) (c .before .before .before .before .before .before .before .before .before .before .before .args .d) (c .before .before .before .before .before .before .before .before .before .before .before .args .base) (c .before .before .before .before .before .before .before .if2 .taken))) (c .before .before .before .before .circuit-gap .ensures)
 
-sub-w : tie.Need-sub-w
-sub-w c = search needs
-
-add-w : tie.Need-add-w
-add-w c = search needs
-
-add-straight-rows-3 : tie.Need-add-straight-rows-3
-add-straight-rows-3 c = search needs
-
-add-straight-rows-4 : tie.Need-add-straight-rows-4
-add-straight-rows-4 c = search needs
-
 mul-straight-rows-2 : tie.Need-mul-straight-rows-2
 mul-straight-rows-2 c = omega (arith, rotated-rows (c .before .before .before .before .before .before .before .args .kind) (c .before .before .before .before .before .before .before .args .d) (omega arith), mul-comm (rotatedWidth (c .before .before .before .before .before .before .before .args .d)) (c .before .before .before .before .before .before .before .args .d + 1))
 
@@ -82,28 +61,4 @@ returns-4 : tie.Need-returns-4
 returns-4 c = wrote-as (sym (no-gaps (c .before .before .before .before .before .args .kind) (c .before .before .before .before .before .args .d) (c .before .before .before .before .before .args .base) (c .before .before .if1 .left) (c .before .if2 .left) (c .if3 .left))) wrote-none
 
 pub gap-edges-spec : {M : Type 1} → statement M
-gap-edges-spec =
-    tie.close
-    (tie.spec
-    sub-straight-rows
-    add-straight-rows
-    add-straight-rows-2
-    mul-straight-rows
-    straight-rows-requires
-    same-length
-    same-length-2
-    returns
-    circuit-gap-requires
-    same-length-3
-    same-length-4
-    returns-2
-    sub-w
-    add-w
-    add-straight-rows-3
-    add-straight-rows-4
-    mul-straight-rows-2
-    straight-rows-requires-2
-    same-length-5
-    same-length-6
-    returns-3
-    returns-4)
+gap-edges-spec = tie.close (tie.spec (λ c. search needs) (λ c. search needs) (λ c. search needs) mul-straight-rows straight-rows-requires same-length same-length-2 returns circuit-gap-requires same-length-3 same-length-4 returns-2 (λ c. search needs) (λ c. search needs) (λ c. search needs) (λ c. search needs) mul-straight-rows-2 straight-rows-requires-2 same-length-5 same-length-6 returns-3 returns-4)

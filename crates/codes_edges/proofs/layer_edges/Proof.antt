@@ -46,18 +46,4 @@ returns-3 : tie.Need-returns-3
 returns-3 c = wrote-as (sym (rotated-layers (c .before .before .before .before .before .before .before .before .before .before .before .args .kind) (c .before .before .before .before .before .before .before .before .before .before .before .args .d) (c .before .before .before .before .before .before .before .before .before .before .before .args .base) (c .before .before .before .before .before .before .before .if2 .left))) (c .before .before .before .before .rotated-layer .ensures)
 
 pub layer-edges-spec : {M : Type 1} → statement M
-layer-edges-spec =
-    tie.close
-    (tie.spec
-    row-edges-requires
-    same-length
-    same-length-2
-    returns
-    planar-layer-requires
-    same-length-3
-    same-length-4
-    returns-2
-    rotated-layer-requires
-    same-length-5
-    same-length-6
-    returns-3)
+layer-edges-spec = tie.close (tie.spec row-edges-requires same-length same-length-2 returns planar-layer-requires same-length-3 same-length-4 returns-2 rotated-layer-requires same-length-5 same-length-6 returns-3)

@@ -43,35 +43,11 @@ made-too c = created-too (c .before .before .before .before .before .before .bef
 open′ : (c : tie.Else1) → Open (c .before .before .before .before .before .before .before .before .before .before .before .before .before .before .before .before .before .before .args .kind) (c .before .before .before .before .before .before .before .before .before .before .before .before .before .before .before .before .before .before .args .d) (c .before .before .before .before .before .before .before .before .before .before .before .before .before .before .before .before .before .before .args .rounds) (lent (c .before .before .before .before .before .before .before .before .before .before .before .before .before .before .before .before .before .before))
 open′ c = opened (c .before .before .before .before .before .before .before .before .before .before .before .before .before .before .before .before .before .before .args .kind) (c .before .before .before .before .before .before .before .before .before .before .before .before .before .before .before .before .before .before .args .d) (c .before .before .before .before .before .before .before .before .before .before .before .before .before .before .before .before .before .before .args .rounds) (lent (c .before .before .before .before .before .before .before .before .before .before .before .before .before .before .before .before .before .before)) (made-too c)
 
-shortest-of-requires : tie.Need-shortest-of-requires
-shortest-of-requires c κs = tt
-
-shortest-of-requires-2 : tie.Need-shortest-of-requires-2
-shortest-of-requires-2 c κs = tt
-
-largest-weight-requires : tie.Need-largest-weight-requires
-largest-weight-requires c κs = tt
-
-new-refusal-requires : tie.Need-new-refusal-requires
-new-refusal-requires c κs = tt
-
 returns : tie.Need-returns
 returns c = refused (c .before .before .before .before .before .before .before .before .before .before .before .before .before .before .before .before .before .before .args .kind) (c .before .before .before .before .before .before .before .before .before .before .before .before .before .before .before .before .before .before .args .d) (c .before .before .before .before .before .before .before .before .before .before .before .before .before .before .before .before .before .before .args .rounds) (c .before .before .before .before .before .before .before .before .before .before .before .before .before .before .before .before .before .before .args .probability) (c .before .before .before .before .before .before .before .before .before .before .before .before .before .before .before .before .before .before .args .diagonal) (c .before .before .before .before .before .before .before .before .before .before .before .before .before .before .before .before .before .before .args .max-half-weight) _ _ (lent (c .before .before .before .before .before .before .before .before .before .before .before .before .before .before .before .before .before .before)) (q-is (c .before)) (c .if1 .taken)
 
 edge-count-requires : tie.Need-edge-count-requires
 edge-count-requires c κs = open′ c .code
-
-weighed-requires : tie.Need-weighed-requires
-weighed-requires c κs = tt
-
-diagonal-p-requires : tie.Need-diagonal-p-requires
-diagonal-p-requires c κs = tt
-
-weighed-requires-2 : tie.Need-weighed-requires-2
-weighed-requires-2 c κs = tt
-
-create-code-requires : tie.Need-create-code-requires
-create-code-requires c κs = tt
 
 weigh-edges-requires : tie.Need-weigh-edges-requires
 weigh-edges-requires c κs = weigh-room (c .before .before .before .before .before .before .before .before .before .before .before .before .before .before .before .before .before .before .before .before .before .before .before .before .before .before .before .before .before .before .before .before .before .before .before .before .before .before .before .before .before .before .before .before .before .before .before .before .before .before .before .before .before .before .before .before .before .before .before .before .before .before .before .before .before .before .before .before .before .args .kind) (c .before .before .before .before .before .before .before .before .before .before .before .before .before .before .before .before .before .before .before .before .before .before .before .before .before .before .before .before .before .before .before .before .before .before .before .before .before .before .before .before .before .before .before .before .before .before .before .before .before .before .before .before .before .before .before .before .before .before .before .before .before .before .before .before .before .before .before .before .before .args .d) (c .before .before .before .before .before .before .before .before .before .before .before .before .before .before .before .before .before .before .before .before .before .before .before .before .before .before .before .before .before .before .before .before .before .before .before .before .before .before .before .before .before .before .before .before .before .before .before .before .before .before .before .before .before .before .before .before .before .before .before .before .before .before .before .before .before .before .before .before .before .args .rounds) (lent (c .before .before .before .before .before .before .before .before .before .before .before .before .before .before .before .before .before .before .before .before .before .before .before .before .before .before .before .before .before .before .before .before .before .before .before .before .before .before .before .before .before .before .before .before .before .before .before .before .before .before .before .before .before .before .before .before .before .before .before .before .before .before .before .before .before .before .before .before .before)) _ _ _ _ (open′ (c .before .before .before .before .before .before .before .before .before .before .before .before .before .before .before .before .before .before .before .before .before .before .before .before .before .before .before .before .before .before .before .before .before .before .before .before .before .before .before .before .before .before .before .before .before .before .before .before .before .before .before)) (made-too (c .before .before .before .before .before .before .before .before .before .before .before .before .before .before .before .before .before .before .before .before .before .before .before .before .before .before .before .before .before .before .before .before .before .before .before .before .before .before .before .before .before .before .before .before .before .before .before .before .before .before .before)) (c .before .before .before .before .before .before .before .before .before .before .before .before .before .before .before .before .before .before .before .before .before .before .before .before .before .before .before .before .before .before .before .before .before .create-code .ensures) (c .before .before .before .before .before .before .before .before .before .before .before .before .before .before .before .before .before .before .before .before .before .before .before .before .before .before .before .before .before .before .before .before .before .before .before .before .before .before .before .before .before .before .before .before .before .before .before .before .before .before .edge-count .ensures)
@@ -82,14 +58,8 @@ same-length c = c .before .before .before .before .before .before .before .befor
 same-length-2 : tie.Need-same-length-2
 same-length-2 c = c .before .before .before .before .before .before .before .before .before .before .before .before .before .before .before .before .before .before .before .before .before .before .before .before .before .before .before .before .before .before .before .before .before .before .before .ends-b .given
 
-same-length-3 : tie.Need-same-length-3
-same-length-3 c = search needs
-
 same-length-4 : tie.Need-same-length-4
 same-length-4 c = c .before .before .before .before .before .before .before .before .before .before .before .before .before .before .before .before .before .before .before .before .before .before .before .before .before .before .before .before .before .before .before .pe .given
-
-same-length-5 : tie.Need-same-length-5
-same-length-5 c = search needs
 
 same-length-6 : tie.Need-same-length-6
 same-length-6 c = c .before .before .before .before .before .before .before .before .before .before .before .before .before .before .before .before .before .before .before .before .before .before .before .before .before .before .before .erasure .given
@@ -123,31 +93,4 @@ returns-2 c =
     (c .before .before .before .before .weigh-edges .ensures)
 
 pub build-spec : {M : Type 1} → statement M
-build-spec =
-    tie.close
-    (tie.spec
-    shortest-of-requires
-    shortest-of-requires-2
-    largest-weight-requires
-    new-refusal-requires
-    returns
-    edge-count-requires
-    weighed-requires
-    diagonal-p-requires
-    weighed-requires-2
-    create-code-requires
-    weigh-edges-requires
-    same-length
-    same-length-2
-    same-length-3
-    same-length-4
-    same-length-5
-    same-length-6
-    same-length-7
-    same-length-8
-    same-length-9
-    same-length-10
-    same-length-11
-    same-length-12
-    same-length-13
-    returns-2)
+build-spec = tie.close (tie.spec (λ c κs. tt) (λ c κs. tt) (λ c κs. tt) (λ c κs. tt) returns edge-count-requires (λ c κs. tt) (λ c κs. tt) (λ c κs. tt) (λ c κs. tt) weigh-edges-requires same-length same-length-2 (λ c. search needs) same-length-4 (λ c. search needs) same-length-6 same-length-7 same-length-8 same-length-9 same-length-10 same-length-11 same-length-12 same-length-13 returns-2)

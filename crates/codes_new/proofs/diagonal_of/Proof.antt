@@ -7,9 +7,6 @@ use Rattle.weights_diagonal.specs.declared.DiagonalProbability.the-variants.{No
 use Rattle.codes_new.proofs.diagonal_of.Statement.{statement}
 use Rattle.codes_new.proofs.diagonal_of.Tie as tie
 
-new-diagonal-probability-requires : tie.Need-new-diagonal-probability-requires
-new-diagonal-probability-requires c κs = tt
-
 returns : tie.Need-returns
 returns c =
     let s = c .before .before .args in
@@ -21,4 +18,4 @@ returns-2 c =
     sym (ap (λ (b : Bool). cond b (newDiagonal (s .p)) None) (ne-eqb (s .kind) 4 (c .if1 .left)))
 
 pub diagonal-of-spec : {M : Type 1} → statement M
-diagonal-of-spec = tie.close (tie.spec new-diagonal-probability-requires returns returns-2)
+diagonal-of-spec = tie.close (tie.spec (λ c κs. tt) returns returns-2)

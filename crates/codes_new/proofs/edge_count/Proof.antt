@@ -10,8 +10,5 @@ edge-num-requires c κs =
     let ok = accepted (c .args .kind) (c .args .d) (c .args .rounds) 0 (c .pre) .0 in
     omega (arith, ok .distance .three, ok .distance .few, ok .few-rounds)
 
-returns : tie.Need-returns
-returns c = search needs
-
 pub edge-count-spec : {M : Type 1} → statement M
-edge-count-spec = tie.close (tie.spec edge-num-requires returns)
+edge-count-spec = tie.close (tie.spec edge-num-requires (λ c. search needs))

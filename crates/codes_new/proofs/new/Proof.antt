@@ -5,9 +5,6 @@ use Rattle.codes_new.proofs.Outcome.{diagonal-kind, with-diagonal}
 use Rattle.codes_new.proofs.new.Statement.{statement}
 use Rattle.codes_new.proofs.new.Tie as tie
 
-diagonal-of-requires : tie.Need-diagonal-of-requires
-diagonal-of-requires c κs = tt
-
 build-requires : tie.Need-build-requires
 build-requires c κs = subst (DiagonalKind (c .before .before .before .before .before .before .before .before .before .before .before .before .before .before .before .before .before .before .before .before .before .before .before .before .before .before .before .args .kind)) (sym (c .before .before .before .before .before .before .before .before .before .before .before .before .before .diagonal-of .ensures)) (diagonal-kind (c .before .before .before .before .before .before .before .before .before .before .before .before .before .before .before .before .before .before .before .before .before .before .before .before .before .before .before .args .kind) (c .before .before .before .before .before .before .before .before .before .before .before .before .before .before .before .before .before .before .before .before .before .before .before .before .before .before .before .args .probability))
 
@@ -54,22 +51,4 @@ returns : tie.Need-returns
 returns c = with-diagonal _ _ (c .before .before .before .before .before .before .before .before .before .before .before .before .before .before .before .before .before .before .before .before .before .before .before .before .before .before .before .before .before .before .before .before .before .before .before .before .before .before .before .before .diagonal-of .ensures) (c .before .before .before .before .before .before .before .before .before .before .before .before .before .before .before .before .before .before .before .before .before .before .before .before .before .before .build .ensures)
 
 pub new-spec : {M : Type 1} → statement M
-new-spec =
-    tie.close
-    (tie.spec
-    diagonal-of-requires
-    build-requires
-    same-length
-    same-length-2
-    same-length-3
-    same-length-4
-    same-length-5
-    same-length-6
-    same-length-7
-    same-length-8
-    same-length-9
-    same-length-10
-    same-length-11
-    same-length-12
-    same-length-13
-    returns)
+new-spec = tie.close (tie.spec (λ c κs. tt) build-requires same-length same-length-2 same-length-3 same-length-4 same-length-5 same-length-6 same-length-7 same-length-8 same-length-9 same-length-10 same-length-11 same-length-12 same-length-13 returns)

@@ -47,25 +47,5 @@ same-length-12 c = c .before .before .before .list-lengths .given
 same-length-13 : tie.Need-same-length-13
 same-length-13 c = c .before .neighbor-numbers .given
 
-returns : tie.Need-returns
-returns c = search needs
-
 pub new-diagonal-spec : {M : Type 1} → statement M
-new-diagonal-spec =
-    tie.close
-    (tie.spec
-    build-requires
-    same-length
-    same-length-2
-    same-length-3
-    same-length-4
-    same-length-5
-    same-length-6
-    same-length-7
-    same-length-8
-    same-length-9
-    same-length-10
-    same-length-11
-    same-length-12
-    same-length-13
-    returns)
+new-diagonal-spec = tie.close (tie.spec build-requires same-length same-length-2 same-length-3 same-length-4 same-length-5 same-length-6 same-length-7 same-length-8 same-length-9 same-length-10 same-length-11 same-length-12 same-length-13 (λ c. search needs))

@@ -11,12 +11,6 @@ use Rattle.codes_weights.specs.Steps.{doorNumber}
 use Rattle.codes_new.proofs.new_refusal.Statement.{statement}
 use Rattle.codes_new.proofs.new_refusal.Tie as tie
 
-refusal-of-requires : tie.Need-refusal-of-requires
-refusal-of-requires c κs = tt
-
-weights-refusal-requires : tie.Need-weights-refusal-requires
-weights-refusal-requires c κs = tt
-
 returns : tie.Need-returns
 returns c =
     let s = c .before .before .args in
@@ -24,4 +18,4 @@ returns c =
     ∙ ap (λ (q : ℕ). doorNumber q (isLargestHalfWeight (s .max-half-weight)) (isProbability (s .p) && isDiagonalProbability (s .diagonal)) (lt zeroFloat (s .largest))) (c .before .refusal-of .ensures)
 
 pub new-refusal-spec : {M : Type 1} → statement M
-new-refusal-spec = tie.close (tie.spec refusal-of-requires weights-refusal-requires returns)
+new-refusal-spec = tie.close (tie.spec (λ c κs. tt) (λ c κs. tt) returns)

@@ -8,32 +8,9 @@ use borrow.Author.Needs.{needs}
 use Rattle.codes_planar.proofs.deep_vertex.Statement.{statement}
 use Rattle.codes_planar.proofs.deep_vertex.Tie as tie
 
-planar-boundary-requires : tie.Need-planar-boundary-requires
-planar-boundary-requires c κs = search needs
-
-planar-across-requires : tie.Need-planar-across-requires
-planar-across-requires c κs = tt
-
-int-to-float-new : tie.Need-int-to-float-new
-int-to-float-new c = search needs
-
-int-to-float-new-2 : tie.Need-int-to-float-new-2
-int-to-float-new-2 c = search needs
-
-new-requires : tie.Need-new-requires
-new-requires c κs = tt
-
 returns : tie.Need-returns
 unfolding deepVertex
 returns c = (λ k. record { boundary = c .before .before .before .before .planar-boundary .ensures k; position = (c .new .ensures ∙ ap (λ (x : Float). position (float (c .before .before .before .before .before .args .row)) (add binary64 x half) (float (c .before .before .before .before .before .args .t))) (c .before .before .before .planar-across .ensures)) k })
 
 pub deep-vertex-spec : {M : Type 1} → statement M
-deep-vertex-spec =
-    tie.close
-    (tie.spec
-    planar-boundary-requires
-    planar-across-requires
-    int-to-float-new
-    int-to-float-new-2
-    new-requires
-    returns)
+deep-vertex-spec = tie.close (tie.spec (λ c κs. search needs) (λ c κs. tt) (λ c. search needs) (λ c. search needs) (λ c κs. tt) returns)

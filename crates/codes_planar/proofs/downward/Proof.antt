@@ -4,12 +4,6 @@ use borrow.Author.Needs.{needs}
 use Rattle.codes_planar.proofs.downward.Statement.{statement}
 use Rattle.codes_planar.proofs.downward.Tie as tie
 
-add-if1 : tie.Need-add-if1
-add-if1 c = search needs
-
-sub-result : tie.Need-sub-result
-sub-result c = search needs
-
 returns : tie.Need-returns
 returns c = (simp (lt-ltb _ _ (c .if1 .taken)), search needs)
 
@@ -17,4 +11,4 @@ returns-2 : tie.Need-returns-2
 returns-2 c = (simp (le-ltb _ _ (c .if1 .left)), search needs)
 
 pub downward-spec : {M : Type 1} → statement M
-downward-spec = tie.close (tie.spec add-if1 sub-result returns returns-2)
+downward-spec = tie.close (tie.spec (λ c. search needs) (λ c. search needs) returns returns-2)

@@ -9,12 +9,9 @@ returns : tie.Need-returns
 unfolding planarAcross
 returns c = simp (eq-eqb _ _ (c .if1 .taken))
 
-int-to-float-result : tie.Need-int-to-float-result
-int-to-float-result c = search needs
-
 returns-2 : tie.Need-returns-2
 unfolding planarAcross
 returns-2 c = simp (ne-eqb _ _ (c .before .if1 .left))
 
 pub planar-across-spec : {M : Type 1} → statement M
-planar-across-spec = tie.close (tie.spec returns int-to-float-result returns-2)
+planar-across-spec = tie.close (tie.spec returns (λ c. search needs) returns-2)

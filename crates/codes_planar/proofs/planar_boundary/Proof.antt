@@ -9,9 +9,6 @@ returns : tie.Need-returns
 unfolding planarBoundary
 returns c = simp (eq-eqb _ _ (c .if1 .taken))
 
-add-if2 : tie.Need-add-if2
-add-if2 c = search needs
-
 returns-2 : tie.Need-returns-2
 unfolding planarBoundary
 returns-2 c = simp (ne-eqb _ _ (c .before .if1 .left), eq-eqb _ _ (c .if2 .taken))
@@ -21,4 +18,4 @@ unfolding planarBoundary
 returns-3 c = simp (ne-eqb _ _ (c .before .if1 .left), ne-eqb _ _ (c .if2 .left))
 
 pub planar-boundary-spec : {M : Type 1} → statement M
-planar-boundary-spec = tie.close (tie.spec returns add-if2 returns-2 returns-3)
+planar-boundary-spec = tie.close (tie.spec returns (λ c. search needs) returns-2 returns-3)

@@ -23,12 +23,6 @@ planar-row-requires : tie.Need-planar-row-requires Inv-loop μ-loop
 unfolding planarLayer
 planar-row-requires c κs = (joined-fits (λ k. planarRow (c .before .before .before .before .before .before .args .d) (c .before .before .before .before .before .before .args .base) k) (c .before .before .before .before .before .before .args .d) (c .before .before .before .before .before .before .pre .0) (c .before .before .before .loop .inv .1) (c .before .before .loop-test .taken), omega (arith, c .before .before .before .before .before .before .pre .1, row-room (c .before .before .before .before .before .before .args .d) (c .before .before .before .before .before .before .args .d + 1) (c .before .before .loop-test .taken)))
 
-add-row : tie.Need-add-row Inv-loop μ-loop
-add-row c = search needs
-
-loop-less : tie.Need-loop-less Inv-loop μ-loop
-loop-less c = search needs
-
 loop-again : tie.Need-loop-again Inv-loop μ-loop
 loop-again c = (omega arith, joined-turn (λ k. planarRow (c .before .before .before .before .before .before .before .before .before .before .before .args .d) (c .before .before .before .before .before .before .before .before .before .before .before .args .base) k) (c .before .before .before .before .before .before .before .before .loop .inv .1) (c .before .before .before .before .planar-row .ensures))
 
@@ -43,16 +37,4 @@ unfolding planarLayer
 returns c = joined-end _ (c .before .loop .inv .1) (c .before .loop .inv .0) (c .loop-test .left)
 
 pub planar-layer-spec : {M : Type 1} → statement M
-planar-layer-spec =
-    tie.close
-    (tie.spec
-    Inv-loop
-    μ-loop
-    loop-holds
-    planar-row-requires
-    add-row
-    loop-less
-    loop-again
-    same-length
-    same-length-2
-    returns)
+planar-layer-spec = tie.close (tie.spec Inv-loop μ-loop loop-holds planar-row-requires (λ c. search needs) (λ c. search needs) loop-again same-length same-length-2 returns)

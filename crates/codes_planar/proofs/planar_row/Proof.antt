@@ -8,23 +8,8 @@ use borrow.Author.Needs.{needs}
 use Rattle.codes_planar.proofs.planar_row.Statement.{statement}
 use Rattle.codes_planar.proofs.planar_row.Tie as tie
 
-add-bias : tie.Need-add-bias
-add-bias c = search needs
-
-mul-bias : tie.Need-mul-bias
-mul-bias c = search needs
-
-add-bias-2 : tie.Need-add-bias-2
-add-bias-2 c = search needs
-
-downward-requires : tie.Need-downward-requires
-downward-requires c κs = search needs
-
 row-edges-requires : tie.Need-row-edges-requires
 row-edges-requires c κs = (room-first _ _ (room-as (row-parts (c .before .before .before .before .before .args .d) (c .before .before .before .before .before .args .base) (c .before .before .before .before .before .args .row) (c .before .before .downward .ensures .0)) (c .before .before .before .before .before .pre .0)), omega (arith, c .before .before .before .before .before .pre .1))
-
-add-straight-edges : tie.Need-add-straight-edges
-add-straight-edges c = search needs
 
 straight-edges-requires : tie.Need-straight-edges-requires
 straight-edges-requires c κs = (room-then _ (room-as (row-parts (c .before .before .before .before .before .before .before .before .before .before .before .before .args .d) (c .before .before .before .before .before .before .before .before .before .before .before .before .args .base) (c .before .before .before .before .before .before .before .before .before .before .before .before .args .row) (c .before .before .before .before .before .before .before .before .before .downward .ensures .0)) (c .before .before .before .before .before .before .before .before .before .before .before .before .pre .0)) (c .before .before .before .before .before .before .row-edges .ensures), omega arith)
@@ -39,16 +24,4 @@ returns : tie.Need-returns
 returns c = wrote-as (sym (row-parts (c .before .before .before .before .before .before .before .before .before .before .before .before .before .before .before .before .before .args .d) (c .before .before .before .before .before .before .before .before .before .before .before .before .before .before .before .before .before .args .base) (c .before .before .before .before .before .before .before .before .before .before .before .before .before .before .before .before .before .args .row) (c .before .before .before .before .before .before .before .before .before .before .before .before .before .before .downward .ensures .0))) (wrote-then (c .before .before .before .before .before .before .before .before .before .before .before .row-edges .ensures) (c .before .before .before .before .straight-edges .ensures))
 
 pub planar-row-spec : {M : Type 1} → statement M
-planar-row-spec =
-    tie.close
-    (tie.spec
-    add-bias
-    mul-bias
-    add-bias-2
-    downward-requires
-    row-edges-requires
-    add-straight-edges
-    straight-edges-requires
-    same-length
-    same-length-2
-    returns)
+planar-row-spec = tie.close (tie.spec (λ c. search needs) (λ c. search needs) (λ c. search needs) (λ c κs. search needs) row-edges-requires (λ c. search needs) straight-edges-requires same-length same-length-2 returns)

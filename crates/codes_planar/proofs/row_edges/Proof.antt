@@ -21,33 +21,12 @@ loop-holds : tie.Need-loop-holds Inv-loop μ-loop
 unfolding each
 loop-holds c = (omega arith, wrote-none)
 
-sub-loop : tie.Need-sub-loop Inv-loop μ-loop
-sub-loop c = search needs
-
-add-t8 : tie.Need-add-t8 Inv-loop μ-loop
-add-t8 c = search needs
-
-add-t15 : tie.Need-add-t15 Inv-loop μ-loop
-add-t15 c = search needs
-
-add-t16 : tie.Need-add-t16 Inv-loop μ-loop
-add-t16 c = search needs
-
 push-requires : tie.Need-push-requires Inv-loop μ-loop
 unfolding rowEdges
 push-requires c κs = each-fits (λ k. (c .before .before .before .before .before .before .args .bias + k, c .before .before .before .before .before .before .args .bias + k + 1)) (c .before .before .before .before .before .before .args .d - 1) (room-first _ _ (c .before .before .before .before .before .before .pre .0)) (c .before .before .before .loop .inv .1) (c .before .before .loop-test .taken)
 
-add-i : tie.Need-add-i Inv-loop μ-loop
-add-i c = search needs
-
-loop-less : tie.Need-loop-less Inv-loop μ-loop
-loop-less c = search needs
-
 loop-again : tie.Need-loop-again Inv-loop μ-loop
 loop-again c = (omega arith, each-turn (λ k. (c .before .before .before .before .before .before .before .before .before .before .before .args .bias + k, c .before .before .before .before .before .before .before .before .before .before .before .args .bias + k + 1)) (c .before .before .before .before .before .before .before .before .loop .inv .1) (c .before .before .before .before .push .ensures))
-
-add-t23 : tie.Need-add-t23 Inv-loop μ-loop
-add-t23 c = search needs
 
 push-requires-2 : tie.Need-push-requires-2 Inv-loop μ-loop
 unfolding rowEdges
@@ -66,22 +45,4 @@ unfolding rowEdges
 returns c = wrote-then (each-end _ (c .before .before .before .before .before .before .before .before .loop .inv .1) (c .before .before .before .before .before .before .before .before .loop .inv .0) (c .before .before .before .before .before .before .before .loop-test .left)) (c .before .before .before .before .push2 .ensures)
 
 pub row-edges-spec : {M : Type 1} → statement M
-row-edges-spec =
-    tie.close
-    (tie.spec
-    Inv-loop
-    μ-loop
-    loop-holds
-    sub-loop
-    add-t8
-    add-t15
-    add-t16
-    push-requires
-    add-i
-    loop-less
-    loop-again
-    add-t23
-    push-requires-2
-    same-length
-    same-length-2
-    returns)
+row-edges-spec = tie.close (tie.spec Inv-loop μ-loop loop-holds (λ c. search needs) (λ c. search needs) (λ c. search needs) (λ c. search needs) push-requires (λ c. search needs) (λ c. search needs) loop-again (λ c. search needs) push-requires-2 same-length same-length-2 returns)

@@ -7,15 +7,9 @@ use Rattle.codes_layers.specs.Accepts.{distanceSound}
 use Rattle.codes_questions.proofs.distance_sound.Statement.{statement}
 use Rattle.codes_questions.proofs.distance_sound.Tie as tie
 
-both-requires : tie.Need-both-requires
-both-requires c κs = tt
-
-both-requires-2 : tie.Need-both-requires-2
-both-requires-2 c κs = tt
-
 returns : tie.Need-returns
 unfolding distanceSound
 returns c = c .both2 .ensures ∙ ap (λ (b : Bool). eqb (c .before .before .args .d % 2) 1 && b) (c .before .both .ensures)
 
 pub distance-sound-spec : {M : Type 1} → statement M
-distance-sound-spec = tie.close (tie.spec both-requires both-requires-2 returns)
+distance-sound-spec = tie.close (tie.spec (λ c κs. tt) (λ c κs. tt) returns)

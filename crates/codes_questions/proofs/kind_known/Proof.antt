@@ -3,12 +3,9 @@ use Rattle.codes_layers.specs.Accepts.{kindKnown}
 use Rattle.codes_questions.proofs.kind_known.Statement.{statement}
 use Rattle.codes_questions.proofs.kind_known.Tie as tie
 
-both-requires : tie.Need-both-requires
-both-requires c κs = tt
-
 returns : tie.Need-returns
 unfolding kindKnown
 returns c = c .both .ensures
 
 pub kind-known-spec : {M : Type 1} → statement M
-kind-known-spec = tie.close (tie.spec both-requires returns)
+kind-known-spec = tie.close (tie.spec (λ c κs. tt) returns)

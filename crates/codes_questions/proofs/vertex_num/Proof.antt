@@ -6,9 +6,6 @@ use Rattle.columns_answers.proofs.Said.{accepts-of, refuses-of}
 use Rattle.codes_questions.proofs.vertex_num.Statement.{statement}
 use Rattle.codes_questions.proofs.vertex_num.Tie as tie
 
-code-refusal-requires : tie.Need-code-refusal-requires
-code-refusal-requires c κs = tt
-
 returns : tie.Need-returns
 returns c = refuses-of (c .before .code-refusal .ensures) (c .if1 .taken)
 
@@ -26,5 +23,4 @@ returns-2 : tie.Need-returns-2
 returns-2 c = rw (c .vertex-num .ensures) (accepts-of (sym (c .before .before .code-refusal .ensures) ∙ c .before .if1 .left))
 
 pub vertex-num-spec : {M : Type 1} → statement M
-vertex-num-spec =
-    tie.close (tie.spec code-refusal-requires returns vertex-num-requires cast-t7 returns-2)
+vertex-num-spec = tie.close (tie.spec (λ c κs. tt) returns vertex-num-requires cast-t7 returns-2)

@@ -5,9 +5,6 @@ use borrow.Author.Needs.{needs}
 use Rattle.codes_rotated.proofs.rotated_boundary.Statement.{statement}
 use Rattle.codes_rotated.proofs.rotated_boundary.Tie as tie
 
-add-if2 : tie.Need-add-if2
-add-if2 c = search needs
-
 returns : tie.Need-returns
 unfolding rotatedBoundary
 returns c = simp (eq-eqb _ _ (c .before .if1 .taken), eq-eqb _ _ (c .if2 .taken))
@@ -25,4 +22,4 @@ unfolding rotatedBoundary
 returns-4 c = simp (ne-eqb _ _ (c .before .if1 .left), ne-eqb _ _ (c .if3 .left))
 
 pub rotated-boundary-spec : {M : Type 1} → statement M
-rotated-boundary-spec = tie.close (tie.spec add-if2 returns returns-2 returns-3 returns-4)
+rotated-boundary-spec = tie.close (tie.spec (λ c. search needs) returns returns-2 returns-3 returns-4)

@@ -24,12 +24,6 @@ rotated-row-requires : tie.Need-rotated-row-requires Inv-loop μ-loop
 unfolding rotatedLayer
 rotated-row-requires c κs = (joined-fits (λ k. rotatedRow (c .before .before .before .before .before .before .args .d) (c .before .before .before .before .before .before .args .base) k) (c .before .before .before .before .before .before .args .d) (c .before .before .before .before .before .before .pre .0) (c .before .before .before .loop .inv .1) (c .before .before .loop-test .taken), omega (arith, c .before .before .before .before .before .before .pre .1, row-room (c .before .before .before .before .before .before .args .d) (rotatedWidth (c .before .before .before .before .before .before .args .d)) (c .before .before .loop-test .taken), mul-comm (rotatedWidth (c .before .before .before .before .before .before .args .d)) (c .before .before .before .before .before .before .args .d + 1)))
 
-add-row : tie.Need-add-row Inv-loop μ-loop
-add-row c = search needs
-
-loop-less : tie.Need-loop-less Inv-loop μ-loop
-loop-less c = search needs
-
 loop-again : tie.Need-loop-again Inv-loop μ-loop
 loop-again c = (omega arith, joined-turn (λ k. rotatedRow (c .before .before .before .before .before .before .before .before .before .before .before .args .d) (c .before .before .before .before .before .before .before .before .before .before .before .args .base) k) (c .before .before .before .before .before .before .before .before .loop .inv .1) (c .before .before .before .before .rotated-row .ensures))
 
@@ -44,16 +38,4 @@ unfolding rotatedLayer
 returns c = joined-end _ (c .before .loop .inv .1) (c .before .loop .inv .0) (c .loop-test .left)
 
 pub rotated-layer-spec : {M : Type 1} → statement M
-rotated-layer-spec =
-    tie.close
-    (tie.spec
-    Inv-loop
-    μ-loop
-    loop-holds
-    rotated-row-requires
-    add-row
-    loop-less
-    loop-again
-    same-length
-    same-length-2
-    returns)
+rotated-layer-spec = tie.close (tie.spec Inv-loop μ-loop loop-holds rotated-row-requires (λ c. search needs) (λ c. search needs) loop-again same-length same-length-2 returns)

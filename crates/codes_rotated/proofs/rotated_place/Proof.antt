@@ -9,19 +9,13 @@ returns : tie.Need-returns
 unfolding rotatedPlace
 returns c = (simp (eq-eqb _ _ (c .if1 .taken)), search needs)
 
-sub-result : tie.Need-sub-result
-sub-result c = search needs
-
 returns-2 : tie.Need-returns-2
 unfolding rotatedPlace
 returns-2 c = (simp (ne-eqb _ _ (c .before .if1 .left), c .if2 .taken), search needs)
-
-add-result : tie.Need-add-result
-add-result c = search needs
 
 returns-3 : tie.Need-returns-3
 unfolding rotatedPlace
 returns-3 c = (simp (ne-eqb _ _ (c .before .if1 .left), c .if2 .left), search needs)
 
 pub rotated-place-spec : {M : Type 1} → statement M
-rotated-place-spec = tie.close (tie.spec returns sub-result returns-2 add-result returns-3)
+rotated-place-spec = tie.close (tie.spec returns (λ c. search needs) returns-2 (λ c. search needs) returns-3)

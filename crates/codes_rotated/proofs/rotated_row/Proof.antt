@@ -16,46 +16,13 @@ Inv-loop ends-a₀ ends-b₀ at d base row w bias even odd next₀ i₀ ends-a e
 abbrev μ-loop : tie.MeasureT-loop
 μ-loop ends-a₀ ends-b₀ at d base row w bias even odd next₀ i₀ ends-a ends-b next i = d - i
 
-sub-w : tie.Need-sub-w Inv-loop μ-loop
-sub-w c = search needs
-
-add-w : tie.Need-add-w Inv-loop μ-loop
-add-w c = search needs
-
-mul-bias : tie.Need-mul-bias Inv-loop μ-loop
-mul-bias c = search needs
-
-add-bias : tie.Need-add-bias Inv-loop μ-loop
-add-bias c = search needs
-
 loop-holds : tie.Need-loop-holds Inv-loop μ-loop
 unfolding each
 loop-holds c = (omega arith, wrote-none)
 
-rotated-place-requires : tie.Need-rotated-place-requires Inv-loop μ-loop
-rotated-place-requires c κs = search needs
-
-add-a : tie.Need-add-a Inv-loop μ-loop
-add-a c = search needs
-
-add-b : tie.Need-add-b Inv-loop μ-loop
-add-b c = search needs
-
-rotated-place-requires-2 : tie.Need-rotated-place-requires-2 Inv-loop μ-loop
-rotated-place-requires-2 c κs = search needs
-
-add-b-2 : tie.Need-add-b-2 Inv-loop μ-loop
-add-b-2 c = search needs
-
 push-requires : tie.Need-push-requires Inv-loop μ-loop
 unfolding rotatedRow
 push-requires c κs = each-fits (λ k. rotatedEdge (rotatedWidth (c .before .before .before .before .before .before .before .before .args .d)) (c .before .before .before .before .before .before .before .before .args .base + c .before .before .before .before .before .before .before .before .args .row * rotatedWidth (c .before .before .before .before .before .before .before .before .args .d)) (c .before .before .before .before .before .before .before .before .args .row) k) (c .before .before .before .before .before .before .before .before .args .d) (c .before .before .before .before .before .before .before .before .pre .0) (c .before .before .before .before .before .loop .inv .1) (c .before .before .before .before .loop-test .taken)
-
-add-i : tie.Need-add-i Inv-loop μ-loop
-add-i c = search needs
-
-loop-less : tie.Need-loop-less Inv-loop μ-loop
-loop-less c = search needs
 
 loop-again : tie.Need-loop-again Inv-loop μ-loop
 unfolding rotatedEdge
@@ -72,25 +39,4 @@ unfolding rotatedRow
 returns c = each-end _ (c .before .loop .inv .1) (c .before .loop .inv .0) (c .loop-test .left)
 
 pub rotated-row-spec : {M : Type 1} → statement M
-rotated-row-spec =
-    tie.close
-    (tie.spec
-    Inv-loop
-    μ-loop
-    sub-w
-    add-w
-    mul-bias
-    add-bias
-    loop-holds
-    rotated-place-requires
-    add-a
-    add-b
-    rotated-place-requires-2
-    add-b-2
-    push-requires
-    add-i
-    loop-less
-    loop-again
-    same-length
-    same-length-2
-    returns)
+rotated-row-spec = tie.close (tie.spec Inv-loop μ-loop (λ c. search needs) (λ c. search needs) (λ c. search needs) (λ c. search needs) loop-holds (λ c κs. search needs) (λ c. search needs) (λ c. search needs) (λ c κs. search needs) (λ c. search needs) push-requires (λ c. search needs) (λ c. search needs) loop-again same-length same-length-2 returns)

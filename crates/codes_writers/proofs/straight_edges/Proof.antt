@@ -19,24 +19,9 @@ loop-holds : tie.Need-loop-holds Inv-loop μ-loop
 unfolding each
 loop-holds c = (omega arith, wrote-none)
 
-add-t14 : tie.Need-add-t14 Inv-loop μ-loop
-add-t14 c = search needs
-
-add-t16 : tie.Need-add-t16 Inv-loop μ-loop
-add-t16 c = search needs
-
-add-t17 : tie.Need-add-t17 Inv-loop μ-loop
-add-t17 c = search needs
-
 push-requires : tie.Need-push-requires Inv-loop μ-loop
 unfolding straightEdges
 push-requires c κs = each-fits (λ k. (c .before .before .before .before .before .before .args .bias + k, c .before .before .before .before .before .before .args .bias + k + c .before .before .before .before .before .before .args .far)) (c .before .before .before .before .before .before .args .n) (c .before .before .before .before .before .before .pre .0) (c .before .before .before .loop .inv .1) (c .before .before .loop-test .taken)
-
-add-i : tie.Need-add-i Inv-loop μ-loop
-add-i c = search needs
-
-loop-less : tie.Need-loop-less Inv-loop μ-loop
-loop-less c = search needs
 
 loop-again : tie.Need-loop-again Inv-loop μ-loop
 loop-again c = (omega arith, each-turn (λ k. (c .before .before .before .before .before .before .before .before .before .before .before .args .bias + k, c .before .before .before .before .before .before .before .before .before .before .before .args .bias + k + c .before .before .before .before .before .before .before .before .before .before .before .args .far)) (c .before .before .before .before .before .before .before .before .loop .inv .1) (c .before .before .before .before .push .ensures))
@@ -52,19 +37,4 @@ unfolding straightEdges
 returns c = each-end _ (c .before .loop .inv .1) (c .before .loop .inv .0) (c .loop-test .left)
 
 pub straight-edges-spec : {M : Type 1} → statement M
-straight-edges-spec =
-    tie.close
-    (tie.spec
-    Inv-loop
-    μ-loop
-    loop-holds
-    add-t14
-    add-t16
-    add-t17
-    push-requires
-    add-i
-    loop-less
-    loop-again
-    same-length
-    same-length-2
-    returns)
+straight-edges-spec = tie.close (tie.spec Inv-loop μ-loop loop-holds (λ c. search needs) (λ c. search needs) (λ c. search needs) push-requires (λ c. search needs) (λ c. search needs) loop-again same-length same-length-2 returns)

@@ -29,12 +29,6 @@ straight-edges-requires : tie.Need-straight-edges-requires Inv-loop μ-loop
 unfolding straightRows
 straight-edges-requires c κs = (joined-fits (λ k. straightEdges (c .before .before .before .before .before .before .args .n) (c .before .before .before .before .before .before .args .base + k * c .before .before .before .before .before .before .args .w) (c .before .before .before .before .before .before .args .far)) (c .before .before .before .before .before .before .args .rows) (c .before .before .before .before .before .before .pre .0) (c .before .before .before .loop .inv .1) (c .before .before .loop-test .taken), omega (arith, row-room (c .before .before .before .before .before .before .args .rows) (c .before .before .before .before .before .before .args .w) (c .before .before .loop-test .taken)))
 
-add-row : tie.Need-add-row Inv-loop μ-loop
-add-row c = search needs
-
-loop-less : tie.Need-loop-less Inv-loop μ-loop
-loop-less c = search needs
-
 loop-again : tie.Need-loop-again Inv-loop μ-loop
 loop-again c = (omega arith, joined-turn (λ k. straightEdges (c .before .before .before .before .before .before .before .before .before .before .before .args .n) (c .before .before .before .before .before .before .before .before .before .before .before .args .base + k * c .before .before .before .before .before .before .before .before .before .before .before .args .w) (c .before .before .before .before .before .before .before .before .before .before .before .args .far)) (c .before .before .before .before .before .before .before .before .loop .inv .1) (c .before .before .before .before .straight-edges .ensures))
 
@@ -49,18 +43,4 @@ unfolding straightRows
 returns c = joined-end _ (c .before .loop .inv .1) (c .before .loop .inv .0) (c .loop-test .left)
 
 pub straight-rows-spec : {M : Type 1} → statement M
-straight-rows-spec =
-    tie.close
-    (tie.spec
-    Inv-loop
-    μ-loop
-    loop-holds
-    mul-straight-edges
-    add-straight-edges
-    straight-edges-requires
-    add-row
-    loop-less
-    loop-again
-    same-length
-    same-length-2
-    returns)
+straight-rows-spec = tie.close (tie.spec Inv-loop μ-loop loop-holds mul-straight-edges add-straight-edges straight-edges-requires (λ c. search needs) (λ c. search needs) loop-again same-length same-length-2 returns)

@@ -8,9 +8,6 @@ use Rattle.columns.proofs.done_of.Tie as tie
 use Rattle.columns.proofs.done_of.Reads as reads
 use Rattle.columns.proofs.done_of.Lts as lts
 
-returns : tie.Need-returns
-returns c = search needs
-
 nonzero : (n : ℕ) → (n ≡ 0 → ⊥) → Refused n ≡ done n
 nonzero zero f = absurd (f refl)
 nonzero (suc n) f = refl
@@ -19,4 +16,4 @@ returns-2 : tie.Need-returns-2
 returns-2 c = nonzero (c .before .args .number) (c .if1 .left)
 
 pub done-of-spec : {M : Type 1} → statement M
-done-of-spec = tie.close (tie.spec returns returns-2)
+done-of-spec = tie.close (tie.spec (λ c. search needs) returns-2)

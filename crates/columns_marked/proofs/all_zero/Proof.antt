@@ -22,21 +22,6 @@ abbrev μ-loop : tie.MeasureT-loop
 loop-holds : tie.Need-loop-holds Inv-loop μ-loop
 loop-holds c = (search needs, λ e. ap (λ (n : ℕ). marked n (c .before .args .bytes .now)) (add-zero (c .before .args .at)))
 
-add-both : tie.Need-add-both Inv-loop μ-loop
-add-both c = search needs
-
-shared-slice-read-both : tie.Need-shared-slice-read-both Inv-loop μ-loop
-shared-slice-read-both c = search needs
-
-both-requires : tie.Need-both-requires Inv-loop μ-loop
-both-requires c κs = search needs
-
-add-i : tie.Need-add-i Inv-loop μ-loop
-add-i c = search needs
-
-loop-less : tie.Need-loop-less Inv-loop μ-loop
-loop-less c = search needs
-
 loop-again : tie.Need-loop-again Inv-loop μ-loop
 loop-again c =
     let s = c .before .before .before .before .before .args in
@@ -57,16 +42,4 @@ returns c =
     λ e. ap (λ (n : ℕ). marked n (s .bytes .now)) last ∙ at .inv .1 e
 
 pub all-zero-spec : {M : Type 1} → statement M
-all-zero-spec =
-    tie.close
-    (tie.spec
-    Inv-loop
-    μ-loop
-    loop-holds
-    add-both
-    shared-slice-read-both
-    both-requires
-    add-i
-    loop-less
-    loop-again
-    returns)
+all-zero-spec = tie.close (tie.spec Inv-loop μ-loop loop-holds (λ c. search needs) (λ c. search needs) (λ c κs. search needs) (λ c. search needs) (λ c. search needs) loop-again returns)

@@ -21,24 +21,12 @@ abbrev μ-loop : tie.MeasureT-loop
 loop-holds : tie.Need-loop-holds Inv-loop μ-loop
 loop-holds c = (search needs, search needs, refl, λ l e. e)
 
-cast-push-if : tie.Need-cast-push-if Inv-loop μ-loop
-cast-push-if c = search needs
-
-shared-slice-read-push-if : tie.Need-shared-slice-read-push-if Inv-loop μ-loop
-shared-slice-read-push-if c = search needs
-
 push-if-requires : tie.Need-push-if-requires Inv-loop μ-loop
 push-if-requires c κs =
     let s = c .before .before .before .before .before .before in
     let at = c .before .before .before .loop in
     let few = length-marked (s .args .bytes .now) (at .i) in
     (omega (arith, at .inv .1, few), omega (arith, at .inv .1, few))
-
-add-i : tie.Need-add-i Inv-loop μ-loop
-add-i c = search needs
-
-loop-less : tie.Need-loop-less Inv-loop μ-loop
-loop-less c = search needs
 
 loop-again : tie.Need-loop-again Inv-loop μ-loop
 loop-again c =
@@ -62,17 +50,4 @@ returns c =
     (at .inv .1 ∙ ap (λ (n : ℕ). length (marked n (s .bytes .now))) e, λ l f. at .inv .3 l f ∙ ap (λ (n : ℕ). sets l 0 (marked n (s .bytes .now))) e)
 
 pub list-between-spec : {M : Type 1} → statement M
-list-between-spec =
-    tie.close
-    (tie.spec
-    Inv-loop
-    μ-loop
-    loop-holds
-    cast-push-if
-    shared-slice-read-push-if
-    push-if-requires
-    add-i
-    loop-less
-    loop-again
-    same-length
-    returns)
+list-between-spec = tie.close (tie.spec Inv-loop μ-loop loop-holds (λ c. search needs) (λ c. search needs) push-if-requires (λ c. search needs) (λ c. search needs) loop-again same-length returns)

@@ -22,21 +22,12 @@ loop-holds c =
     let s = c .before .before .args in
     (search needs, ap length (sym (marked-none (s .bytes .now))), ap (sets (s .list .now) 0) (sym (marked-none (s .bytes .now))))
 
-sub-loop : tie.Need-sub-loop Inv-loop μ-loop
-sub-loop c = search needs
-
 list-block-requires : tie.Need-list-block-requires Inv-loop μ-loop
 list-block-requires c κs =
     let s = c .before .before .before .before .before .args in
     let at = c .before .before .loop in
     let same : length (at .list) ≡ length (s .list .now) = ap length (at .inv .2) ∙ simp length-sets in
     (omega arith, omega (arith, same), omega arith, at .inv .1)
-
-add-i : tie.Need-add-i Inv-loop μ-loop
-add-i c = search needs
-
-loop-less : tie.Need-loop-less Inv-loop μ-loop
-loop-less c = search needs
 
 loop-again : tie.Need-loop-again Inv-loop μ-loop
 loop-again c =
@@ -66,17 +57,4 @@ returns c =
     (rest .0, rest .1 (s .list .now) (at .inv .2) ∙ sets-over (s .list .now) (marked (s .n) (s .bytes .now)) (omega (arith, length-marked (s .bytes .now) (s .n))))
 
 pub list-marked-spec : {M : Type 1} → statement M
-list-marked-spec =
-    tie.close
-    (tie.spec
-    Inv-loop
-    μ-loop
-    loop-holds
-    sub-loop
-    list-block-requires
-    add-i
-    loop-less
-    loop-again
-    list-between-requires
-    same-length
-    returns)
+list-marked-spec = tie.close (tie.spec Inv-loop μ-loop loop-holds (λ c. search needs) list-block-requires (λ c. search needs) (λ c. search needs) loop-again list-between-requires same-length returns)

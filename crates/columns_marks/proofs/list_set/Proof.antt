@@ -21,26 +21,14 @@ abbrev μ-loop : tie.MeasureT-loop
 loop-holds : tie.Need-loop-holds Inv-loop μ-loop
 loop-holds c = (omega arith, refl, ap length (sym (listed-none (c .before .before .args .column .now))), ap (sets (c .before .before .args .list .now) 0) (sym (listed-none (c .before .before .args .column .now))))
 
-cast-is-set : tie.Need-cast-is-set Inv-loop μ-loop
-cast-is-set c = search needs
-
 shared-slice-read-is-set : tie.Need-shared-slice-read-is-set Inv-loop μ-loop
 shared-slice-read-is-set c = omega arith
-
-is-set-requires : tie.Need-is-set-requires Inv-loop μ-loop
-is-set-requires c κs = tt
 
 push-if-requires : tie.Need-push-if-requires Inv-loop μ-loop
 push-if-requires c κs =
     let s = c .before .before .before .before .before .before .before .args in
     let l = c .before .before .before .before .loop in
     omega (arith, l .inv .1, l .inv .2, listed-few (s .column .now) (l .k))
-
-add-k : tie.Need-add-k Inv-loop μ-loop
-add-k c = search needs
-
-loop-less : tie.Need-loop-less Inv-loop μ-loop
-loop-less c = search needs
 
 loop-again : tie.Need-loop-again Inv-loop μ-loop
 loop-again c =
@@ -61,18 +49,4 @@ returns c =
     rw (← all) (l .inv .2, l .inv .3 ∙ sets-over (s .list .now) (listed (l .k) (s .column .now)) (omega (arith, listed-few (s .column .now) (l .k))))
 
 pub list-set-spec : {M : Type 1} → statement M
-list-set-spec =
-    tie.close
-    (tie.spec
-    Inv-loop
-    μ-loop
-    loop-holds
-    cast-is-set
-    shared-slice-read-is-set
-    is-set-requires
-    push-if-requires
-    add-k
-    loop-less
-    loop-again
-    same-length
-    returns)
+list-set-spec = tie.close (tie.spec Inv-loop μ-loop loop-holds (λ c. search needs) shared-slice-read-is-set (λ c κs. tt) push-if-requires (λ c. search needs) (λ c. search needs) loop-again same-length returns)

@@ -5,18 +5,6 @@ use borrow.Author.Needs.{needs}
 use Rattle.columns_marks.proofs.push_if.Statement.{statement}
 use Rattle.columns_marks.proofs.push_if.Tie as tie
 
-mul-list : tie.Need-mul-list
-mul-list c = search needs
-
-slice-write-list : tie.Need-slice-write-list
-slice-write-list c = search needs
-
-add-result : tie.Need-add-result
-add-result c = search needs
-
-same-length : tie.Need-same-length
-same-length c = search needs
-
 returns : tie.Need-returns
 returns c = rw (c .if1 .taken) (refl, refl)
 
@@ -24,5 +12,4 @@ returns-2 : tie.Need-returns-2
 returns-2 c = rw (c .if1 .left) (omega arith, refl)
 
 pub push-if-spec : {M : Type 1} → statement M
-push-if-spec =
-    tie.close (tie.spec mul-list slice-write-list add-result same-length returns returns-2)
+push-if-spec = tie.close (tie.spec (λ c. search needs) (λ c. search needs) (λ c. search needs) (λ c. search needs) returns returns-2)

@@ -16,19 +16,10 @@ Inv-loop column₀ n list i₀ column i = (i ≤ length list) × Marked n (take 
 abbrev μ-loop : tie.MeasureT-loop
 μ-loop column₀ n list i₀ column i = length list - i
 
-fill-u8-requires : tie.Need-fill-u8-requires Inv-loop μ-loop
-fill-u8-requires c κs = tt
-
 loop-holds : tie.Need-loop-holds Inv-loop μ-loop
 loop-holds c =
     let s = c .before .before .before .before .before .before in
     (omega arith, marked-start (marked-none (s .args .n) (s .args .column .now) (s .pre .0) (c .before .before .fill-u8 .ensures)))
-
-mul-mark : tie.Need-mul-mark Inv-loop μ-loop
-mul-mark c = search needs
-
-shared-slice-read-mark : tie.Need-shared-slice-read-mark Inv-loop μ-loop
-shared-slice-read-mark c = search needs
 
 mark-requires : tie.Need-mark-requires Inv-loop μ-loop
 mark-requires c κs =
@@ -36,12 +27,6 @@ mark-requires c κs =
     let l = c .before .before .before .loop in
     let f = marked-none (s .args .n) (s .args .column .now) (s .pre .0) (c .before .before .before .before .before .before .fill-u8 .ensures) in
     omega (arith, l .inv .1 .len, f .len, s .pre .0, s .pre .1 (l .i) (c .before .before .loop-test .taken))
-
-add-i : tie.Need-add-i Inv-loop μ-loop
-add-i c = search needs
-
-loop-less : tie.Need-loop-less Inv-loop μ-loop
-loop-less c = search needs
 
 loop-again : tie.Need-loop-again Inv-loop μ-loop
 loop-again c =
@@ -65,18 +50,4 @@ returns c =
     marked-all (s .args .n) (s .args .column .now) (s .pre .0) (s .args .list .now) (subst (λ (xs : List ℕ). Marked (s .args .n) xs (s .args .column .now) (l .column)) (take-all (l .i) (s .args .list .now) (omega arith)) m)
 
 pub set-marks-spec : {M : Type 1} → statement M
-set-marks-spec =
-    tie.close
-    (tie.spec
-    Inv-loop
-    μ-loop
-    fill-u8-requires
-    loop-holds
-    mul-mark
-    shared-slice-read-mark
-    mark-requires
-    add-i
-    loop-less
-    loop-again
-    same-length
-    returns)
+set-marks-spec = tie.close (tie.spec Inv-loop μ-loop (λ c κs. tt) loop-holds (λ c. search needs) (λ c. search needs) mark-requires (λ c. search needs) (λ c. search needs) loop-again same-length returns)

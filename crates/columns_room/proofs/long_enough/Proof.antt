@@ -7,18 +7,9 @@ use borrow.Author.Needs.{needs}
 use Rattle.columns_room.proofs.long_enough.Statement.{statement}
 use Rattle.columns_room.proofs.long_enough.Tie as tie
 
-mul-both : tie.Need-mul-both
-mul-both c = search needs
-
-both-requires : tie.Need-both-requires
-both-requires c κs = tt
-
-both-requires-2 : tie.Need-both-requires-2
-both-requires-2 c κs = tt
-
 returns : tie.Need-returns
 unfolding longEnough
 returns c = c .both2 .ensures ∙ ap (λ (b : Bool). leb (c .before .before .args .vertices) (c .before .before .args .vertex-room) && b) (c .before .both .ensures)
 
 pub long-enough-spec : {M : Type 1} → statement M
-long-enough-spec = tie.close (tie.spec mul-both both-requires both-requires-2 returns)
+long-enough-spec = tie.close (tie.spec (λ c. search needs) (λ c κs. tt) (λ c κs. tt) returns)

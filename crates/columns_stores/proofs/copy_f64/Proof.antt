@@ -16,32 +16,17 @@ Inv-loop to₀ from n m i₀ to i = (i ≤ m) × (m ≡ min (min n (length from)
 abbrev μ-loop : tie.MeasureT-loop
 μ-loop to₀ from n m i₀ to i = m - i
 
-lesser-requires : tie.Need-lesser-requires Inv-loop μ-loop
-lesser-requires c κs = tt
-
-lesser-requires-2 : tie.Need-lesser-requires-2 Inv-loop μ-loop
-lesser-requires-2 c κs = tt
-
 loop-holds : tie.Need-loop-holds Inv-loop μ-loop
 loop-holds c = (search needs, c .lesser2 .ensures ∙ ap (λ k. min k (length (c .before .before .before .before .args .to .now))) (c .before .lesser .ensures), refl, refl)
 
-mul-to : tie.Need-mul-to Inv-loop μ-loop
-mul-to c = search needs
-
 shared-slice-read-to : tie.Need-shared-slice-read-to Inv-loop μ-loop
 shared-slice-read-to c = let at = c .before .before .loop in omega (arith, at .inv .1)
-
-mul-to-2 : tie.Need-mul-to-2 Inv-loop μ-loop
-mul-to-2 c = search needs
 
 slice-write-to : tie.Need-slice-write-to Inv-loop μ-loop
 slice-write-to c = let at = c .before .before .loop in omega (arith, at .inv .1, at .inv .2)
 
 add-i : tie.Need-add-i Inv-loop μ-loop
 add-i c = omega (arith, c .before .before .loop .inv .1)
-
-loop-less : tie.Need-loop-less Inv-loop μ-loop
-loop-less c = search needs
 
 loop-again : tie.Need-loop-again Inv-loop μ-loop
 loop-again c =
@@ -60,20 +45,4 @@ returns c =
     at .inv .3 ∙ copy-end (s .to .now) (s .from .now) (s .n) (at .i) (omega (arith, at .inv .1)) (omega (arith, at .inv .1))
 
 pub copy-f64-spec : {M : Type 1} → statement M
-copy-f64-spec =
-    tie.close
-    (tie.spec
-    Inv-loop
-    μ-loop
-    lesser-requires
-    lesser-requires-2
-    loop-holds
-    mul-to
-    shared-slice-read-to
-    mul-to-2
-    slice-write-to
-    add-i
-    loop-less
-    loop-again
-    same-length
-    returns)
+copy-f64-spec = tie.close (tie.spec Inv-loop μ-loop (λ c κs. tt) (λ c κs. tt) loop-holds (λ c. search needs) shared-slice-read-to (λ c. search needs) slice-write-to add-i (λ c. search needs) loop-again same-length returns)

@@ -15,12 +15,6 @@ Inv-loop to₀ from n m i₀ to i = (i ≤ m) × (m ≡ min (min n (length from)
 abbrev μ-loop : tie.MeasureT-loop
 μ-loop to₀ from n m i₀ to i = m - i
 
-lesser-requires : tie.Need-lesser-requires Inv-loop μ-loop
-lesser-requires c κs = tt
-
-lesser-requires-2 : tie.Need-lesser-requires-2 Inv-loop μ-loop
-lesser-requires-2 c κs = tt
-
 loop-holds : tie.Need-loop-holds Inv-loop μ-loop
 loop-holds c = (search needs, c .lesser2 .ensures ∙ ap (λ k. min k (length (c .before .before .before .before .args .to .now))) (c .before .lesser .ensures), refl, refl)
 
@@ -32,9 +26,6 @@ slice-write-to c = let at = c .before .before .loop in omega (arith, at .inv .1,
 
 add-i : tie.Need-add-i Inv-loop μ-loop
 add-i c = omega (arith, c .before .before .loop .inv .1)
-
-loop-less : tie.Need-loop-less Inv-loop μ-loop
-loop-less c = search needs
 
 loop-again : tie.Need-loop-again Inv-loop μ-loop
 loop-again c =
@@ -53,18 +44,4 @@ returns c =
     at .inv .3 ∙ copy-end (s .to .now) (s .from .now) (s .n) (at .i) (omega (arith, at .inv .1)) (omega (arith, at .inv .1))
 
 pub copy-u8-spec : {M : Type 1} → statement M
-copy-u8-spec =
-    tie.close
-    (tie.spec
-    Inv-loop
-    μ-loop
-    lesser-requires
-    lesser-requires-2
-    loop-holds
-    shared-slice-read-to
-    slice-write-to
-    add-i
-    loop-less
-    loop-again
-    same-length
-    returns)
+copy-u8-spec = tie.close (tie.spec Inv-loop μ-loop (λ c κs. tt) (λ c κs. tt) loop-holds shared-slice-read-to slice-write-to add-i (λ c. search needs) loop-again same-length returns)

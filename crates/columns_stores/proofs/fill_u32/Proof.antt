@@ -15,23 +15,14 @@ Inv-loop column₀ n value m i₀ column i = (i ≤ m) × (m ≡ min n (length c
 abbrev μ-loop : tie.MeasureT-loop
 μ-loop column₀ n value m i₀ column i = m - i
 
-lesser-requires : tie.Need-lesser-requires Inv-loop μ-loop
-lesser-requires c κs = tt
-
 loop-holds : tie.Need-loop-holds Inv-loop μ-loop
 loop-holds c = (search needs, c .lesser .ensures, refl, refl)
-
-mul-column : tie.Need-mul-column Inv-loop μ-loop
-mul-column c = search needs
 
 slice-write-column : tie.Need-slice-write-column Inv-loop μ-loop
 slice-write-column c = let at = c .before .loop in omega (arith, at .inv .1, at .inv .2)
 
 add-i : tie.Need-add-i Inv-loop μ-loop
 add-i c = omega (arith, c .before .loop .inv .1)
-
-loop-less : tie.Need-loop-less Inv-loop μ-loop
-loop-less c = search needs
 
 loop-again : tie.Need-loop-again Inv-loop μ-loop
 loop-again c =
@@ -50,17 +41,4 @@ returns c =
     at .inv .3 ∙ fill-end (s .column .now) (s .n) (at .i) (s .value) (omega (arith, at .inv .1)) (omega (arith, at .inv .1))
 
 pub fill-u32-spec : {M : Type 1} → statement M
-fill-u32-spec =
-    tie.close
-    (tie.spec
-    Inv-loop
-    μ-loop
-    lesser-requires
-    loop-holds
-    mul-column
-    slice-write-column
-    add-i
-    loop-less
-    loop-again
-    same-length
-    returns)
+fill-u32-spec = tie.close (tie.spec Inv-loop μ-loop (λ c κs. tt) loop-holds (λ c. search needs) slice-write-column add-i (λ c. search needs) loop-again same-length returns)

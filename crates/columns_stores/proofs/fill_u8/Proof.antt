@@ -15,9 +15,6 @@ Inv-loop column₀ n value m i₀ column i = (i ≤ m) × (m ≡ min n (length c
 abbrev μ-loop : tie.MeasureT-loop
 μ-loop column₀ n value m i₀ column i = m - i
 
-lesser-requires : tie.Need-lesser-requires Inv-loop μ-loop
-lesser-requires c κs = tt
-
 loop-holds : tie.Need-loop-holds Inv-loop μ-loop
 loop-holds c = (search needs, c .lesser .ensures, refl, refl)
 
@@ -26,9 +23,6 @@ slice-write-column c = let at = c .before .loop in omega (arith, at .inv .1, at 
 
 add-i : tie.Need-add-i Inv-loop μ-loop
 add-i c = omega (arith, c .before .loop .inv .1)
-
-loop-less : tie.Need-loop-less Inv-loop μ-loop
-loop-less c = search needs
 
 loop-again : tie.Need-loop-again Inv-loop μ-loop
 loop-again c =
@@ -47,16 +41,4 @@ returns c =
     at .inv .3 ∙ fill-end (s .column .now) (s .n) (at .i) (s .value) (omega (arith, at .inv .1)) (omega (arith, at .inv .1))
 
 pub fill-u8-spec : {M : Type 1} → statement M
-fill-u8-spec =
-    tie.close
-    (tie.spec
-    Inv-loop
-    μ-loop
-    lesser-requires
-    loop-holds
-    slice-write-column
-    add-i
-    loop-less
-    loop-again
-    same-length
-    returns)
+fill-u8-spec = tie.close (tie.spec Inv-loop μ-loop (λ c κs. tt) loop-holds slice-write-column add-i (λ c. search needs) loop-again same-length returns)

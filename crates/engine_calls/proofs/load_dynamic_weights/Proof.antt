@@ -11,9 +11,6 @@ use borrow.Author.Needs.{needs}
 use Rattle.engine_calls.proofs.load_dynamic_weights.Statement.{statement}
 use Rattle.engine_calls.proofs.load_dynamic_weights.Tie as tie
 
-weights-door-requires : tie.Need-weights-door-requires
-weights-door-requires c κs = tt
-
 weigh-all-requires : tie.Need-weigh-all-requires
 weigh-all-requires c κs =
     let a = c .before .before .before .before .before .before .before .before .before .before .before .before .before .before .before .before .args in
@@ -42,15 +39,6 @@ returns c =
     let p = c .before .before .before .before .before .before .weigh-all .ensures in
     accepted (loadWeights (a .list .now) (a .values .now)) e _ _ z refl (columns _ (a .ends-a .now) (a .ends-b .now) _ _ (a .boundary .now) _ _ _ _ (p .0) (p .1 .0) (p .1 .1))
 
-same-length-4 : tie.Need-same-length-4
-same-length-4 c = search needs
-
-same-length-5 : tie.Need-same-length-5
-same-length-5 c = search needs
-
-same-length-6 : tie.Need-same-length-6
-same-length-6 c = search needs
-
 returns-2 : tie.Need-returns-2
 returns-2 c =
     let a = c .before .before .before .before .before .before .before .before .before .before .before .before .before .args in
@@ -58,16 +46,4 @@ returns-2 c =
     refused (loadWeights (a .list .now) (a .values .now)) e _ _ (c .before .weights-door .result) (c .before .weights-door .ensures) (c .if1 .left) refl refl
 
 pub load-dynamic-weights-spec : {M : Type 1} → statement M
-load-dynamic-weights-spec =
-    tie.close
-    (tie.spec
-    weights-door-requires
-    weigh-all-requires
-    same-length
-    same-length-2
-    same-length-3
-    returns
-    same-length-4
-    same-length-5
-    same-length-6
-    returns-2)
+load-dynamic-weights-spec = tie.close (tie.spec (λ c κs. tt) weigh-all-requires same-length same-length-2 same-length-3 returns (λ c. search needs) (λ c. search needs) (λ c. search needs) returns-2)

@@ -11,9 +11,6 @@ use borrow.Author.Needs.{needs}
 use Rattle.engine_calls.proofs.load_erasures.Statement.{statement}
 use Rattle.engine_calls.proofs.load_erasures.Tie as tie
 
-erasures-door-requires : tie.Need-erasures-door-requires
-erasures-door-requires c κs = tt
-
 erase-all-requires : tie.Need-erase-all-requires
 erase-all-requires c κs =
     let a = c .before .before .before .before .before .before .before .before .before .before .before .before .before .before .before .args in
@@ -41,15 +38,6 @@ returns c =
     let p = c .before .before .before .before .before .before .erase-all .ensures in
     accepted (loadErasures (a .list .now)) e _ _ z refl (columns _ (a .ends-a .now) (a .ends-b .now) _ _ (a .boundary .now) _ _ _ _ (p .0) (p .1 .0) (p .1 .1))
 
-same-length-4 : tie.Need-same-length-4
-same-length-4 c = search needs
-
-same-length-5 : tie.Need-same-length-5
-same-length-5 c = search needs
-
-same-length-6 : tie.Need-same-length-6
-same-length-6 c = search needs
-
 returns-2 : tie.Need-returns-2
 returns-2 c =
     let a = c .before .before .before .before .before .before .before .before .before .before .before .before .args in
@@ -57,16 +45,4 @@ returns-2 c =
     refused (loadErasures (a .list .now)) e _ _ (c .before .erasures-door .result) (c .before .erasures-door .ensures) (c .if1 .left) refl refl
 
 pub load-erasures-spec : {M : Type 1} → statement M
-load-erasures-spec =
-    tie.close
-    (tie.spec
-    erasures-door-requires
-    erase-all-requires
-    same-length
-    same-length-2
-    same-length-3
-    returns
-    same-length-4
-    same-length-5
-    same-length-6
-    returns-2)
+load-erasures-spec = tie.close (tie.spec (λ c κs. tt) erase-all-requires same-length same-length-2 same-length-3 returns (λ c. search needs) (λ c. search needs) (λ c. search needs) returns-2)

@@ -9,21 +9,6 @@ use borrow.Author.Needs.{needs}
 use Rattle.engine_calls.proofs.open.Statement.{statement}
 use Rattle.engine_calls.proofs.open.Tie as tie
 
-open-door-requires : tie.Need-open-door-requires
-open-door-requires c κs = tt
-
-copy-u32-requires : tie.Need-copy-u32-requires
-copy-u32-requires c κs = tt
-
-copy-u32-requires-2 : tie.Need-copy-u32-requires-2
-copy-u32-requires-2 c κs = tt
-
-copy-u32-requires-3 : tie.Need-copy-u32-requires-3
-copy-u32-requires-3 c κs = tt
-
-copy-u8-requires : tie.Need-copy-u8-requires
-copy-u8-requires c κs = tt
-
 same-length : tie.Need-same-length
 same-length c = c .before .before .before .before .before .before .before .before .before .before .before .before .before .ends-a .given
 
@@ -53,18 +38,6 @@ returns c =
       boundary-left = c .before .before .copy-u8 .ensures ∙ copy-after v (openDoor v e h l) (a .boundary .now) (a .in-boundary .now) z (o .from .boundary) (o .to .boundary);
     }
 
-same-length-5 : tie.Need-same-length-5
-same-length-5 c = search needs
-
-same-length-6 : tie.Need-same-length-6
-same-length-6 c = search needs
-
-same-length-7 : tie.Need-same-length-7
-same-length-7 c = search needs
-
-same-length-8 : tie.Need-same-length-8
-same-length-8 c = search needs
-
 returns-2 : tie.Need-returns-2
 returns-2 c =
     let a = c .before .before .before .before .before .before .before .before .before .before .before .before .before .before .args in
@@ -83,21 +56,4 @@ returns-2 c =
     }
 
 pub open-spec : {M : Type 1} → statement M
-open-spec =
-    tie.close
-    (tie.spec
-    open-door-requires
-    copy-u32-requires
-    copy-u32-requires-2
-    copy-u32-requires-3
-    copy-u8-requires
-    same-length
-    same-length-2
-    same-length-3
-    same-length-4
-    returns
-    same-length-5
-    same-length-6
-    same-length-7
-    same-length-8
-    returns-2)
+open-spec = tie.close (tie.spec (λ c κs. tt) (λ c κs. tt) (λ c κs. tt) (λ c κs. tt) (λ c κs. tt) same-length same-length-2 same-length-3 same-length-4 returns (λ c. search needs) (λ c. search needs) (λ c. search needs) (λ c. search needs) returns-2)

@@ -10,9 +10,6 @@ use borrow.Author.Needs.{needs}
 use Rattle.engine_calls.proofs.reset.Statement.{statement}
 use Rattle.engine_calls.proofs.reset.Tie as tie
 
-reset-door-requires : tie.Need-reset-door-requires
-reset-door-requires c κs = tt
-
 undo-all-requires : tie.Need-undo-all-requires
 undo-all-requires c κs =
     let a = c .before .before .before .before .before .before .before .before .before .before .args in
@@ -33,9 +30,6 @@ returns c =
     let z : door reset e ≡ 0 = sym (c .before .before .before .before .before .reset-door .ensures) ∙ c .before .before .before .before .if1 .taken in
     accepted reset e _ _ z refl (columns _ (a .ends-a .now) (a .ends-b .now) _ _ (a .boundary .now) _ _ _ _ (c .before .before .undo-all .ensures) refl refl)
 
-same-length-2 : tie.Need-same-length-2
-same-length-2 c = search needs
-
 returns-2 : tie.Need-returns-2
 returns-2 c =
     let a = c .before .before .before .before .before .before .before .before .before .args in
@@ -43,6 +37,4 @@ returns-2 c =
     refused reset e _ _ (c .before .reset-door .result) (c .before .reset-door .ensures) (c .if1 .left) refl refl
 
 pub reset-spec : {M : Type 1} → statement M
-reset-spec =
-    tie.close
-    (tie.spec reset-door-requires undo-all-requires same-length returns same-length-2 returns-2)
+reset-spec = tie.close (tie.spec (λ c κs. tt) undo-all-requires same-length returns (λ c. search needs) returns-2)

@@ -5,19 +5,9 @@ use Rattle.engine_columns.specs.Door.{sound}
 use Rattle.engine_columns.proofs.engine_sound.Statement.{statement}
 use Rattle.engine_columns.proofs.engine_sound.Tie as tie
 
-columns-sound-requires : tie.Need-columns-sound-requires
-columns-sound-requires c κs = tt
-
-log-sound-requires : tie.Need-log-sound-requires
-log-sound-requires c κs = tt
-
-both-requires : tie.Need-both-requires
-both-requires c κs = tt
-
 returns : tie.Need-returns
 unfolding sound
 returns c = c .both .ensures ∙ (λ i. (c .before .before .columns-sound .ensures) i && (c .before .log-sound .ensures) i)
 
 pub engine-sound-spec : {M : Type 1} → statement M
-engine-sound-spec =
-    tie.close (tie.spec columns-sound-requires log-sound-requires both-requires returns)
+engine-sound-spec = tie.close (tie.spec (λ c κs. tt) (λ c κs. tt) (λ c κs. tt) returns)

@@ -5,32 +5,9 @@ use Rattle.engine_columns.specs.Door.{longEnough}
 use Rattle.engine_columns.proofs.long_enough.Statement.{statement}
 use Rattle.engine_columns.proofs.long_enough.Tie as tie
 
-columns-long-requires : tie.Need-columns-long-requires
-columns-long-requires c κs = tt
-
-has-room-requires : tie.Need-has-room-requires
-has-room-requires c κs = tt
-
-has-room-requires-2 : tie.Need-has-room-requires-2
-has-room-requires-2 c κs = tt
-
-both-requires : tie.Need-both-requires
-both-requires c κs = tt
-
-both-requires-2 : tie.Need-both-requires-2
-both-requires-2 c κs = tt
-
 returns : tie.Need-returns
 unfolding longEnough
 returns c = c .both2 .ensures ∙ (λ i. (c .before .before .before .before .columns-long .ensures) i && (c .before .both .ensures ∙ (λ i. (c .before .before .before .has-room .ensures) i && (c .before .before .has-room2 .ensures) i)) i)
 
 pub long-enough-spec : {M : Type 1} → statement M
-long-enough-spec =
-    tie.close
-    (tie.spec
-    columns-long-requires
-    has-room-requires
-    has-room-requires-2
-    both-requires
-    both-requires-2
-    returns)
+long-enough-spec = tie.close (tie.spec (λ c κs. tt) (λ c κs. tt) (λ c κs. tt) (λ c κs. tt) (λ c κs. tt) returns)

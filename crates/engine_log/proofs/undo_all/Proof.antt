@@ -18,27 +18,6 @@ Inv-loop weights₀ log-edges log-weights n left₀ weights left =
 abbrev μ-loop : tie.MeasureT-loop
 μ-loop weights₀ log-edges log-weights n left₀ weights left = left
 
-loop-holds : tie.Need-loop-holds Inv-loop μ-loop
-loop-holds c = search needs
-
-sub-at : tie.Need-sub-at Inv-loop μ-loop
-sub-at c = search needs
-
-mul-wide : tie.Need-mul-wide Inv-loop μ-loop
-mul-wide c = search needs
-
-shared-slice-read-wide : tie.Need-shared-slice-read-wide Inv-loop μ-loop
-shared-slice-read-wide c = search needs
-
-wide-requires : tie.Need-wide-requires Inv-loop μ-loop
-wide-requires c κs = tt
-
-mul-weights : tie.Need-mul-weights Inv-loop μ-loop
-mul-weights c = search needs
-
-shared-slice-read-weights : tie.Need-shared-slice-read-weights Inv-loop μ-loop
-shared-slice-read-weights c = search needs
-
 slice-write-weights : tie.Need-slice-write-weights Inv-loop μ-loop
 slice-write-weights c =
     let s = c .before .before .before .before .before .before .before .before in
@@ -47,12 +26,6 @@ slice-write-weights c =
 
 mul-weights-2 : tie.Need-mul-weights-2 Inv-loop μ-loop
 mul-weights-2 c = omega (arith, slice-write-weights c)
-
-sub-left : tie.Need-sub-left Inv-loop μ-loop
-sub-left c = search needs
-
-loop-less : tie.Need-loop-less Inv-loop μ-loop
-loop-less c = search needs
 
 loop-again : tie.Need-loop-again Inv-loop μ-loop
 loop-again c =
@@ -73,22 +46,4 @@ returns c =
     rw z at (l .inv .1)
 
 pub undo-all-spec : {M : Type 1} → statement M
-undo-all-spec =
-    tie.close
-    (tie.spec
-    Inv-loop
-    μ-loop
-    loop-holds
-    sub-at
-    mul-wide
-    shared-slice-read-wide
-    wide-requires
-    mul-weights
-    shared-slice-read-weights
-    mul-weights-2
-    slice-write-weights
-    sub-left
-    loop-less
-    loop-again
-    same-length
-    returns)
+undo-all-spec = tie.close (tie.spec Inv-loop μ-loop (λ c. search needs) (λ c. search needs) (λ c. search needs) (λ c. search needs) (λ c κs. tt) (λ c. search needs) (λ c. search needs) mul-weights-2 slice-write-weights (λ c. search needs) (λ c. search needs) loop-again same-length returns)

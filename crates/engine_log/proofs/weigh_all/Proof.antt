@@ -20,21 +20,6 @@ Inv-loop weights₀ log-edges₀ log-weights₀ list values i₀ weights log-edg
 abbrev μ-loop : tie.MeasureT-loop
 μ-loop weights₀ log-edges₀ log-weights₀ list values i₀ weights log-edges log-weights i = length list - i
 
-loop-holds : tie.Need-loop-holds Inv-loop μ-loop
-loop-holds c = search needs
-
-mul-set-weight : tie.Need-mul-set-weight Inv-loop μ-loop
-mul-set-weight c = search needs
-
-shared-slice-read-set-weight : tie.Need-shared-slice-read-set-weight Inv-loop μ-loop
-shared-slice-read-set-weight c = search needs
-
-mul-set-weight-2 : tie.Need-mul-set-weight-2 Inv-loop μ-loop
-mul-set-weight-2 c = search needs
-
-shared-slice-read-set-weight-2 : tie.Need-shared-slice-read-set-weight-2 Inv-loop μ-loop
-shared-slice-read-set-weight-2 c = search needs
-
 set-weight-requires : tie.Need-set-weight-requires Inv-loop μ-loop
 set-weight-requires c κs =
     let s = c .before .before .before .before .before .before .before .before .before .before .before .before in
@@ -44,12 +29,6 @@ set-weight-requires c κs =
     let e : length (l .log-edges) ≡ length (a .log-edges .now) = ap length (l .inv .2) ∙ simp named-length in
     let g : length (l .log-weights) ≡ length (a .log-weights .now) = ap length (l .inv .3) ∙ simp earlier-length in
     (rw w (s .pre .0 (l .i) (omega arith)), omega arith, omega arith)
-
-add-i : tie.Need-add-i Inv-loop μ-loop
-add-i c = search needs
-
-loop-less : tie.Need-loop-less Inv-loop μ-loop
-loop-less c = search needs
 
 loop-again : tie.Need-loop-again Inv-loop μ-loop
 loop-again c =
@@ -79,21 +58,4 @@ returns c =
     rw e (l .inv .1, (l .inv .2, l .inv .3))
 
 pub weigh-all-spec : {M : Type 1} → statement M
-weigh-all-spec =
-    tie.close
-    (tie.spec
-    Inv-loop
-    μ-loop
-    loop-holds
-    mul-set-weight
-    shared-slice-read-set-weight
-    mul-set-weight-2
-    shared-slice-read-set-weight-2
-    set-weight-requires
-    add-i
-    loop-less
-    loop-again
-    same-length
-    same-length-2
-    same-length-3
-    returns)
+weigh-all-spec = tie.close (tie.spec Inv-loop μ-loop (λ c. search needs) (λ c. search needs) (λ c. search needs) (λ c. search needs) (λ c. search needs) set-weight-requires (λ c. search needs) (λ c. search needs) loop-again same-length same-length-2 same-length-3 returns)

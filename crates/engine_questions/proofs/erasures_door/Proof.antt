@@ -4,43 +4,8 @@ use mathlib.Core.Path.{_∙_}
 use Rattle.engine_questions.proofs.erasures_door.Statement.{statement}
 use Rattle.engine_questions.proofs.erasures_door.Tie as tie
 
-long-enough-requires : tie.Need-long-enough-requires
-long-enough-requires c κs = tt
-
-engine-sound-requires : tie.Need-engine-sound-requires
-engine-sound-requires c κs = tt
-
-equal-requires : tie.Need-equal-requires
-equal-requires c κs = tt
-
-each-below-requires : tie.Need-each-below-requires
-each-below-requires c κs = tt
-
-asked-requires : tie.Need-asked-requires
-asked-requires c κs = tt
-
-asked-requires-2 : tie.Need-asked-requires-2
-asked-requires-2 c κs = tt
-
-asked-requires-3 : tie.Need-asked-requires-3
-asked-requires-3 c κs = tt
-
-asked-requires-4 : tie.Need-asked-requires-4
-asked-requires-4 c κs = tt
-
 returns : tie.Need-returns
 returns c = c .asked4 .ensures ∙ (λ i. ask ((c .before .before .before .before .before .before .before .long-enough .ensures) i) 6 ((c .before .asked3 .ensures ∙ (λ i. ask ((c .before .before .before .before .before .before .engine-sound .ensures) i) 7 ((c .before .before .asked2 .ensures ∙ (λ i. ask ((c .before .before .before .before .before .equal .ensures) i) 12 ((c .before .before .before .asked .ensures ∙ (λ i. ask ((c .before .before .before .before .each-below .ensures) i) 13 0)) i))) i))) i))
 
 pub erasures-door-spec : {M : Type 1} → statement M
-erasures-door-spec =
-    tie.close
-    (tie.spec
-    long-enough-requires
-    engine-sound-requires
-    equal-requires
-    each-below-requires
-    asked-requires
-    asked-requires-2
-    asked-requires-3
-    asked-requires-4
-    returns)
+erasures-door-spec = tie.close (tie.spec (λ c κs. tt) (λ c κs. tt) (λ c κs. tt) (λ c κs. tt) (λ c κs. tt) (λ c κs. tt) (λ c κs. tt) (λ c κs. tt) returns)

@@ -28,12 +28,6 @@ loop-holds c = (search needs, refl, refl, refl, refl, refl, refl, refl, refl, re
 fill-one-requires : tie.Need-fill-one-requires Inv-loop μ-loop
 fill-one-requires c κs = let s = c .before .before .before .before .before .before .before .before .before .before .before .before .before .before .before .before .before .before .before .before .before .before .before .before .before .before .before .before .before in let at = c .before .before .before .before .before .before .before .before .before .before .before .before .before .loop in (same-room (s .pre) (at .inv .3) (at .inv .4) (at .inv .5) (at .inv .6) (at .inv .7) (at .inv .8) (at .inv .9) (at .inv .10) (at .inv .11) (at .inv .12) (at .inv .13), c .before .before .before .before .before .before .before .before .before .before .before .if1 .taken)
 
-add-v : tie.Need-add-v Inv-loop μ-loop
-add-v c = search needs
-
-loop-less : tie.Need-loop-less Inv-loop μ-loop
-loop-less c = search needs
-
 loop-again : tie.Need-loop-again Inv-loop μ-loop
 loop-again c =
     let s = c .before .before .before .before .before .before .before .before .before .before .before .before .before .before .before .before .before .before .before .before .before .before .before .before .before .before .before .before .before .before .before .before .before .before .before .before .before .before .before .before .before .before .before .before .before .before .before .before .before .before in
@@ -84,25 +78,4 @@ returns c =
     (at .inv .1 ∙ ap (λ k. sets (s .args .out-weight .now) 0 (each k (boundaryWeight (graphIn E) (weightsIn E)))) e, at .inv .2 ∙ ap (λ k. sets (s .args .out-vertex .now) 0 (each k (boundaryVertex (graphIn E) (weightsIn E)))) e)
 
 pub fill-all-spec : {M : Type 1} → statement M
-fill-all-spec =
-    tie.close
-    (tie.spec
-    Inv-loop
-    μ-loop
-    loop-holds
-    fill-one-requires
-    add-v
-    loop-less
-    loop-again
-    same-length
-    same-length-2
-    same-length-3
-    same-length-4
-    same-length-5
-    same-length-6
-    same-length-7
-    same-length-8
-    same-length-9
-    same-length-10
-    same-length-11
-    returns)
+fill-all-spec = tie.close (tie.spec Inv-loop μ-loop loop-holds fill-one-requires (λ c. search needs) (λ c. search needs) loop-again same-length same-length-2 same-length-3 same-length-4 same-length-5 same-length-6 same-length-7 same-length-8 same-length-9 same-length-10 same-length-11 returns)

@@ -36,39 +36,6 @@ fillable-at : (s : tie.Start) → number-at s ≡ 0 → Fillable (engine-of s) (
 unfolding number-at engine-of scratch-at
 fillable-at s z = fillable (engine-of s) _ _ _ _ _ _ _ _ _ _ _ z
 
-cast-v : tie.Need-cast-v
-cast-v c = search needs
-
-scratch-long-requires : tie.Need-scratch-long-requires
-scratch-long-requires c κs = tt
-
-at-most-requires : tie.Need-at-most-requires
-at-most-requires c κs = tt
-
-at-most-requires-2 : tie.Need-at-most-requires-2
-at-most-requires-2 c κs = tt
-
-both-requires : tie.Need-both-requires
-both-requires c κs = tt
-
-both-requires-2 : tie.Need-both-requires-2
-both-requires-2 c κs = tt
-
-at-most-requires-3 : tie.Need-at-most-requires-3
-at-most-requires-3 c κs = tt
-
-at-most-requires-4 : tie.Need-at-most-requires-4
-at-most-requires-4 c κs = tt
-
-both-requires-3 : tie.Need-both-requires-3
-both-requires-3 c κs = tt
-
-both-requires-4 : tie.Need-both-requires-4
-both-requires-4 c κs = tt
-
-query-door-requires : tie.Need-query-door-requires
-query-door-requires c κs = tt
-
 fill-all-requires : tie.Need-fill-all-requires
 unfolding engine-of
 fill-all-requires c κs = let t : tie.Then1 = c .before .before .before .before .before .before .before .before .before .before .before in fillable-at (t .before .before .before .before .before .before .before .before .before .before .before .before .before .before .before .before .before .before .before .before .before .before .before .before .before .before .before) (number-then t)
@@ -135,31 +102,4 @@ returns-2 c = let s : tie.Start = c .before .before .before .before .before .bef
     )
 
 pub fill-boundaries-spec : {M : Type 1} → statement M
-fill-boundaries-spec =
-    tie.close
-    (tie.spec
-    cast-v
-    scratch-long-requires
-    at-most-requires
-    at-most-requires-2
-    both-requires
-    both-requires-2
-    at-most-requires-3
-    at-most-requires-4
-    both-requires-3
-    both-requires-4
-    query-door-requires
-    fill-all-requires
-    same-length
-    same-length-2
-    same-length-3
-    same-length-4
-    same-length-5
-    same-length-6
-    same-length-7
-    same-length-8
-    same-length-9
-    same-length-10
-    same-length-11
-    returns
-    returns-2)
+fill-boundaries-spec = tie.close (tie.spec (λ c. search needs) (λ c κs. tt) (λ c κs. tt) (λ c κs. tt) (λ c κs. tt) (λ c κs. tt) (λ c κs. tt) (λ c κs. tt) (λ c κs. tt) (λ c κs. tt) (λ c κs. tt) fill-all-requires same-length same-length-2 same-length-3 same-length-4 same-length-5 same-length-6 same-length-7 same-length-8 same-length-9 same-length-10 same-length-11 returns returns-2)

@@ -46,12 +46,6 @@ table-at : tie.Start → List ℤ
 unfolding engine-of
 table-at s = table (graphIn (engine-of s)) (weightsIn (engine-of s)) (s .args .v) none .weights
 
-all-edges-requires : tie.Need-all-edges-requires
-all-edges-requires c κs = tt
-
-cast-n : tie.Need-cast-n
-cast-n c = search needs
-
 slice-aggregate-store-boundary : tie.Need-slice-aggregate-store-boundary
 unfolding number-at engine-of scratch-at table-at
 slice-aggregate-store-boundary c = let s : tie.Start = c .before .before .before .before .before .before .before .before .before .before .before .before .before .before .before .before .before .before .before .before .before .before .before .before .before .before .before .before .before .before .before .before .before .before .before .before .before .before .before .before .before .before .before .before in
@@ -127,24 +121,4 @@ returns c = let s : tie.Start = c .before .before .before .before .before .befor
     (o .0 ∙ (λ i. set (s .args .out-weight .now) (s .args .v) (weightTo (f .2 i) (boundaryIn m (f .2 i) (f .1 i) (s .args .v)))), o .1 ∙ (λ i. set (s .args .out-vertex .now) (s .args .v) (vertexTo (boundaryIn m (f .2 i) (f .1 i) (s .args .v)))))
 
 pub fill-one-spec : {M : Type 1} → statement M
-fill-one-spec =
-    tie.close
-    (tie.spec
-    all-edges-requires
-    cast-n
-    slice-aggregate-store-boundary
-    slice-reshare-prefix-store-boundary
-    slice-aggregate-store-boundary-2
-    store-boundary-requires
-    same-length
-    same-length-2
-    same-length-3
-    same-length-4
-    same-length-5
-    same-length-6
-    same-length-7
-    same-length-8
-    same-length-9
-    same-length-10
-    same-length-11
-    returns)
+fill-one-spec = tie.close (tie.spec (λ c κs. tt) (λ c. search needs) slice-aggregate-store-boundary slice-reshare-prefix-store-boundary slice-aggregate-store-boundary-2 store-boundary-requires same-length same-length-2 same-length-3 same-length-4 same-length-5 same-length-6 same-length-7 same-length-8 same-length-9 same-length-10 same-length-11 returns)

@@ -44,36 +44,6 @@ number-then c =
     let s : tie.Start = c .before .before .before .before .before .before .before .before .before .before .before .before .before .before .before .before .before .before .before .before .before .before .before .before .before .before in
     sym (row-number (engine-of s) (scratch-at s) (s .args .vertex .0) _ _ _ (c .before .query-door .ensures) (c .before .before .before .before .both3 .ensures) (c .before .before .before .before .before .both2 .ensures) (c .before .before .before .before .before .before .both .ensures) (c .before .before .before .before .before .before .before .before .before .at-most .ensures) (c .before .before .before .before .before .before .before .before .at-most2 .ensures) (c .before .before .before .before .before .before .before .at-most3 .ensures) (c .before .before .before .before .before .before .before .before .before .before .scratch-long .ensures)) ∙ c .if1 .taken
 
-cast-v : tie.Need-cast-v
-cast-v c = search needs
-
-scratch-long-requires : tie.Need-scratch-long-requires
-scratch-long-requires c κs = tt
-
-at-most-requires : tie.Need-at-most-requires
-at-most-requires c κs = tt
-
-at-most-requires-2 : tie.Need-at-most-requires-2
-at-most-requires-2 c κs = tt
-
-at-most-requires-3 : tie.Need-at-most-requires-3
-at-most-requires-3 c κs = tt
-
-both-requires : tie.Need-both-requires
-both-requires c κs = tt
-
-both-requires-2 : tie.Need-both-requires-2
-both-requires-2 c κs = tt
-
-both-requires-3 : tie.Need-both-requires-3
-both-requires-3 c κs = tt
-
-query-door-requires : tie.Need-query-door-requires
-query-door-requires c κs = tt
-
-all-edges-requires : tie.Need-all-edges-requires
-all-edges-requires c κs = tt
-
 slice-aggregate-write-row : tie.Need-slice-aggregate-write-row
 unfolding number-at engine-of scratch-at
 slice-aggregate-write-row c =
@@ -95,9 +65,6 @@ write-row-requires c κs =
     let lb = length-take-le (s .args .c .vertices) (s .args .boundary .now) (k .long .columns .boundary) in
     let lo = ap length w ∙ length-over (table (graphIn (engine-of s)) (weightsIn (engine-of s)) (s .args .vertex .0) none .weights) (s .args .out .now) (omega (arith, lt, k .out-long)) in
     (omega (arith, lb, k .nearest-long), omega (arith, lb, lo, k .out-long), omega (arith, lb, k .v-in))
-
-same-length : tie.Need-same-length
-same-length c = search needs
 
 same-length-2 : tie.Need-same-length-2
 same-length-2 c = c .before .before .before .before .before .before .before .before .before .before .before .before .before .before .before .before .before .before .before .before2 .given
@@ -157,29 +124,4 @@ returns-2 c =
     )
 
 pub fill-row-spec : {M : Type 1} → statement M
-fill-row-spec =
-    tie.close
-    (tie.spec
-    cast-v
-    scratch-long-requires
-    at-most-requires
-    at-most-requires-2
-    at-most-requires-3
-    both-requires
-    both-requires-2
-    both-requires-3
-    query-door-requires
-    all-edges-requires
-    slice-aggregate-write-row
-    write-row-requires
-    same-length
-    same-length-2
-    same-length-3
-    same-length-4
-    same-length-5
-    same-length-6
-    same-length-7
-    same-length-8
-    same-length-9
-    returns
-    returns-2)
+fill-row-spec = tie.close (tie.spec (λ c. search needs) (λ c κs. tt) (λ c κs. tt) (λ c κs. tt) (λ c κs. tt) (λ c κs. tt) (λ c κs. tt) (λ c κs. tt) (λ c κs. tt) (λ c κs. tt) slice-aggregate-write-row write-row-requires (λ c. search needs) same-length-2 same-length-3 same-length-4 same-length-5 same-length-6 same-length-7 same-length-8 same-length-9 returns returns-2)

@@ -8,29 +8,10 @@ use borrow.Author.Needs.{needs}
 use Rattle.query_crossing_answer.proofs.crossing_door.Statement.{statement}
 use Rattle.query_crossing_answer.proofs.crossing_door.Tie as tie
 
-cast-at-most : tie.Need-cast-at-most
-cast-at-most c = search needs
-
-at-most-requires : tie.Need-at-most-requires
-at-most-requires c κs = tt
-
-both-requires : tie.Need-both-requires
-both-requires c κs = tt
-
-query-door-requires : tie.Need-query-door-requires
-query-door-requires c κs = tt
-
 returns : tie.Need-returns
 returns c =
     let s = c .before .before .before .before .before .before .before .before .before .before .args in
     c .query-door .ensures ∙ ap (λ fits. queryDoor (engine (s .c) (now (s .ends-a)) (now (s .ends-b)) (now (s .weights)) (now (s .boundary)) (now (s .log-edges)) (now (s .log-weights))) fits true 0) (c .before .both .ensures ∙ ap (λ b. b && s .scratch) (c .before .before .at-most .ensures))
 
 pub crossing-door-spec : {M : Type 1} → statement M
-crossing-door-spec =
-    tie.close
-    (tie.spec
-    cast-at-most
-    at-most-requires
-    both-requires
-    query-door-requires
-    returns)
+crossing-door-spec = tie.close (tie.spec (λ c. search needs) (λ c κs. tt) (λ c κs. tt) (λ c κs. tt) returns)

@@ -29,23 +29,8 @@ loop-holds c = (search needs, λ p. refl)
 shared-slice-read-nearer : tie.Need-shared-slice-read-nearer Inv-loop μ-loop
 shared-slice-read-nearer c = omega (arith, c .before .before .before .before .before .before .pre .1)
 
-shared-slice-read-nearer-2 : tie.Need-shared-slice-read-nearer-2 Inv-loop μ-loop
-shared-slice-read-nearer-2 c = search needs
-
-mul-nearer : tie.Need-mul-nearer Inv-loop μ-loop
-mul-nearer c = search needs
-
 shared-slice-read-nearer-3 : tie.Need-shared-slice-read-nearer-3 Inv-loop μ-loop
 shared-slice-read-nearer-3 c = omega (arith, c .before .before .before .before .before .before .before .before .pre .0)
-
-nearer-requires : tie.Need-nearer-requires Inv-loop μ-loop
-nearer-requires c κs = tt
-
-add-v : tie.Need-add-v Inv-loop μ-loop
-add-v c = search needs
-
-loop-less : tie.Need-loop-less Inv-loop μ-loop
-loop-less c = search needs
 
 loop-again : tie.Need-loop-again Inv-loop μ-loop
 loop-again c = let s = c .before .before .before .before .before .before .before .before .before in let at = c .before .before .before .before .before .loop in (
@@ -59,18 +44,4 @@ returns : tie.Need-returns Inv-loop μ-loop
 returns c = let s = c .before .before .before .before .before in let at = c .before .loop in let e : at .v ≡ length (s .args .status .now) = omega arith in λ p. at .inv .1 p ∙ ap (λ k. codeOf (weightOf (stateOf (s .args .status .now) (s .args .weight .now) p) (firstLeast (λ u. eqb (getD (s .args .boundary .now) u 0) 2 && taken (stateOf (s .args .status .now) (s .args .weight .now) p) u) (weightAt (stateOf (s .args .status .now) (s .args .weight .now) p)) k))) e
 
 pub nearest-right-spec : {M : Type 1} → statement M
-nearest-right-spec =
-    tie.close
-    (tie.spec
-    Inv-loop
-    μ-loop
-    loop-holds
-    shared-slice-read-nearer
-    shared-slice-read-nearer-2
-    mul-nearer
-    shared-slice-read-nearer-3
-    nearer-requires
-    add-v
-    loop-less
-    loop-again
-    returns)
+nearest-right-spec = tie.close (tie.spec Inv-loop μ-loop loop-holds shared-slice-read-nearer (λ c. search needs) (λ c. search needs) shared-slice-read-nearer-3 (λ c κs. tt) (λ c. search needs) (λ c. search needs) loop-again returns)

@@ -47,18 +47,6 @@ number-then : (t : tie.Then1) → number-at (t .before .before .before .before .
 unfolding number-at engine-of scratch-at
 number-then t = sym (t .before .crossing-door .ensures ∙ ap (λ b. crossingDoor (engine-of (t .before .before .before .before .before .before .before .before .before .before .before .before .before .before .before .before .before .before)) b (length (t .before .before .before .before .before .before .before .before .before .before .before .before .before .before .before .before .before .before .args .out-weight .now)) 0) (t .before .before .scratch-long .ensures)) ∙ t .if1 .taken
 
-cast-v : tie.Need-cast-v
-cast-v c = search needs
-
-cast-e : tie.Need-cast-e
-cast-e c = search needs
-
-scratch-long-requires : tie.Need-scratch-long-requires
-scratch-long-requires c κs = tt
-
-crossing-door-requires : tie.Need-crossing-door-requires
-crossing-door-requires c κs = tt
-
 slice-aggregate-run-crossing : tie.Need-slice-aggregate-run-crossing
 unfolding number-at engine-of scratch-at
 slice-aggregate-run-crossing c = let t : tie.Then1 = c .before in
@@ -184,32 +172,11 @@ run-crossing-requires c κs = let t : tie.Then1 = c .before .before .before .bef
       (length-take-le (s .args .c .vertices) (s .args .boundary .now) (k .long .columns .boundary) ∙ sym len, sym len, omega (arith, k .weights-long, len)),
     )
 
-reply-requires : tie.Need-reply-requires
-reply-requires c κs = tt
-
 same-length : tie.Need-same-length
 same-length c = c .before .out-weight .given
 
 same-length-2 : tie.Need-same-length-2
 same-length-2 c = c .before .before .before .before .before .before .before .before .before .before .before .before .before .before .before .numbers .given
-
-same-length-3 : tie.Need-same-length-3
-same-length-3 c = search needs
-
-same-length-4 : tie.Need-same-length-4
-same-length-4 c = search needs
-
-same-length-5 : tie.Need-same-length-5
-same-length-5 c = search needs
-
-same-length-6 : tie.Need-same-length-6
-same-length-6 c = search needs
-
-same-length-7 : tie.Need-same-length-7
-same-length-7 c = search needs
-
-same-length-8 : tie.Need-same-length-8
-same-length-8 c = search needs
 
 returns : tie.Need-returns
 unfolding number-at engine-of scratch-at
@@ -260,38 +227,4 @@ returns-2 c = let s : tie.Start = c .before .before .before .before .before .bef
     )
 
 pub crossing-spec : {M : Type 1} → statement M
-crossing-spec =
-    tie.close
-    (tie.spec
-    cast-v
-    cast-e
-    scratch-long-requires
-    crossing-door-requires
-    slice-aggregate-run-crossing
-    slice-aggregate-run-crossing-2
-    slice-aggregate-run-crossing-3
-    slice-aggregate-run-crossing-4
-    slice-relend-prefix-run-crossing
-    slice-aggregate-run-crossing-5
-    slice-relend-prefix-run-crossing-2
-    slice-aggregate-run-crossing-6
-    slice-relend-prefix-run-crossing-3
-    slice-aggregate-run-crossing-7
-    slice-relend-prefix-run-crossing-4
-    slice-aggregate-run-crossing-8
-    slice-relend-prefix-run-crossing-5
-    slice-aggregate-run-crossing-9
-    slice-relend-prefix-run-crossing-6
-    slice-aggregate-run-crossing-10
-    run-crossing-requires
-    reply-requires
-    same-length
-    same-length-2
-    same-length-3
-    same-length-4
-    same-length-5
-    same-length-6
-    same-length-7
-    same-length-8
-    returns
-    returns-2)
+crossing-spec = tie.close (tie.spec (λ c. search needs) (λ c. search needs) (λ c κs. tt) (λ c κs. tt) slice-aggregate-run-crossing slice-aggregate-run-crossing-2 slice-aggregate-run-crossing-3 slice-aggregate-run-crossing-4 slice-relend-prefix-run-crossing slice-aggregate-run-crossing-5 slice-relend-prefix-run-crossing-2 slice-aggregate-run-crossing-6 slice-relend-prefix-run-crossing-3 slice-aggregate-run-crossing-7 slice-relend-prefix-run-crossing-4 slice-aggregate-run-crossing-8 slice-relend-prefix-run-crossing-5 slice-aggregate-run-crossing-9 slice-relend-prefix-run-crossing-6 slice-aggregate-run-crossing-10 run-crossing-requires (λ c κs. tt) same-length same-length-2 (λ c. search needs) (λ c. search needs) (λ c. search needs) (λ c. search needs) (λ c. search needs) (λ c. search needs) returns returns-2)

@@ -16,9 +16,6 @@ use borrow.Author.Needs.{needs}
 use Rattle.query_crossings.proofs.run_crossing.Statement.{statement}
 use Rattle.query_crossings.proofs.run_crossing.Tie as tie
 
-begin-left-requires : tie.Need-begin-left-requires
-begin-left-requires c κs = search needs
-
 search-requires : tie.Need-search-requires
 search-requires c κs =
     let s = c .before .before .before .before .before .before .before .before .before .before .before .before .before .before .before .before .before .before .before .before .before .before in
@@ -87,19 +84,4 @@ returns c =
     )
 
 pub run-crossing-spec : {M : Type 1} → statement M
-run-crossing-spec =
-    tie.close
-    (tie.spec
-    begin-left-requires
-    search-requires
-    nearest-right-requires
-    write-found-requires
-    same-length
-    same-length-2
-    same-length-3
-    same-length-4
-    same-length-5
-    same-length-6
-    same-length-7
-    same-length-8
-    returns)
+run-crossing-spec = tie.close (tie.spec (λ c κs. search needs) search-requires nearest-right-requires write-found-requires same-length same-length-2 same-length-3 same-length-4 same-length-5 same-length-6 same-length-7 same-length-8 returns)

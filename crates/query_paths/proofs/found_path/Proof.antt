@@ -19,12 +19,6 @@ use Rattle.query_read_back.proofs.Back.{read-short}
 use Rattle.query_paths.proofs.found_path.Statement.{statement}
 use Rattle.query_paths.proofs.found_path.Tie as tie
 
-is-taken-requires : tie.Need-is-taken-requires
-is-taken-requires c κs = tt
-
-path-length-requires : tie.Need-path-length-requires
-path-length-requires c κs = tt
-
 write-path-requires : tie.Need-write-path-requires
 write-path-requires c κs =
     let s = c .before .before .before .before .before .before .before .before .before .before in
@@ -38,9 +32,6 @@ cast-t15 c =
     let e = c .before .before .before .before .before .before .before .path-length .ensures (s .args .weight .now) in
     let l = read-short (stateOf (s .args .status .now) (s .args .weight .now) (s .args .previous .now)) (s .args .a) (length (s .args .status .now)) (s .args .b) in
     omega (arith, e, l, s .pre .0)
-
-load-requires : tie.Need-load-requires
-load-requires c κs = tt
 
 same-length : tie.Need-same-length
 same-length c = c .before .before .before .before .out-vertices .given
@@ -76,15 +67,4 @@ returns-2 c =
     (subst (λ o. PathSaid 0 o (Refused 17)) p (refuses-of refl (λ z. absurd (omega arith))), (ap (λ o. verticesAfter o (s .args .out-vertices .now)) p, ap (λ o. stepsAfter o (s .args .out-steps .now)) p))
 
 pub found-path-spec : {M : Type 1} → statement M
-found-path-spec =
-    tie.close
-    (tie.spec
-    is-taken-requires
-    path-length-requires
-    write-path-requires
-    cast-t15
-    load-requires
-    same-length
-    same-length-2
-    returns
-    returns-2)
+found-path-spec = tie.close (tie.spec (λ c κs. tt) (λ c κs. tt) write-path-requires cast-t15 (λ c κs. tt) same-length same-length-2 returns returns-2)

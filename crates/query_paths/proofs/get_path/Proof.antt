@@ -44,36 +44,6 @@ number-then c =
     let s : tie.Start = c .before .before .before .before .before .before .before .before .before .before .before .before .before .before .before .before .before .before .before .before .before .before .before .before .before .before .before .before .before .before .before .before in
     sym (path-number (engine-of s) (scratch-at s) (s .args .a .0) (s .args .b .0) _ _ (c .before .query-door .ensures) (c .before .before .before .before .before .before .before .before .before .before .both2 .ensures) (c .before .before .before .before .before .before .before .before .before .before .before .both .ensures) (c .before .before .before .before .before .before .before .before .before .before .before .before .before .at-most .ensures) (c .before .before .before .before .before .before .before .before .before .before .before .before .at-most2 .ensures) (c .before .before .before .before .before .before .before .before .before .before .before .before .before .before .scratch-long .ensures) (c .before .before .before .before .before .both3 .ensures) (c .before .before .asked .ensures)) ∙ c .if1 .taken
 
-cast-v : tie.Need-cast-v
-cast-v c = search needs
-
-cast-e : tie.Need-cast-e
-cast-e c = search needs
-
-scratch-long-requires : tie.Need-scratch-long-requires
-scratch-long-requires c κs = tt
-
-at-most-requires : tie.Need-at-most-requires
-at-most-requires c κs = tt
-
-at-most-requires-2 : tie.Need-at-most-requires-2
-at-most-requires-2 c κs = tt
-
-both-requires : tie.Need-both-requires
-both-requires c κs = tt
-
-both-requires-2 : tie.Need-both-requires-2
-both-requires-2 c κs = tt
-
-both-requires-3 : tie.Need-both-requires-3
-both-requires-3 c κs = tt
-
-asked-requires : tie.Need-asked-requires
-asked-requires c κs = tt
-
-query-door-requires : tie.Need-query-door-requires
-query-door-requires c κs = tt
-
 slice-aggregate-run-path : tie.Need-slice-aggregate-run-path
 unfolding number-at engine-of scratch-at
 slice-aggregate-run-path c =
@@ -187,20 +157,8 @@ same-length-3 c = c .before .before .before .before .before .before .before .bef
 same-length-4 : tie.Need-same-length-4
 same-length-4 c = c .before .before .before .before .before .before .before .before .before .before .before .before .before .before .before .list-ends .given
 
-same-length-5 : tie.Need-same-length-5
-same-length-5 c = search needs
-
-same-length-6 : tie.Need-same-length-6
-same-length-6 c = search needs
-
-same-length-7 : tie.Need-same-length-7
-same-length-7 c = search needs
-
 same-length-8 : tie.Need-same-length-8
 same-length-8 c = c .before .before .before .before .before .before .before .node .given
-
-same-length-9 : tie.Need-same-length-9
-same-length-9 c = search needs
 
 returns : tie.Need-returns
 unfolding number-at engine-of scratch-at
@@ -238,39 +196,4 @@ returns-2 c =
     )
 
 pub get-path-spec : {M : Type 1} → statement M
-get-path-spec =
-    tie.close
-    (tie.spec
-    cast-v
-    cast-e
-    scratch-long-requires
-    at-most-requires
-    at-most-requires-2
-    both-requires
-    both-requires-2
-    both-requires-3
-    asked-requires
-    query-door-requires
-    slice-aggregate-run-path
-    slice-aggregate-run-path-2
-    slice-aggregate-run-path-3
-    slice-relend-prefix-run-path
-    slice-aggregate-run-path-4
-    slice-relend-prefix-run-path-2
-    slice-aggregate-run-path-5
-    slice-relend-prefix-run-path-3
-    slice-aggregate-run-path-6
-    slice-relend-prefix-run-path-4
-    slice-aggregate-run-path-7
-    run-path-requires
-    same-length
-    same-length-2
-    same-length-3
-    same-length-4
-    same-length-5
-    same-length-6
-    same-length-7
-    same-length-8
-    same-length-9
-    returns
-    returns-2)
+get-path-spec = tie.close (tie.spec (λ c. search needs) (λ c. search needs) (λ c κs. tt) (λ c κs. tt) (λ c κs. tt) (λ c κs. tt) (λ c κs. tt) (λ c κs. tt) (λ c κs. tt) (λ c κs. tt) slice-aggregate-run-path slice-aggregate-run-path-2 slice-aggregate-run-path-3 slice-relend-prefix-run-path slice-aggregate-run-path-4 slice-relend-prefix-run-path-2 slice-aggregate-run-path-5 slice-relend-prefix-run-path-3 slice-aggregate-run-path-6 slice-relend-prefix-run-path-4 slice-aggregate-run-path-7 run-path-requires same-length same-length-2 same-length-3 same-length-4 (λ c. search needs) (λ c. search needs) (λ c. search needs) same-length-8 (λ c. search needs) returns returns-2)

@@ -22,9 +22,6 @@ use borrow.Author.Needs.{needs}
 use Rattle.query_paths.proofs.run_path.Statement.{statement}
 use Rattle.query_paths.proofs.run_path.Tie as tie
 
-begin-at-requires : tie.Need-begin-at-requires
-begin-at-requires c κs = tt
-
 search-requires : tie.Need-search-requires
 search-requires c κs =
     let s = c .before .before .before .before .before .before .before .before .before .before .before .before .before .before .before .before .before .before .before .before .before .before .before in
@@ -44,9 +41,6 @@ same-length c = c .before .before .before .before .before .before .before .befor
 
 same-length-2 : tie.Need-same-length-2
 same-length-2 c = c .before .before .before .before .before .before .before .before .before .before .before .before .before .before .before .before .before .before .before .before .before .list-ends .given
-
-same-length-3 : tie.Need-same-length-3
-same-length-3 c = search needs
 
 same-length-4 : tie.Need-same-length-4
 same-length-4 c = c .before .before .before .before .before .before .before .before .before .before .before .before .before .before .before .before .before .weight .given
@@ -86,19 +80,4 @@ returns c =
     )
 
 pub run-path-spec : {M : Type 1} → statement M
-run-path-spec =
-    tie.close
-    (tie.spec
-    begin-at-requires
-    search-requires
-    found-path-requires
-    same-length
-    same-length-2
-    same-length-3
-    same-length-4
-    same-length-5
-    same-length-6
-    same-length-7
-    same-length-8
-    same-length-9
-    returns)
+run-path-spec = tie.close (tie.spec (λ c κs. tt) search-requires found-path-requires same-length same-length-2 (λ c. search needs) same-length-4 same-length-5 same-length-6 same-length-7 same-length-8 same-length-9 returns)

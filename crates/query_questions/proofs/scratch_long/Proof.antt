@@ -18,68 +18,9 @@ use borrow.Author.Needs.{needs}
 use Rattle.query_questions.proofs.scratch_long.Statement.{statement}
 use Rattle.query_questions.proofs.scratch_long.Tie as tie
 
-mul-at-most : tie.Need-mul-at-most
-mul-at-most c = search needs
-
-at-most-requires : tie.Need-at-most-requires
-at-most-requires c κs = tt
-
-at-most-requires-2 : tie.Need-at-most-requires-2
-at-most-requires-2 c κs = tt
-
-at-most-requires-3 : tie.Need-at-most-requires-3
-at-most-requires-3 c κs = tt
-
-at-most-requires-4 : tie.Need-at-most-requires-4
-at-most-requires-4 c κs = tt
-
-at-most-requires-5 : tie.Need-at-most-requires-5
-at-most-requires-5 c κs = tt
-
-at-most-requires-6 : tie.Need-at-most-requires-6
-at-most-requires-6 c κs = tt
-
-at-most-requires-7 : tie.Need-at-most-requires-7
-at-most-requires-7 c κs = tt
-
-both-requires : tie.Need-both-requires
-both-requires c κs = tt
-
-both-requires-2 : tie.Need-both-requires-2
-both-requires-2 c κs = tt
-
-both-requires-3 : tie.Need-both-requires-3
-both-requires-3 c κs = tt
-
-both-requires-4 : tie.Need-both-requires-4
-both-requires-4 c κs = tt
-
-both-requires-5 : tie.Need-both-requires-5
-both-requires-5 c κs = tt
-
-both-requires-6 : tie.Need-both-requires-6
-both-requires-6 c κs = tt
-
 returns : tie.Need-returns
 unfolding scratchLong
 returns c = c .both6 .ensures ∙ (λ i. (c .before .before .before .before .before .before .before .before .before .before .before .before .at-most .ensures) i && (c .before .both5 .ensures ∙ (λ i. (c .before .before .before .before .before .before .before .before .before .before .before .at-most2 .ensures) i && (c .before .before .both4 .ensures ∙ (λ i. (c .before .before .before .before .before .before .before .before .before .before .at-most3 .ensures) i && (c .before .before .before .both3 .ensures ∙ (λ i. (c .before .before .before .before .before .before .before .before .before .at-most4 .ensures) i && (c .before .before .before .before .both2 .ensures ∙ (λ i. (c .before .before .before .before .before .before .before .before .at-most5 .ensures) i && (c .before .before .before .before .before .both .ensures ∙ (λ i. (c .before .before .before .before .before .before .before .at-most6 .ensures) i && (c .before .before .before .before .before .before .at-most7 .ensures) i)) i)) i)) i)) i)) i)
 
 pub scratch-long-spec : {M : Type 1} → statement M
-scratch-long-spec =
-    tie.close
-    (tie.spec
-    mul-at-most
-    at-most-requires
-    at-most-requires-2
-    at-most-requires-3
-    at-most-requires-4
-    at-most-requires-5
-    at-most-requires-6
-    at-most-requires-7
-    both-requires
-    both-requires-2
-    both-requires-3
-    both-requires-4
-    both-requires-5
-    both-requires-6
-    returns)
+scratch-long-spec = tie.close (tie.spec (λ c. search needs) (λ c κs. tt) (λ c κs. tt) (λ c κs. tt) (λ c κs. tt) (λ c κs. tt) (λ c κs. tt) (λ c κs. tt) (λ c κs. tt) (λ c κs. tt) (λ c κs. tt) (λ c κs. tt) (λ c κs. tt) (λ c κs. tt) returns)

@@ -17,24 +17,6 @@ abbrev μ-loop : tie.MeasureT-loop
 loop-holds : tie.Need-loop-holds Inv-loop μ-loop
 loop-holds c = (omega arith, (search needs, (search needs, ((λ k l. omega arith), (λ k l. omega arith)))))
 
-mul-node : tie.Need-mul-node Inv-loop μ-loop
-mul-node c = search needs
-
-slice-write-node : tie.Need-slice-write-node Inv-loop μ-loop
-slice-write-node c = search needs
-
-mul-leaf : tie.Need-mul-leaf Inv-loop μ-loop
-mul-leaf c = search needs
-
-slice-write-leaf : tie.Need-slice-write-leaf Inv-loop μ-loop
-slice-write-leaf c = search needs
-
-add-i : tie.Need-add-i Inv-loop μ-loop
-add-i c = search needs
-
-loop-less : tie.Need-loop-less Inv-loop μ-loop
-loop-less c = search needs
-
 loop-again : tie.Need-loop-again Inv-loop μ-loop
 loop-again c =
     let l : tie.At-loop Inv-loop μ-loop = c .before in (
@@ -48,12 +30,6 @@ loop-again c =
       ),
     )
 
-same-length : tie.Need-same-length Inv-loop μ-loop
-same-length c = search needs
-
-same-length-2 : tie.Need-same-length-2 Inv-loop μ-loop
-same-length-2 c = search needs
-
 returns : tie.Need-returns Inv-loop μ-loop
 returns c =
     let l : tie.At-loop Inv-loop μ-loop = c .before in
@@ -64,19 +40,4 @@ returns c =
     (same-sound _ _ _ _ inner outer, (outer, (l .loop .inv .1 .0, l .loop .inv .1 .1 .0)))
 
 pub clear-spec : {M : Type 1} → statement M
-clear-spec =
-    tie.close
-    (tie.spec
-    Inv-loop
-    μ-loop
-    loop-holds
-    mul-node
-    slice-write-node
-    mul-leaf
-    slice-write-leaf
-    add-i
-    loop-less
-    loop-again
-    same-length
-    same-length-2
-    returns)
+clear-spec = tie.close (tie.spec Inv-loop μ-loop loop-holds (λ c. search needs) (λ c. search needs) (λ c. search needs) (λ c. search needs) (λ c. search needs) (λ c. search needs) loop-again (λ c. search needs) (λ c. search needs) returns)

@@ -5,15 +5,6 @@ use Rattle.query_queue.proofs.Places.{leaf-put}
 use Rattle.query_queue.proofs.put.Statement.{statement}
 use Rattle.query_queue.proofs.put.Tie as tie
 
-mul-leaf : tie.Need-mul-leaf
-mul-leaf c = search needs
-
-slice-write-leaf : tie.Need-slice-write-leaf
-slice-write-leaf c = search needs
-
-add-raise : tie.Need-add-raise
-add-raise c = search needs
-
 raise-requires : tie.Need-raise-requires
 raise-requires c κs =
     let s : tie.Start = c .before .before .before .before in
@@ -22,13 +13,5 @@ raise-requires c κs =
 same-length : tie.Need-same-length
 same-length c = c .before .node .given
 
-same-length-2 : tie.Need-same-length-2
-same-length-2 c = search needs
-
-returns : tie.Need-returns
-returns c = search needs
-
 pub put-spec : {M : Type 1} → statement M
-put-spec =
-    tie.close
-    (tie.spec mul-leaf slice-write-leaf add-raise raise-requires same-length same-length-2 returns)
+put-spec = tie.close (tie.spec (λ c. search needs) (λ c. search needs) (λ c. search needs) raise-requires same-length (λ c. search needs) (λ c. search needs))

@@ -15,17 +15,8 @@ use borrow.Author.Needs.{needs}
 use Rattle.query_read_back.proofs.load.Statement.{statement}
 use Rattle.query_read_back.proofs.load.Tie as tie
 
-mul-result : tie.Need-mul-result
-mul-result c = search needs
-
-shared-slice-read-result : tie.Need-shared-slice-read-result
-shared-slice-read-result c = search needs
-
-returns : tie.Need-returns
-returns c = search needs
-
 returns-2 : tie.Need-returns-2
 returns-2 c = let s = c .before .args in sym (List·getD-eq-default (s .column .now) 0 {n = s .v} (c .if1 .left))
 
 pub load-spec : {M : Type 1} → statement M
-load-spec = tie.close (tie.spec mul-result shared-slice-read-result returns returns-2)
+load-spec = tie.close (tie.spec (λ c. search needs) (λ c. search needs) (λ c. search needs) returns-2)

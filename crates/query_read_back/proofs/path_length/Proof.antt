@@ -36,12 +36,6 @@ abbrev μ-loop : tie.MeasureT-loop
 loop-holds : tie.Need-loop-holds Inv-loop μ-loop
 loop-holds c = let s = c .before .before in (omega arith, λ w. count-start (stateOf (s .args .status .now) w (s .args .previous .now)) (s .args .a) (length (s .args .status .now)) (s .args .b))
 
-step-back-requires : tie.Need-step-back-requires Inv-loop μ-loop
-step-back-requires c κs = tt
-
-enum-known-p : tie.Need-enum-known-p Inv-loop μ-loop
-enum-known-p c = search needs
-
 enum-told : tie.Need-enum-told Inv-loop μ-loop
 enum-told c = search needs
 
@@ -51,12 +45,6 @@ returns c =
     let at = c .before .before .before .before .loop in
     λ w. let e : entryOf (stepBack (stateOf (s .args .status .now) w (s .args .previous .now)) (s .args .a) (at .v)) ≡ None = sym (c .before .before .step-back .ensures w) ∙ c .enum-told .given .1 in
     omega (arith, at .inv .1 w, count-none (stateOf (s .args .status .now) w (s .args .previous .now)) (s .args .a) (length (s .args .status .now)) (at .j) (at .v) (c .before .before .before .loop-test .taken) (entry-none _ e))
-
-add-j : tie.Need-add-j Inv-loop μ-loop
-add-j c = search needs
-
-loop-less : tie.Need-loop-less Inv-loop μ-loop
-loop-less c = search needs
 
 loop-again : tie.Need-loop-again Inv-loop μ-loop
 loop-again c =
@@ -74,17 +62,4 @@ returns-2 c =
     λ w. omega (arith, at .inv .1 w, count-end (stateOf (s .args .status .now) w (s .args .previous .now)) (s .args .a) (length (s .args .status .now)) (at .j) (at .v) (c .loop-test .left))
 
 pub path-length-spec : {M : Type 1} → statement M
-path-length-spec =
-    tie.close
-    (tie.spec
-    Inv-loop
-    μ-loop
-    loop-holds
-    step-back-requires
-    enum-known-p
-    enum-told
-    returns
-    add-j
-    loop-less
-    loop-again
-    returns-2)
+path-length-spec = tie.close (tie.spec Inv-loop μ-loop loop-holds (λ c κs. tt) (λ c. search needs) enum-told returns (λ c. search needs) (λ c. search needs) loop-again returns-2)

@@ -17,15 +17,6 @@ use mathlib.Core.List.{map}
 use Rattle.query_read_back.proofs.step_into.Statement.{statement}
 use Rattle.query_read_back.proofs.step_into.Tie as tie
 
-load-requires : tie.Need-load-requires
-load-requires c κs = tt
-
-load-requires-2 : tie.Need-load-requires-2
-load-requires-2 c κs = tt
-
-load-requires-3 : tie.Need-load-requires-3
-load-requires-3 c κs = tt
-
 returns : tie.Need-returns
 returns c = let s = c .before .before .before .before .before .before in λ t. unfold stepInto in let x = c .before .before .before .load .ensures in let y = c .before .before .load2 .ensures in let z = c .before .load3 .ensures ∙ ap (λ p. getD (s .args .weight .now) p 0) y in omega (arith, x, z, c .if1 .taken)
 
@@ -33,5 +24,4 @@ returns-2 : tie.Need-returns-2
 returns-2 c = let s = c .before .before .before .before .before .before in λ t. unfold stepInto in let x = c .before .before .before .load .ensures in let y = c .before .before .load2 .ensures in let z = c .before .load3 .ensures ∙ ap (λ p. getD (s .args .weight .now) p 0) y in omega (arith, x, z, c .if1 .left)
 
 pub step-into-spec : {M : Type 1} → statement M
-step-into-spec =
-    tie.close (tie.spec load-requires load-requires-2 load-requires-3 returns returns-2)
+step-into-spec = tie.close (tie.spec (λ c κs. tt) (λ c κs. tt) (λ c κs. tt) returns returns-2)

@@ -28,26 +28,11 @@ abbrev μ-loop : tie.MeasureT-loop
 loop-holds : tie.Need-loop-holds Inv-loop μ-loop
 loop-holds c = let s = c .before .before .before .before .before in (refl, refl, omega arith, written-start (stateOf (s .args .status .now) (s .args .weight .now) (s .args .previous .now)) (s .args .a) (length (s .args .status .now)) (s .args .b) (s .args .out-vertices .now) (s .args .out-steps .now) (s .args .count) (s .pre .0))
 
-sub-i : tie.Need-sub-i Inv-loop μ-loop
-sub-i c = search needs
-
-mul-out-vertices : tie.Need-mul-out-vertices Inv-loop μ-loop
-mul-out-vertices c = search needs
-
 slice-write-out-vertices : tie.Need-slice-write-out-vertices Inv-loop μ-loop
 slice-write-out-vertices c = let s = c .before .before .before .before .before .before .before in let at = c .before .loop in omega (arith, at .inv .0, at .inv .2, s .pre .1, c .loop-test .taken)
 
-step-into-requires : tie.Need-step-into-requires Inv-loop μ-loop
-step-into-requires c κs = tt
-
-mul-out-steps : tie.Need-mul-out-steps Inv-loop μ-loop
-mul-out-steps c = search needs
-
 slice-write-out-steps : tie.Need-slice-write-out-steps Inv-loop μ-loop
 slice-write-out-steps c = let s = c .before .before .before .before .before .before .before .before in let at = c .before .before .loop in omega (arith, at .inv .1, at .inv .2, s .pre .2, c .before .loop-test .taken)
-
-load-requires : tie.Need-load-requires Inv-loop μ-loop
-load-requires c κs = tt
 
 loop-less : tie.Need-loop-less Inv-loop μ-loop
 loop-less c = let at = c .before .before .before .loop in omega (arith, c .before .before .loop-test .taken)
@@ -84,21 +69,4 @@ returns c =
     )
 
 pub write-path-spec : {M : Type 1} → statement M
-write-path-spec =
-    tie.close
-    (tie.spec
-    Inv-loop
-    μ-loop
-    loop-holds
-    sub-i
-    mul-out-vertices
-    slice-write-out-vertices
-    step-into-requires
-    mul-out-steps
-    slice-write-out-steps
-    load-requires
-    loop-less
-    loop-again
-    same-length
-    same-length-2
-    returns)
+write-path-spec = tie.close (tie.spec Inv-loop μ-loop loop-holds (λ c. search needs) (λ c. search needs) slice-write-out-vertices (λ c κs. tt) (λ c. search needs) slice-write-out-steps (λ c κs. tt) loop-less loop-again same-length same-length-2 returns)

@@ -13,14 +13,8 @@ go zero f g b = absurd (f refl)
 go (suc zero) f g b = absurd (g refl)
 go (suc (suc x)) f g b = refl
 
-returns : tie.Need-returns
-returns c = search needs
-
-returns-2 : tie.Need-returns-2
-returns-2 c = search needs
-
 returns-3 : tie.Need-returns-3
 returns-3 c = go (c .before .before .args .status) (c .before .if1 .left) (c .if2 .left) (c .before .before .args .change)
 
 pub is-accepted-spec : {M : Type 1} → statement M
-is-accepted-spec = tie.close (tie.spec returns returns-2 returns-3)
+is-accepted-spec = tie.close (tie.spec (λ c. search needs) (λ c. search needs) returns-3)

@@ -22,15 +22,6 @@ mul-tie-rule-2 c = omega (arith, c .before .before .before .before .before .befo
 slice-read-tie-rule-2 : tie.Need-slice-read-tie-rule-2
 slice-read-tie-rule-2 c = omega (arith, c .before .before .before .before .before .before .before .pre .0 .previous-fits)
 
-tie-rule-requires : tie.Need-tie-rule-requires
-tie-rule-requires c κs = tt
-
-slice-read-is-accepted : tie.Need-slice-read-is-accepted
-slice-read-is-accepted c = search needs
-
-is-accepted-requires : tie.Need-is-accepted-requires
-is-accepted-requires c κs = tt
-
 wait-requires : tie.Need-wait-requires
 wait-requires c κs = let s = c .before .before .before .before .before .before .before .before .before .before .before .before .before .before .before .before in (s .pre .0, s .pre .1)
 
@@ -65,21 +56,4 @@ returns-2 c =
     (ap (λ b. cond b (waits (s .args .u) (s .args .k) (s .args .a) st) st) (sym e) ∙ sym (offer-by (s .args .a) (s .args .q) (s .args .u) (s .args .k) st), s .pre .0)
 
 pub offer-to-spec : {M : Type 1} → statement M
-offer-to-spec =
-    tie.close
-    (tie.spec
-    mul-tie-rule
-    slice-read-tie-rule
-    mul-tie-rule-2
-    slice-read-tie-rule-2
-    tie-rule-requires
-    slice-read-is-accepted
-    is-accepted-requires
-    wait-requires
-    same-length
-    same-length-2
-    same-length-3
-    same-length-4
-    same-length-5
-    returns
-    returns-2)
+offer-to-spec = tie.close (tie.spec mul-tie-rule slice-read-tie-rule mul-tie-rule-2 slice-read-tie-rule-2 (λ c κs. tt) (λ c. search needs) (λ c κs. tt) wait-requires same-length same-length-2 same-length-3 same-length-4 same-length-5 returns returns-2)

@@ -10,23 +10,11 @@ use borrow.Author.Needs.{needs}
 use Rattle.query_relaxing.proofs.relax_edge.Statement.{statement}
 use Rattle.query_relaxing.proofs.relax_edge.Tie as tie
 
-mul-other-end : tie.Need-mul-other-end
-mul-other-end c = search needs
-
 shared-slice-read-other-end : tie.Need-shared-slice-read-other-end
 shared-slice-read-other-end c = omega (arith, c .before .before .before .before .before .before .before .before .before .pre .1 .0)
 
-mul-other-end-2 : tie.Need-mul-other-end-2
-mul-other-end-2 c = search needs
-
 shared-slice-read-other-end-2 : tie.Need-shared-slice-read-other-end-2
 shared-slice-read-other-end-2 c = omega (arith, c .before .before .before .before .before .before .before .before .before .before .pre .1 .0)
-
-other-end-requires : tie.Need-other-end-requires
-other-end-requires c κs = tt
-
-mul-offer-to : tie.Need-mul-offer-to
-mul-offer-to c = search needs
 
 shared-slice-read-offer-to : tie.Need-shared-slice-read-offer-to
 shared-slice-read-offer-to c = omega (arith, c .before .before .before .before .before .before .before .before .before .before .before .before .before .before .before .before .before .pre .1 .0)
@@ -69,21 +57,4 @@ returns c =
     )
 
 pub relax-edge-spec : {M : Type 1} → statement M
-relax-edge-spec =
-    tie.close
-    (tie.spec
-    mul-other-end
-    shared-slice-read-other-end
-    mul-other-end-2
-    shared-slice-read-other-end-2
-    other-end-requires
-    mul-offer-to
-    shared-slice-read-offer-to
-    add-offer-to
-    offer-to-requires
-    same-length
-    same-length-2
-    same-length-3
-    same-length-4
-    same-length-5
-    returns)
+relax-edge-spec = tie.close (tie.spec (λ c. search needs) shared-slice-read-other-end (λ c. search needs) shared-slice-read-other-end-2 (λ c κs. tt) (λ c. search needs) shared-slice-read-offer-to add-offer-to offer-to-requires same-length same-length-2 same-length-3 same-length-4 same-length-5 returns)

@@ -12,12 +12,6 @@ returns c = let s = c .before .args in sym (changes-lighter (s .u) (s .k) (s .q)
 returns-2 : tie.Need-returns-2
 returns-2 c = let s = c .before .before .args in sym (changes-heavier (s .u) (s .k) (s .q) (s .w) (s .p) (c .if2 .taken))
 
-difference-requires : tie.Need-difference-requires
-difference-requires c κs = tt
-
-difference-requires-2 : tie.Need-difference-requires-2
-difference-requires-2 c κs = tt
-
 returns-3 : tie.Need-returns-3
 returns-3 c =
     let s = c .before .before .before .before .before .args in
@@ -37,13 +31,4 @@ returns-5 c =
     sym (changes-equally-near (s .u) (s .k) (s .q) (s .w) (s .p) e (omega (arith, c .before .before .before .difference .ensures, c .before .before .difference2 .ensures)))
 
 pub tie-rule-spec : {M : Type 1} → statement M
-tie-rule-spec =
-    tie.close
-    (tie.spec
-    returns
-    returns-2
-    difference-requires
-    difference-requires-2
-    returns-3
-    returns-4
-    returns-5)
+tie-rule-spec = tie.close (tie.spec returns returns-2 (λ c κs. tt) (λ c κs. tt) returns-3 returns-4 returns-5)

@@ -17,9 +17,6 @@ use borrow.Author.Needs.{needs}
 use Rattle.query_search.proofs.row_weight.Statement.{statement}
 use Rattle.query_search.proofs.row_weight.Tie as tie
 
-cast-result : tie.Need-cast-result
-cast-result c = search needs
-
 returns : tie.Need-returns
 returns c = let s = c .before in simp (lt-ltb (s .args .weight) 2147483648 (s .pre)) (ap (λ b. cond b (pos (s .args .weight)) (negsuc 0)) (sym (eq-eqb (s .args .status) 2 (c .if1 .taken))))
 
@@ -27,4 +24,4 @@ returns-2 : tie.Need-returns-2
 returns-2 c = let s = c .before in ap (λ b. cond b (pos (s .args .weight)) (negsuc 0)) (sym (ne-eqb (s .args .status) 2 (c .if1 .left)))
 
 pub row-weight-spec : {M : Type 1} → statement M
-row-weight-spec = tie.close (tie.spec cast-result returns returns-2)
+row-weight-spec = tie.close (tie.spec (λ c. search needs) returns returns-2)

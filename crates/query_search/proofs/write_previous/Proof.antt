@@ -27,29 +27,11 @@ loop-holds : tie.Need-loop-holds Inv-loop μ-loop
 unfolding each
 loop-holds c = (search needs, refl, λ w. refl)
 
-shared-slice-read-row-previous : tie.Need-shared-slice-read-row-previous Inv-loop μ-loop
-shared-slice-read-row-previous c = search needs
-
-mul-row-previous : tie.Need-mul-row-previous Inv-loop μ-loop
-mul-row-previous c = search needs
-
 shared-slice-read-row-previous-2 : tie.Need-shared-slice-read-row-previous-2 Inv-loop μ-loop
 shared-slice-read-row-previous-2 c = omega (arith, c .before .before .before .before .before .before .before .pre .0)
 
-row-previous-requires : tie.Need-row-previous-requires Inv-loop μ-loop
-row-previous-requires c κs = tt
-
-mul-out : tie.Need-mul-out Inv-loop μ-loop
-mul-out c = search needs
-
 slice-write-out : tie.Need-slice-write-out Inv-loop μ-loop
 slice-write-out c = omega (arith, c .before .before .before .before .before .before .before .before .pre .1, c .before .before .before .before .loop .inv .1)
-
-add-v : tie.Need-add-v Inv-loop μ-loop
-add-v c = search needs
-
-loop-less : tie.Need-loop-less Inv-loop μ-loop
-loop-less c = search needs
 
 loop-again : tie.Need-loop-again Inv-loop μ-loop
 loop-again c =
@@ -68,20 +50,4 @@ returns c =
     λ w. at .inv .2 w ∙ ap (λ k. sets (s .args .out .now) 0 (each k (tablePrevious (stateOf (s .args .status .now) w (s .args .previous .now))))) e
 
 pub write-previous-spec : {M : Type 1} → statement M
-write-previous-spec =
-    tie.close
-    (tie.spec
-    Inv-loop
-    μ-loop
-    loop-holds
-    shared-slice-read-row-previous
-    mul-row-previous
-    shared-slice-read-row-previous-2
-    row-previous-requires
-    mul-out
-    slice-write-out
-    add-v
-    loop-less
-    loop-again
-    same-length
-    returns)
+write-previous-spec = tie.close (tie.spec Inv-loop μ-loop loop-holds (λ c. search needs) (λ c. search needs) shared-slice-read-row-previous-2 (λ c κs. tt) (λ c. search needs) slice-write-out (λ c. search needs) (λ c. search needs) loop-again same-length returns)

@@ -29,29 +29,14 @@ loop-holds : tie.Need-loop-holds Inv-loop μ-loop
 unfolding each
 loop-holds c = (search needs, refl, λ p. refl)
 
-shared-slice-read-row-weight : tie.Need-shared-slice-read-row-weight Inv-loop μ-loop
-shared-slice-read-row-weight c = search needs
-
-mul-row-weight : tie.Need-mul-row-weight Inv-loop μ-loop
-mul-row-weight c = search needs
-
 shared-slice-read-row-weight-2 : tie.Need-shared-slice-read-row-weight-2 Inv-loop μ-loop
 shared-slice-read-row-weight-2 c = omega (arith, c .before .before .before .before .before .before .pre .0)
 
 row-weight-requires : tie.Need-row-weight-requires Inv-loop μ-loop
 row-weight-requires c κs = c .before .before .before .before .before .before .pre .2 (c .before .before .before .loop .v) (c .before .before .loop-test .taken)
 
-mul-t12 : tie.Need-mul-t12 Inv-loop μ-loop
-mul-t12 c = search needs
-
 slice-set-from-out : tie.Need-slice-set-from-out Inv-loop μ-loop
 slice-set-from-out c = omega (arith, c .before .before .before .before .before .before .before .pre .1, c .before .before .before .before .loop .inv .1)
-
-add-v : tie.Need-add-v Inv-loop μ-loop
-add-v c = search needs
-
-loop-less : tie.Need-loop-less Inv-loop μ-loop
-loop-less c = search needs
 
 loop-again : tie.Need-loop-again Inv-loop μ-loop
 loop-again c =
@@ -70,20 +55,4 @@ returns c =
     λ p. at .inv .2 p ∙ ap (λ k. sets (s .args .out .now) 0 (each k (tableWeight (stateOf (s .args .status .now) (s .args .weight .now) p)))) e
 
 pub write-weights-spec : {M : Type 1} → statement M
-write-weights-spec =
-    tie.close
-    (tie.spec
-    Inv-loop
-    μ-loop
-    loop-holds
-    shared-slice-read-row-weight
-    mul-row-weight
-    shared-slice-read-row-weight-2
-    row-weight-requires
-    mul-t12
-    slice-set-from-out
-    add-v
-    loop-less
-    loop-again
-    same-length
-    returns)
+write-weights-spec = tie.close (tie.spec Inv-loop μ-loop loop-holds (λ c. search needs) (λ c. search needs) shared-slice-read-row-weight-2 row-weight-requires (λ c. search needs) slice-set-from-out (λ c. search needs) (λ c. search needs) loop-again same-length returns)

@@ -19,21 +19,11 @@ next-start ends (suc v) f = let e : suc v - 1 ≡ v = omega arith in ap (λ k. g
 returns : tie.Need-returns
 returns c = let s = c .before .before .args in zero-start (s .list-ends .now) (s .v) (c .if1 .taken)
 
-sub-wide : tie.Need-sub-wide
-sub-wide c = search needs
-
-mul-wide : tie.Need-mul-wide
-mul-wide c = search needs
-
 shared-slice-read-wide : tie.Need-shared-slice-read-wide
 shared-slice-read-wide c = omega (arith, c .before .before .before .pre)
-
-wide-requires : tie.Need-wide-requires
-wide-requires c κs = tt
 
 returns-2 : tie.Need-returns-2
 returns-2 c = let s = c .before .before .before .before .args in c .wide .ensures ∙ next-start (s .list-ends .now) (s .v) (c .before .before .if1 .left)
 
 pub list-start-spec : {M : Type 1} → statement M
-list-start-spec =
-    tie.close (tie.spec returns sub-wide mul-wide shared-slice-read-wide wide-requires returns-2)
+list-start-spec = tie.close (tie.spec returns (λ c. search needs) (λ c. search needs) shared-slice-read-wide (λ c κs. tt) returns-2)

@@ -45,9 +45,6 @@ relax-edge-requires c κs =
 add-i : tie.Need-add-i Inv-loop μ-loop
 add-i c = omega (arith, c .before .before .before .before .before .before .before .before .before .before .before .before .before .before .before .before .before .before .before .before .before .before .before .before .before .before .before .before .pre .1 .inside)
 
-loop-less : tie.Need-loop-less Inv-loop μ-loop
-loop-less c = search needs
-
 loop-again : tie.Need-loop-again Inv-loop μ-loop
 loop-again c =
     let s = c .before .before .before .before .before .before .before .before .before .before .before .before .before .before .before .before .before .before .before .before .before .before .before .before .before .before .before .before in
@@ -85,21 +82,4 @@ returns c =
     ((λ n m. at .inv .4 n m ∙ ap (λ k. relaxAlong (graphOf n (s .args .ends-a .now) (s .args .ends-b .now) m) (weighs (s .args .weights .now)) (s .args .a) (s .args .q) (s .args .w) (take (k - s .args .from) (drop (s .args .from) (s .args .numbers .now))) (stateOf (s .args .status .now) (s .args .weight .now) (s .args .previous .now))) e), at .inv .3)
 
 pub relax-list-spec : {M : Type 1} → statement M
-relax-list-spec =
-    tie.close
-    (tie.spec
-    Inv-loop
-    μ-loop
-    loop-holds
-    mul-relax-edge
-    shared-slice-read-relax-edge
-    relax-edge-requires
-    add-i
-    loop-less
-    loop-again
-    same-length
-    same-length-2
-    same-length-3
-    same-length-4
-    same-length-5
-    returns)
+relax-list-spec = tie.close (tie.spec Inv-loop μ-loop loop-holds mul-relax-edge shared-slice-read-relax-edge relax-edge-requires add-i (λ c. search needs) loop-again same-length same-length-2 same-length-3 same-length-4 same-length-5 returns)

@@ -29,9 +29,6 @@ abbrev μ-loop : tie.MeasureT-loop
 loop-holds : tie.Need-loop-holds Inv-loop μ-loop
 loop-holds c = let s = c .before .before .before .before .before .before .before .before .before .before in (omega arith, refl, s .pre .0, (λ m. begins (length (s .args .status .now)) (s .args .ends-a .now) (s .args .ends-b .now) (s .args .weights .now) (s .args .status .now) (s .args .weight .now) (s .args .previous .now) (s .args .stop) refl (s .pre .1 .1) m), refl, refl)
 
-is-stopped-requires : tie.Need-is-stopped-requires Inv-loop μ-loop
-is-stopped-requires c κs = tt
-
 same-length : tie.Need-same-length Inv-loop μ-loop
 same-length c = c .before .before .before .before .loop .inv .1
 
@@ -87,12 +84,6 @@ returns-2 c =
       ready-as (at .inv .1) (o .1 .0),
     )
 
-add-t : tie.Need-add-t Inv-loop μ-loop
-add-t c = search needs
-
-loop-less : tie.Need-loop-less Inv-loop μ-loop
-loop-less c = search needs
-
 loop-again : tie.Need-loop-again Inv-loop μ-loop
 loop-again c =
     let s = c .before .before .before .before .before .before .before .before .before .before .before .before .before .before .before .before .before .before .before .before .before .before .before .before .before .before .before .before .before .before .before .before in
@@ -131,32 +122,4 @@ returns-3 c =
     ((λ m. at .inv .3 m ∙ ap (S.settle (graphOf (length (s .args .status .now)) (s .args .ends-a .now) (s .args .ends-b .now) m) (weighs (s .args .weights .now)) (sources (s .args .status .now)) (endOf (length (s .args .status .now)) (s .args .stop))) e), at .inv .2)
 
 pub settle-spec : {M : Type 1} → statement M
-settle-spec =
-    tie.close
-    (tie.spec
-    Inv-loop
-    μ-loop
-    loop-holds
-    is-stopped-requires
-    same-length
-    same-length-2
-    same-length-3
-    same-length-4
-    same-length-5
-    returns
-    turn-requires
-    same-length-6
-    same-length-7
-    same-length-8
-    same-length-9
-    same-length-10
-    returns-2
-    add-t
-    loop-less
-    loop-again
-    same-length-11
-    same-length-12
-    same-length-13
-    same-length-14
-    same-length-15
-    returns-3)
+settle-spec = tie.close (tie.spec Inv-loop μ-loop loop-holds (λ c κs. tt) same-length same-length-2 same-length-3 same-length-4 same-length-5 returns turn-requires same-length-6 same-length-7 same-length-8 same-length-9 same-length-10 returns-2 (λ c. search needs) (λ c. search needs) loop-again same-length-11 same-length-12 same-length-13 same-length-14 same-length-15 returns-3)

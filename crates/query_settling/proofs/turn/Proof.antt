@@ -17,24 +17,12 @@ use Rattle.query_settling.proofs.turn.Tie as tie
 least-requires : tie.Need-least-requires
 least-requires c κs = let p = c .before .before .before .before .before .before .before .before .before .before .before .before .pre in ((p .0 .node-fits, omega (arith, p .0 .leaf-fits)), (p .1 .1 .0, (p .0 .few, p .0 .tree)))
 
-same-length : tie.Need-same-length
-same-length c = search needs
-
-same-length-2 : tie.Need-same-length-2
-same-length-2 c = search needs
-
 returns : tie.Need-returns
 returns c =
     let s = c .before .before .before .before .before .before .before .before .before .before .before .before .before .before in
     let st = stateOf (s .args .status .now) (s .args .weight .now) (s .args .previous .now) in
     let e = takes-none (s .pre .0) (c .before .least .result) (c .before .least .ensures) (c .if1 .taken) in
     ((λ m. ap (takeChosen (graphOf (length (s .args .status .now)) (s .args .ends-a .now) (s .args .ends-b .now) m) (weighs (s .args .weights .now)) st) (sym e)), (s .pre .0, λ _. e))
-
-cast-a : tie.Need-cast-a
-cast-a c = search needs
-
-wide-requires : tie.Need-wide-requires
-wide-requires c κs = tt
 
 mul-w : tie.Need-mul-w
 mul-w c =
@@ -85,9 +73,6 @@ shared-slice-read-wide c =
     let t = taken-is (s .pre .0) (c .before .before .before .before .before .before .least .result) (c .before .before .before .before .before .before .least .ensures) (c .before .before .before .before .before .if1 .left) in
     omega (arith, t .0, s .pre .1 .0 .ends-fit, c .before .before .before .before .wide .ensures)
 
-wide-requires-2 : tie.Need-wide-requires-2
-wide-requires-2 c κs = tt
-
 slice-write-status : tie.Need-slice-write-status
 slice-write-status c =
     let s = c .before .before .before .before .before .before .before .before .before .before .before .before .before .before .before .before .before .before .before .before in
@@ -118,18 +103,6 @@ relax-list-requires c κs =
 same-length-3 : tie.Need-same-length-3
 same-length-3 c = let s = c .before .before .before .before .before .before .before .before .before .before .before .before .before .before .before .before .before .before .before .before .before .before .before .before .before .before .before .before .before .before .before .before .before .before .before .before .before .before .before .before .before .before .before in c .before .before .before .before .before .before .before .before .before .before .relax-list .kept .1 .1 .1 .1 .1 .1 .0 ∙ length-set (s .args .status .now) _ 2
 
-same-length-4 : tie.Need-same-length-4
-same-length-4 c = search needs
-
-same-length-5 : tie.Need-same-length-5
-same-length-5 c = search needs
-
-same-length-6 : tie.Need-same-length-6
-same-length-6 c = search needs
-
-same-length-7 : tie.Need-same-length-7
-same-length-7 c = search needs
-
 returns-2 : tie.Need-returns-2
 returns-2 c =
     let s = c .before .before .before .before .before .before .before .before .before .before .before .before .before .before .before .before .before .before .before .before .before .before .before .before .before .before .before .before .before .before .before .before .before .before .before .before .before .before .before .before .before .before .before in
@@ -141,29 +114,4 @@ returns-2 c =
     ((λ m. turn-is (s .pre .0) (least .result) (least .ensures) (c .before .before .before .before .before .before .before .before .before .before .before .before .before .before .before .before .before .before .before .before .before .before .before .before .before .before .before .before .before .if1 .left) (s .pre .1 .0) v (least .result % 4096) (c .before .before .before .before .before .before .before .before .before .before .before .before .before .before .before .before .before .before .before .before .before .before .before .before .before .list-start .result) (c .before .before .before .before .before .before .before .before .before .before .before .before .before .before .before .before .before .before .before .before .before .before .before .wide2 .result) (c .before .before .before .before .before .before .before .before .before .before .before .before .before .before .before .before .before .before .before .before .before .before .before .before .before .before .before .before .wide .ensures) refl (c .before .before .before .before .before .before .before .before .before .before .before .before .before .before .before .before .before .before .before .before .before .before .before .before .before .list-start .ensures) (c .before .before .before .before .before .before .before .before .before .before .before .before .before .before .before .before .before .before .before .before .before .before .before .wide2 .ensures) m _ (q .0 (length (s .args .status .now)) m)), (ready-as len (q .1), λ e. absurd (true≢false e)))
 
 pub turn-spec : {M : Type 1} → statement M
-turn-spec =
-    tie.close
-    (tie.spec
-    least-requires
-    same-length
-    same-length-2
-    returns
-    cast-a
-    wide-requires
-    mul-w
-    slice-read-w
-    mul-q
-    slice-read-q
-    list-start-requires
-    mul-wide
-    shared-slice-read-wide
-    wide-requires-2
-    slice-write-status
-    put-requires
-    relax-list-requires
-    same-length-3
-    same-length-4
-    same-length-5
-    same-length-6
-    same-length-7
-    returns-2)
+turn-spec = tie.close (tie.spec least-requires (λ c. search needs) (λ c. search needs) returns (λ c. search needs) (λ c κs. tt) mul-w slice-read-w mul-q slice-read-q list-start-requires mul-wide shared-slice-read-wide (λ c κs. tt) slice-write-status put-requires relax-list-requires same-length-3 (λ c. search needs) (λ c. search needs) (λ c. search needs) (λ c. search needs) returns-2)

@@ -9,15 +9,6 @@ use borrow.Author.Needs.{needs}
 use Rattle.query_sources.proofs.begin.Statement.{statement}
 use Rattle.query_sources.proofs.begin.Tie as tie
 
-fill-u32-requires : tie.Need-fill-u32-requires
-fill-u32-requires c κs = tt
-
-own-previous-requires : tie.Need-own-previous-requires
-own-previous-requires c κs = search needs
-
-put-sources-requires : tie.Need-put-sources-requires
-put-sources-requires c κs = search needs
-
 same-length : tie.Need-same-length
 same-length c = c .before .before .before .before .before .before .before .before .before .before .before .before .weight .given
 
@@ -40,14 +31,4 @@ returns c =
     (ready-first (s .args .status .now) _ _ _ _ (s .pre .0) w p (omega (arith, k .kept .1 .0, s .pre .3)) (k .kept .1 .1 .0 ∙ s .pre .4) (k .ensures .1) (k .ensures .0), (w, p))
 
 pub begin-spec : {M : Type 1} → statement M
-begin-spec =
-    tie.close
-    (tie.spec
-    fill-u32-requires
-    own-previous-requires
-    put-sources-requires
-    same-length
-    same-length-2
-    same-length-3
-    same-length-4
-    returns)
+begin-spec = tie.close (tie.spec (λ c κs. tt) (λ c κs. search needs) (λ c κs. search needs) same-length same-length-2 same-length-3 same-length-4 returns)

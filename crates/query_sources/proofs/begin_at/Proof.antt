@@ -13,9 +13,6 @@ use Rattle.columns.proofs.Counting.{store-each, whole, replicate-each, length-e
 use Rattle.query_sources.proofs.begin_at.Statement.{statement}
 use Rattle.query_sources.proofs.begin_at.Tie as tie
 
-fill-u8-requires : tie.Need-fill-u8-requires
-fill-u8-requires c κs = tt
-
 slice-write-status : tie.Need-slice-write-status
 slice-write-status c = let s = c .before .before .before .before .before .before in omega (arith, ap length (c .before .before .before .fill-u8 .ensures), length-sets (s .args .status .now) 0 (replicate (length (s .args .status .now)) 0))
 
@@ -32,6 +29,4 @@ returns-2 : tie.Need-returns-2
 returns-2 c = let s = c .before .before .before .before .before .before in c .before .before .before .fill-u8 .ensures ∙ whole (s .args .status .now) (replicate (length (s .args .status .now)) 0) (length-replicate (length (s .args .status .now)) 0) ∙ sym (set-out (replicate (length (s .args .status .now)) 0) (s .args .a) 1 (omega (arith, length-replicate {A = ℕ} (length (s .args .status .now)) 0)))
 
 pub begin-at-spec : {M : Type 1} → statement M
-begin-at-spec =
-    tie.close
-    (tie.spec fill-u8-requires slice-write-status same-length returns same-length-2 returns-2)
+begin-at-spec = tie.close (tie.spec (λ c κs. tt) slice-write-status same-length returns same-length-2 returns-2)

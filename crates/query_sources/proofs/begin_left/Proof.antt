@@ -28,15 +28,6 @@ loop-holds c = (search needs, refl, refl)
 shared-slice-read-left-mark : tie.Need-shared-slice-read-left-mark Inv-loop μ-loop
 shared-slice-read-left-mark c = omega (arith, c .before .before .before .before .before .pre, c .before .before .loop .inv .1)
 
-left-mark-requires : tie.Need-left-mark-requires Inv-loop μ-loop
-left-mark-requires c κs = tt
-
-slice-write-status : tie.Need-slice-write-status Inv-loop μ-loop
-slice-write-status c = search needs
-
-add-v : tie.Need-add-v Inv-loop μ-loop
-add-v c = search needs
-
 loop-less : tie.Need-loop-less Inv-loop μ-loop
 loop-less c = omega (arith, c .before .before .before .loop .inv .1, c .before .before .loop-test .taken)
 
@@ -60,17 +51,4 @@ returns c =
     at .inv .2 ∙ ap (λ k. sets (s .args .status .now) 0 (each k f)) e ∙ whole (s .args .status .now) (each n f) (length-each n f)
 
 pub begin-left-spec : {M : Type 1} → statement M
-begin-left-spec =
-    tie.close
-    (tie.spec
-    Inv-loop
-    μ-loop
-    loop-holds
-    shared-slice-read-left-mark
-    left-mark-requires
-    slice-write-status
-    add-v
-    loop-less
-    loop-again
-    same-length
-    returns)
+begin-left-spec = tie.close (tie.spec Inv-loop μ-loop loop-holds shared-slice-read-left-mark (λ c κs. tt) (λ c. search needs) (λ c. search needs) loop-less loop-again same-length returns)

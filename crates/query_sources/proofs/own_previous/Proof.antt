@@ -27,15 +27,6 @@ loop-holds c = (search needs, refl, refl)
 cast-previous : tie.Need-cast-previous Inv-loop μ-loop
 cast-previous c = omega (arith, c .before .before .pre, c .before .loop .inv .1)
 
-mul-previous : tie.Need-mul-previous Inv-loop μ-loop
-mul-previous c = search needs
-
-slice-write-previous : tie.Need-slice-write-previous Inv-loop μ-loop
-slice-write-previous c = search needs
-
-add-v : tie.Need-add-v Inv-loop μ-loop
-add-v c = search needs
-
 loop-less : tie.Need-loop-less Inv-loop μ-loop
 loop-less c = omega (arith, c .before .loop .inv .1, c .loop-test .taken)
 
@@ -57,17 +48,4 @@ returns c =
     at .inv .2 ∙ ap (λ k. sets (s .args .previous .now) 0 (each k (λ v. v))) e ∙ whole (s .args .previous .now) (each n (λ v. v)) (length-each n (λ v. v))
 
 pub own-previous-spec : {M : Type 1} → statement M
-own-previous-spec =
-    tie.close
-    (tie.spec
-    Inv-loop
-    μ-loop
-    loop-holds
-    cast-previous
-    mul-previous
-    slice-write-previous
-    add-v
-    loop-less
-    loop-again
-    same-length
-    returns)
+own-previous-spec = tie.close (tie.spec Inv-loop μ-loop loop-holds cast-previous (λ c. search needs) (λ c. search needs) (λ c. search needs) loop-less loop-again same-length returns)

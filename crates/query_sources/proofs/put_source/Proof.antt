@@ -37,6 +37,4 @@ returns-2 c =
     (ap (λ b. cond b (set (s .args .leaf .now) (s .args .v) (s .args .v)) (s .args .leaf .now)) (sym (ne-eqb _ 1 (c .if1 .left))), (s .pre .3, refl))
 
 pub put-source-spec : {M : Type 1} → statement M
-put-source-spec =
-    tie.close
-    (tie.spec shared-slice-read-if1 put-requires same-length same-length-2 returns returns-2)
+put-source-spec = tie.close (tie.spec shared-slice-read-if1 put-requires same-length same-length-2 returns returns-2)

@@ -32,12 +32,6 @@ loop-holds c = let e = c .before .before .before .before .clear .ensures in let 
 put-source-requires : tie.Need-put-source-requires Inv-loop μ-loop
 put-source-requires c κs = let s = c .before .before .before .before .before .before .before .before .before .before .before .before .before .before in let at = c .before .before .before .loop in (s .pre .0, omega (arith, at .inv .5, c .before .before .loop-test .taken), (omega (arith, at .inv .2, c .before .before .before .before .before .before .before .before .clear .ensures .1 .1 .0, s .pre .1), omega (arith, at .inv .1)), at .inv .3)
 
-add-v : tie.Need-add-v Inv-loop μ-loop
-add-v c = search needs
-
-loop-less : tie.Need-loop-less Inv-loop μ-loop
-loop-less c = search needs
-
 loop-again : tie.Need-loop-again Inv-loop μ-loop
 loop-again c =
     let s = c .before .before .before .before .before .before .before .before .before .before .before .before .before .before .before .before .before .before .before in
@@ -65,17 +59,4 @@ returns c =
     (subst (λ k. Keyed (s .args .status .now) k (at .leaf)) e (at .inv .4), at .inv .3)
 
 pub put-sources-spec : {M : Type 1} → statement M
-put-sources-spec =
-    tie.close
-    (tie.spec
-    Inv-loop
-    μ-loop
-    clear-requires
-    loop-holds
-    put-source-requires
-    add-v
-    loop-less
-    loop-again
-    same-length
-    same-length-2
-    returns)
+put-sources-spec = tie.close (tie.spec Inv-loop μ-loop clear-requires loop-holds put-source-requires (λ c. search needs) (λ c. search needs) loop-again same-length same-length-2 returns)

@@ -3,9 +3,6 @@ use borrow.Author.Needs.{needs}
 use Rattle.query_tables.proofs.all_edges.Statement.{statement}
 use Rattle.query_tables.proofs.all_edges.Tie as tie
 
-all-edges-with-terminate-requires : tie.Need-all-edges-with-terminate-requires
-all-edges-with-terminate-requires c κs = tt
-
 same-length : tie.Need-same-length
 same-length c = c .before .before .before .before .before .before .before .before .before .before .before .before .before .before .before .before .out-weight .given
 
@@ -33,21 +30,5 @@ same-length-8 c = c .before .before .before .node .given
 same-length-9 : tie.Need-same-length-9
 same-length-9 c = c .before .leaf .given
 
-returns : tie.Need-returns
-returns c = search needs
-
 pub all-edges-spec : {M : Type 1} → statement M
-all-edges-spec =
-    tie.close
-    (tie.spec
-    all-edges-with-terminate-requires
-    same-length
-    same-length-2
-    same-length-3
-    same-length-4
-    same-length-5
-    same-length-6
-    same-length-7
-    same-length-8
-    same-length-9
-    returns)
+all-edges-spec = tie.close (tie.spec (λ c κs. tt) same-length same-length-2 same-length-3 same-length-4 same-length-5 same-length-6 same-length-7 same-length-8 same-length-9 (λ c. search needs))

@@ -44,39 +44,6 @@ number-then : (c : tie.Then1) → number-at (c .before .before .before .before .
 unfolding number-at engine-of scratch-at
 number-then c = sym (table-number (engine-of (c .before .before .before .before .before .before .before .before .before .before .before .before .before .before .before .before .before .before .before .before .before .before .before .before .before .before .before)) (scratch-at (c .before .before .before .before .before .before .before .before .before .before .before .before .before .before .before .before .before .before .before .before .before .before .before .before .before .before .before)) (c .before .before .before .before .before .before .before .before .before .before .before .before .before .before .before .before .before .before .before .before .before .before .before .before .before .before .before .args .source .0) (c .before .before .before .before .before .before .before .before .before .before .before .before .before .before .before .before .before .before .before .before .before .before .before .before .before .before .before .args .end) _ _ (c .before .query-door .ensures) (c .before .before .before .before .before .before .both2 .ensures) (c .before .before .before .before .before .before .before .both .ensures) (c .before .before .before .before .before .before .before .before .before .at-most .ensures) (c .before .before .before .before .before .before .before .before .at-most2 .ensures) (c .before .before .before .before .before .before .before .before .before .before .scratch-long .ensures) (c .before .before .both3 .ensures) (c .before .before .before .end-in-range .ensures)) ∙ c .if1 .taken
 
-cast-v : tie.Need-cast-v
-cast-v c = search needs
-
-cast-e : tie.Need-cast-e
-cast-e c = search needs
-
-scratch-long-requires : tie.Need-scratch-long-requires
-scratch-long-requires c κs = tt
-
-at-most-requires : tie.Need-at-most-requires
-at-most-requires c κs = tt
-
-at-most-requires-2 : tie.Need-at-most-requires-2
-at-most-requires-2 c κs = tt
-
-both-requires : tie.Need-both-requires
-both-requires c κs = tt
-
-both-requires-2 : tie.Need-both-requires-2
-both-requires-2 c κs = tt
-
-end-in-range-requires : tie.Need-end-in-range-requires
-end-in-range-requires c κs = tt
-
-both-requires-3 : tie.Need-both-requires-3
-both-requires-3 c κs = tt
-
-query-door-requires : tie.Need-query-door-requires
-query-door-requires c κs = tt
-
-stop-of-requires : tie.Need-stop-of-requires
-stop-of-requires c κs = tt
-
 slice-aggregate-run-table : tie.Need-slice-aggregate-run-table
 unfolding number-at engine-of scratch-at
 slice-aggregate-run-table c =
@@ -190,20 +157,8 @@ same-length-3 c = c .before .before .before .before .before .before .before .bef
 same-length-4 : tie.Need-same-length-4
 same-length-4 c = c .before .before .before .before .before .before .before .before .before .before .before .before .before .before .list-ends .given
 
-same-length-5 : tie.Need-same-length-5
-same-length-5 c = search needs
-
-same-length-6 : tie.Need-same-length-6
-same-length-6 c = search needs
-
-same-length-7 : tie.Need-same-length-7
-same-length-7 c = search needs
-
 same-length-8 : tie.Need-same-length-8
 same-length-8 c = c .before .before .before .before .before .before .node .given
-
-same-length-9 : tie.Need-same-length-9
-same-length-9 c = search needs
 
 returns : tie.Need-returns
 unfolding number-at engine-of scratch-at
@@ -247,40 +202,4 @@ returns-2 c =
     )
 
 pub all-edges-with-terminate-spec : {M : Type 1} → statement M
-all-edges-with-terminate-spec =
-    tie.close
-    (tie.spec
-    cast-v
-    cast-e
-    scratch-long-requires
-    at-most-requires
-    at-most-requires-2
-    both-requires
-    both-requires-2
-    end-in-range-requires
-    both-requires-3
-    query-door-requires
-    stop-of-requires
-    slice-aggregate-run-table
-    slice-aggregate-run-table-2
-    slice-aggregate-run-table-3
-    slice-relend-prefix-run-table
-    slice-aggregate-run-table-4
-    slice-relend-prefix-run-table-2
-    slice-aggregate-run-table-5
-    slice-relend-prefix-run-table-3
-    slice-aggregate-run-table-6
-    slice-relend-prefix-run-table-4
-    slice-aggregate-run-table-7
-    run-table-requires
-    same-length
-    same-length-2
-    same-length-3
-    same-length-4
-    same-length-5
-    same-length-6
-    same-length-7
-    same-length-8
-    same-length-9
-    returns
-    returns-2)
+all-edges-with-terminate-spec = tie.close (tie.spec (λ c. search needs) (λ c. search needs) (λ c κs. tt) (λ c κs. tt) (λ c κs. tt) (λ c κs. tt) (λ c κs. tt) (λ c κs. tt) (λ c κs. tt) (λ c κs. tt) (λ c κs. tt) slice-aggregate-run-table slice-aggregate-run-table-2 slice-aggregate-run-table-3 slice-relend-prefix-run-table slice-aggregate-run-table-4 slice-relend-prefix-run-table-2 slice-aggregate-run-table-5 slice-relend-prefix-run-table-3 slice-aggregate-run-table-6 slice-relend-prefix-run-table-4 slice-aggregate-run-table-7 run-table-requires same-length same-length-2 same-length-3 same-length-4 (λ c. search needs) (λ c. search needs) (λ c. search needs) same-length-8 (λ c. search needs) returns returns-2)

@@ -21,9 +21,6 @@ use Rattle.query_search.proofs.Sources.{sources-only, waiting-one}
 use Rattle.query_tables.proofs.run_table.Statement.{statement}
 use Rattle.query_tables.proofs.run_table.Tie as tie
 
-begin-at-requires : tie.Need-begin-at-requires
-begin-at-requires c κs = tt
-
 search-requires : tie.Need-search-requires
 search-requires c κs =
     let s = c .before .before .before .before .before .before .before .before .before .before .before .before .before .before .before .before .before .before .before .before .before .before in let n = length (s .args .status .now) in
@@ -86,20 +83,4 @@ returns c =
     )
 
 pub run-table-spec : {M : Type 1} → statement M
-run-table-spec =
-    tie.close
-    (tie.spec
-    begin-at-requires
-    search-requires
-    write-weights-requires
-    write-previous-requires
-    same-length
-    same-length-2
-    same-length-3
-    same-length-4
-    same-length-5
-    same-length-6
-    same-length-7
-    same-length-8
-    same-length-9
-    returns)
+run-table-spec = tie.close (tie.spec (λ c κs. tt) search-requires write-weights-requires write-previous-requires same-length same-length-2 same-length-3 same-length-4 same-length-5 same-length-6 same-length-7 same-length-8 same-length-9 returns)

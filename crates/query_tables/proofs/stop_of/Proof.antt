@@ -17,20 +17,8 @@ use borrow.Author.Needs.{needs}
 use Rattle.query_tables.proofs.stop_of.Statement.{statement}
 use Rattle.query_tables.proofs.stop_of.Tie as tie
 
-enum-told : tie.Need-enum-told
-enum-told c = search needs
-
-enum-known-end : tie.Need-enum-known-end
-enum-known-end c = search needs
-
-named-stop-requires : tie.Need-named-stop-requires
-named-stop-requires c κs = tt
-
-returns : tie.Need-returns
-returns c = search needs
-
 returns-2 : tie.Need-returns-2
 returns-2 c = cc
 
 pub stop-of-spec : {M : Type 1} → statement M
-stop-of-spec = tie.close (tie.spec enum-told enum-known-end named-stop-requires returns returns-2)
+stop-of-spec = tie.close (tie.spec (λ c. search needs) (λ c. search needs) (λ c κs. tt) (λ c. search needs) returns-2)

@@ -13,17 +13,8 @@ use Rattle.reorder_orders.proofs.order_questions.Reads as order-questions-reads
 returns : tie.Need-returns
 returns c = let a = c .before .before .before .args in build-6 (a .order .now) (a .column .now) (omega arith)
 
-cast-if2 : tie.Need-cast-if2
-cast-if2 c = search needs
-
 returns-2 : tie.Need-returns-2
 returns-2 c = let a = c .before .before .before .before .args in build-11 (a .order .now) (a .column .now) (omega arith) (omega arith)
-
-cast-each-below : tie.Need-cast-each-below
-cast-each-below c = search needs
-
-each-below-requires : tie.Need-each-below-requires
-each-below-requires c κs = tt
 
 order-questions-requires : tie.Need-order-questions-requires
 order-questions-requires c κs = (omega arith, λ e. sym (c .each-below .ensures) ∙ e)
@@ -32,13 +23,4 @@ returns-3 : tie.Need-returns-3
 returns-3 c = let a = c .before .before .before .before .before .before .args in build-on (a .order .now) (a .column .now) (omega arith) (omega arith) (c .before .each-below .ensures) (c .order-questions .ensures)
 
 pub build-door-spec : {M : Type 1} → statement M
-build-door-spec =
-    tie.close
-    (tie.spec
-    returns
-    cast-if2
-    returns-2
-    cast-each-below
-    each-below-requires
-    order-questions-requires
-    returns-3)
+build-door-spec = tie.close (tie.spec returns (λ c. search needs) returns-2 (λ c. search needs) (λ c κs. tt) order-questions-requires returns-3)

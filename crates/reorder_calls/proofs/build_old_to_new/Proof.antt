@@ -10,15 +10,6 @@ use Rattle.columns.proofs.done_of.Reads as done-of-reads
 use Rattle.reorder_calls.proofs.build_door.Reads as build-door-reads
 use Rattle.reorder_orders.proofs.place_numbers.Reads as place-numbers-reads
 
-build-door-requires : tie.Need-build-door-requires
-build-door-requires c κs = tt
-
-done-of-requires : tie.Need-done-of-requires
-done-of-requires c κs = tt
-
-same-length : tie.Need-same-length
-same-length c = search needs
-
 returns : tie.Need-returns
 returns c = let a = c .before .before .before .before .before .before .args in built-refused (a .order .now) (a .column .now) (c .before .before .build-door .ensures) (c .before .if1 .taken) (c .done-of .ensures)
 
@@ -32,13 +23,4 @@ returns-2 : tie.Need-returns-2
 returns-2 c = let a = c .before .before .before .before .before .before .before .before .before .args in built-accepted (a .order .now) (a .column .now) (sym (c .before .before .before .before .before .build-door .ensures) ∙ c .before .before .before .before .if1 .left) (c .before .before .place-numbers .ensures)
 
 pub build-old-to-new-spec : {M : Type 1} → statement M
-build-old-to-new-spec =
-    tie.close
-    (tie.spec
-    build-door-requires
-    done-of-requires
-    same-length
-    returns
-    place-numbers-requires
-    same-length-2
-    returns-2)
+build-old-to-new-spec = tie.close (tie.spec (λ c κs. tt) (λ c κs. tt) (λ c. search needs) returns place-numbers-requires same-length-2 returns-2)

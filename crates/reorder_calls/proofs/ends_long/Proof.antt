@@ -9,18 +9,9 @@ use Rattle.reorder_calls.proofs.ends_long.Lts as lts
 use Rattle.columns.proofs.questions.at_most.Reads as at-most-reads
 use Rattle.columns.proofs.questions.both.Reads as both-reads
 
-at-most-requires : tie.Need-at-most-requires
-at-most-requires c κs = tt
-
-at-most-requires-2 : tie.Need-at-most-requires-2
-at-most-requires-2 c κs = tt
-
-both-requires : tie.Need-both-requires
-both-requires c κs = tt
-
 returns : tie.Need-returns
 unfolding endsLong
 returns c = c .both .ensures ∙ (λ i. (c .before .before .at-most .ensures) i && (c .before .at-most2 .ensures) i)
 
 pub ends-long-spec : {M : Type 1} → statement M
-ends-long-spec = tie.close (tie.spec at-most-requires at-most-requires-2 both-requires returns)
+ends-long-spec = tie.close (tie.spec (λ c κs. tt) (λ c κs. tt) (λ c κs. tt) returns)

@@ -11,22 +11,9 @@ use Rattle.columns.proofs.questions.at_most.Reads as at-most-reads
 use Rattle.columns.proofs.questions.both.Reads as both-reads
 use Rattle.reorder_calls.proofs.lists.sum_within.Reads as sum-within-reads
 
-mul-at-most : tie.Need-mul-at-most
-mul-at-most c = search needs
-
-at-most-requires : tie.Need-at-most-requires
-at-most-requires c κs = tt
-
-sum-within-requires : tie.Need-sum-within-requires
-sum-within-requires c κs = tt
-
-both-requires : tie.Need-both-requires
-both-requires c κs = tt
-
 returns : tie.Need-returns
 unfolding listsLong
 returns c = c .both .ensures ∙ (λ i. (c .before .before .at-most .ensures) i && (c .before .sum-within .ensures) i)
 
 pub lists-long-spec : {M : Type 1} → statement M
-lists-long-spec =
-    tie.close (tie.spec mul-at-most at-most-requires sum-within-requires both-requires returns)
+lists-long-spec = tie.close (tie.spec (λ c. search needs) (λ c κs. tt) (λ c κs. tt) (λ c κs. tt) returns)

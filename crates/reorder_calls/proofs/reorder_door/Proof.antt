@@ -11,12 +11,6 @@ use Rattle.reorder_calls.proofs.columns_long.Reads as columns-long-read
 use Rattle.reorder_calls.proofs.columns_sound.Reads as columns-sound-reads
 use Rattle.reorder_calls.proofs.reorder_questions.Reads as reorder-questions-reads
 
-columns-long-requires : tie.Need-columns-long-requires
-columns-long-requires c κs = tt
-
-columns-sound-requires : tie.Need-columns-sound-requires
-columns-sound-requires c κs = tt
-
 reorder-questions-requires : tie.Need-reorder-questions-requires
 reorder-questions-requires c κs =
     let a = c .before .before .before .before .before .before .before .before .before .before .before .before .before .args in
@@ -27,6 +21,4 @@ unfolding reorderDoor
 returns c = c .reorder-questions .ensures ∙ asks 6 (c .before .before .columns-long .ensures) (asks 7 (c .before .columns-sound .ensures) refl)
 
 pub reorder-door-spec : {M : Type 1} → statement M
-reorder-door-spec =
-    tie.close
-    (tie.spec columns-long-requires columns-sound-requires reorder-questions-requires returns)
+reorder-door-spec = tie.close (tie.spec (λ c κs. tt) (λ c κs. tt) reorder-questions-requires returns)

@@ -21,5 +21,4 @@ returns-3 : tie.Need-returns-3
 returns-3 c = passes (c .before .before .before .before .args .long) 6 _ (not-false _ (c .before .before .if1 .left)) (passes (c .before .before .before .before .args .sound) 7 _ (not-false _ (c .before .if2 .left)) (c .vertex-order-questions .ensures))
 
 pub reorder-questions-spec : {M : Type 1} → statement M
-reorder-questions-spec =
-    tie.close (tie.spec returns returns-2 vertex-order-questions-requires returns-3)
+reorder-questions-spec = tie.close (tie.spec returns returns-2 vertex-order-questions-requires returns-3)

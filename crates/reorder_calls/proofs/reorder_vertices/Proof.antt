@@ -20,42 +20,6 @@ use Rattle.reorder_columns.proofs.move_u8.Reads as move-u8-reads
 use Rattle.reorder_orders.proofs.rename_ends.Reads as rename-ends-reads
 use Rattle.reorder_calls.proofs.reorder_door.Reads as reorder-door-reads
 
-reorder-door-requires : tie.Need-reorder-door-requires
-reorder-door-requires c κs = tt
-
-done-of-requires : tie.Need-done-of-requires
-done-of-requires c κs = tt
-
-same-length : tie.Need-same-length
-same-length c = search needs
-
-same-length-2 : tie.Need-same-length-2
-same-length-2 c = search needs
-
-same-length-3 : tie.Need-same-length-3
-same-length-3 c = search needs
-
-same-length-4 : tie.Need-same-length-4
-same-length-4 c = search needs
-
-same-length-5 : tie.Need-same-length-5
-same-length-5 c = search needs
-
-same-length-6 : tie.Need-same-length-6
-same-length-6 c = search needs
-
-same-length-7 : tie.Need-same-length-7
-same-length-7 c = search needs
-
-same-length-8 : tie.Need-same-length-8
-same-length-8 c = search needs
-
-same-length-9 : tie.Need-same-length-9
-same-length-9 c = search needs
-
-same-length-10 : tie.Need-same-length-10
-same-length-10 c = search needs
-
 returns : tie.Need-returns
 returns c =
     let a = c .before .before .before .before .before .before .before .before .before .before .before .before .before .before .before .before .before .before .before .before .before .before .before .before .args in
@@ -153,36 +117,4 @@ returns-2 c =
     reordered-accepted (a .vertex-num) (a .edge-num) (a .order .now) b _ z (k .many) (ends .0) (ends .1) (c .before .before .before .before .before .before .before .before .before .before .before .before .before .before .before .before .before .before .before .before .before .before .before .before .before .before .before .before .move-u8 .ensures) (c .before .before .before .before .before .before .before .before .before .before .before .before .before .before .before .before .before .before .before .before .before .before .before .before .move-u82 .ensures) (at .0) (at .1 .0) (at .1 .1) (c .before .before .move-u32 .ensures) (lists .0) (lists .1)
 
 pub reorder-vertices-spec : {M : Type 1} → statement M
-reorder-vertices-spec =
-    tie.close
-    (tie.spec
-    reorder-door-requires
-    done-of-requires
-    same-length
-    same-length-2
-    same-length-3
-    same-length-4
-    same-length-5
-    same-length-6
-    same-length-7
-    same-length-8
-    same-length-9
-    same-length-10
-    returns
-    rename-ends-requires
-    move-u8-requires
-    move-u8-requires-2
-    move-positions-requires
-    move-lists-requires
-    move-u32-requires
-    same-length-11
-    same-length-12
-    same-length-13
-    same-length-14
-    same-length-15
-    same-length-16
-    same-length-17
-    same-length-18
-    same-length-19
-    same-length-20
-    returns-2)
+reorder-vertices-spec = tie.close (tie.spec (λ c κs. tt) (λ c κs. tt) (λ c. search needs) (λ c. search needs) (λ c. search needs) (λ c. search needs) (λ c. search needs) (λ c. search needs) (λ c. search needs) (λ c. search needs) (λ c. search needs) (λ c. search needs) returns rename-ends-requires move-u8-requires move-u8-requires-2 move-positions-requires move-lists-requires move-u32-requires same-length-11 same-length-12 same-length-13 same-length-14 same-length-15 same-length-16 same-length-17 same-length-18 same-length-19 same-length-20 returns-2)

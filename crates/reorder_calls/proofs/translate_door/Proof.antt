@@ -18,26 +18,8 @@ use Rattle.reorder_orders.proofs.order_questions.Reads as order-questions-reads
 returns : tie.Need-returns
 returns c = let a = c .before .before .before .before .args in translate-6 (a .order .now) (a .list .now) (a .column .now) (omega arith)
 
-cast-if2 : tie.Need-cast-if2
-cast-if2 c = search needs
-
 returns-2 : tie.Need-returns-2
 returns-2 c = let a = c .before .before .before .before .before .args in translate-11 (a .order .now) (a .list .now) (a .column .now) (omega arith) (omega arith)
-
-cast-each-below : tie.Need-cast-each-below
-cast-each-below c = search needs
-
-each-below-requires : tie.Need-each-below-requires
-each-below-requires c κs = tt
-
-cast-each-below-2 : tie.Need-cast-each-below-2
-cast-each-below-2 c = search needs
-
-each-below-requires-2 : tie.Need-each-below-requires-2
-each-below-requires-2 c κs = tt
-
-both-requires : tie.Need-both-requires
-both-requires c κs = tt
 
 order-questions-requires : tie.Need-order-questions-requires
 order-questions-requires c κs =
@@ -52,16 +34,4 @@ returns-3 c =
     translate-on (a .order .now) (a .list .now) (a .column .now) (omega arith) (omega arith) same (c .order-questions .ensures)
 
 pub translate-door-spec : {M : Type 1} → statement M
-translate-door-spec =
-    tie.close
-    (tie.spec
-    returns
-    cast-if2
-    returns-2
-    cast-each-below
-    each-below-requires
-    cast-each-below-2
-    each-below-requires-2
-    both-requires
-    order-questions-requires
-    returns-3)
+translate-door-spec = tie.close (tie.spec returns (λ c. search needs) returns-2 (λ c. search needs) (λ c κs. tt) (λ c. search needs) (λ c κs. tt) (λ c κs. tt) order-questions-requires returns-3)

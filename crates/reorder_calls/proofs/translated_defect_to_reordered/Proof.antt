@@ -9,9 +9,6 @@ use Rattle.reorder_calls.proofs.translated_defect_to_reordered.Lts as l
 use Rattle.reorder_orders.proofs.translate.Reads as translate-reads
 use Rattle.reorder_calls.proofs.translate_door.Reads as translate-door-reads
 
-translate-door-requires : tie.Need-translate-door-requires
-translate-door-requires c κs = tt
-
 translate-requires : tie.Need-translate-requires
 translate-requires c κs =
     let a = c .before .before .before .before .before .before .before .args in
@@ -24,19 +21,8 @@ same-length c = c .before .column .given
 returns : tie.Need-returns
 returns c = let a = c .before .before .before .before .before .before .before .before .before .before .args in translated-accepted (a .order .now) (a .list .now) (a .column .now) (sym (c .before .before .before .before .before .translate-door .ensures) ∙ c .before .before .before .before .if1 .taken) (c .before .before .translate .ensures)
 
-same-length-2 : tie.Need-same-length-2
-same-length-2 c = search needs
-
 returns-2 : tie.Need-returns-2
 returns-2 c = let a = c .before .before .before .before .before .before .args in translated-refused (a .order .now) (a .list .now) (a .column .now) (c .before .translate-door .ensures) (c .if1 .left)
 
 pub translated-defect-to-reordered-spec : {M : Type 1} → statement M
-translated-defect-to-reordered-spec =
-    tie.close
-    (tie.spec
-    translate-door-requires
-    translate-requires
-    same-length
-    returns
-    same-length-2
-    returns-2)
+translated-defect-to-reordered-spec = tie.close (tie.spec (λ c κs. tt) translate-requires same-length returns (λ c. search needs) returns-2)

@@ -9,32 +9,9 @@ use Rattle.reorder_calls.proofs.vertex_long.Lts as lts
 use Rattle.columns.proofs.questions.at_most.Reads as at-most-reads
 use Rattle.columns.proofs.questions.both.Reads as both-reads
 
-at-most-requires : tie.Need-at-most-requires
-at-most-requires c κs = tt
-
-at-most-requires-2 : tie.Need-at-most-requires-2
-at-most-requires-2 c κs = tt
-
-at-most-requires-3 : tie.Need-at-most-requires-3
-at-most-requires-3 c κs = tt
-
-both-requires : tie.Need-both-requires
-both-requires c κs = tt
-
-both-requires-2 : tie.Need-both-requires-2
-both-requires-2 c κs = tt
-
 returns : tie.Need-returns
 unfolding vertexLong
 returns c = c .both2 .ensures ∙ (λ i. (c .before .before .before .before .at-most .ensures) i && (c .before .both .ensures ∙ (λ i. (c .before .before .before .at-most2 .ensures) i && (c .before .before .at-most3 .ensures) i)) i)
 
 pub vertex-long-spec : {M : Type 1} → statement M
-vertex-long-spec =
-    tie.close
-    (tie.spec
-    at-most-requires
-    at-most-requires-2
-    at-most-requires-3
-    both-requires
-    both-requires-2
-    returns)
+vertex-long-spec = tie.close (tie.spec (λ c κs. tt) (λ c κs. tt) (λ c κs. tt) (λ c κs. tt) (λ c κs. tt) returns)

@@ -13,18 +13,6 @@ use Rattle.reorder_columns.proofs.move_positions_in.Lts as lts
 use Rattle.columns_stores.proofs.copy_f64.Reads as copy-f64-reads
 use Rattle.reorder_columns.proofs.gather_positions.Reads as gather-positions-reads
 
-copy-f64-requires : tie.Need-copy-f64-requires
-copy-f64-requires c κs = tt
-
-copy-f64-requires-2 : tie.Need-copy-f64-requires-2
-copy-f64-requires-2 c κs = tt
-
-copy-f64-requires-3 : tie.Need-copy-f64-requires-3
-copy-f64-requires-3 c κs = tt
-
-gather-positions-requires : tie.Need-gather-positions-requires
-gather-positions-requires c κs = search needs
-
 same-length : tie.Need-same-length
 same-length c = c .before .before .before .before .before .is .given
 
@@ -56,17 +44,4 @@ returns c =
     )
 
 pub move-positions-in-spec : {M : Type 1} → statement M
-move-positions-in-spec =
-    tie.close
-    (tie.spec
-    copy-f64-requires
-    copy-f64-requires-2
-    copy-f64-requires-3
-    gather-positions-requires
-    same-length
-    same-length-2
-    same-length-3
-    same-length-4
-    same-length-5
-    same-length-6
-    returns)
+move-positions-in-spec = tie.close (tie.spec (λ c κs. tt) (λ c κs. tt) (λ c κs. tt) (λ c κs. search needs) same-length same-length-2 same-length-3 same-length-4 same-length-5 same-length-6 returns)

@@ -14,9 +14,6 @@ use Rattle.reorder_columns.proofs.move_u32_in.Lts as lts
 use Rattle.columns_stores.proofs.copy_u32.Reads as copy-u32-reads
 use Rattle.reorder_orders.proofs.gather_u32.Reads as gather-u32-reads
 
-copy-u32-requires : tie.Need-copy-u32-requires
-copy-u32-requires c κs = tt
-
 gather-u32-requires : tie.Need-gather-u32-requires
 gather-u32-requires c κs =
     let s = c .before .before .before .before .before .before .before .before .before .before in
@@ -37,5 +34,4 @@ returns c =
     c .before .before .gather-u32 .ensures ∙ ap (λ (l : List ℕ). over l (a .column .now)) (moved-copy (a .order .now) (s .pre .0) 0 (a .copy .now) (a .column .now) (c .before .before .before .before .before .before .before .copy-u32 .ensures) (s .pre .2) (s .pre .1))
 
 pub move-u32-in-spec : {M : Type 1} → statement M
-move-u32-in-spec =
-    tie.close (tie.spec copy-u32-requires gather-u32-requires same-length same-length-2 returns)
+move-u32-in-spec = tie.close (tie.spec (λ c κs. tt) gather-u32-requires same-length same-length-2 returns)

@@ -14,9 +14,6 @@ use Rattle.reorder_columns.proofs.move_u8_in.Lts as lts
 use Rattle.columns_stores.proofs.copy_u8.Reads as copy-u8-reads
 use Rattle.reorder_columns.proofs.gather_u8.Reads as gather-u8-reads
 
-copy-u8-requires : tie.Need-copy-u8-requires
-copy-u8-requires c κs = tt
-
 gather-u8-requires : tie.Need-gather-u8-requires
 gather-u8-requires c κs =
     let s = c .before .before .before .before .before .before .before .before .before .before in
@@ -37,5 +34,4 @@ returns c =
     c .before .before .gather-u8 .ensures ∙ ap (λ (l : List ℕ). over l (a .column .now)) (moved-copy (a .order .now) (s .pre .0) 0 (a .copy .now) (a .column .now) (c .before .before .before .before .before .before .before .copy-u8 .ensures) (s .pre .2) (s .pre .1))
 
 pub move-u8-in-spec : {M : Type 1} → statement M
-move-u8-in-spec =
-    tie.close (tie.spec copy-u8-requires gather-u8-requires same-length same-length-2 returns)
+move-u8-in-spec = tie.close (tie.spec (λ c κs. tt) gather-u8-requires same-length same-length-2 returns)

@@ -25,15 +25,6 @@ loop-holds : tie.Need-loop-holds Inv-loop μ-loop
 unfolding every
 loop-holds c = (search needs, refl, seen-none (c .before .before .args .order .now) (c .before .before .args .seen .now) (c .before .before .pre .1), refl)
 
-mul-wide : tie.Need-mul-wide Inv-loop μ-loop
-mul-wide c = search needs
-
-shared-slice-read-wide : tie.Need-shared-slice-read-wide Inv-loop μ-loop
-shared-slice-read-wide c = search needs
-
-wide-requires : tie.Need-wide-requires Inv-loop μ-loop
-wide-requires c κs = tt
-
 slice-read-if1 : tie.Need-slice-read-if1 Inv-loop μ-loop
 slice-read-if1 c =
     let s = c .before .before .before .before .before .before .before in
@@ -54,12 +45,6 @@ slice-write-seen c =
     let s = c .before .before .before .before .before .before .before .before in
     let l = c .before .before .before .before .before .loop in
     omega (arith, l .inv .1, c .before .before .wide .ensures .0, s .pre .0 (l .i) (omega arith))
-
-add-i : tie.Need-add-i Inv-loop μ-loop
-add-i c = search needs
-
-loop-less : tie.Need-loop-less Inv-loop μ-loop
-loop-less c = search needs
 
 loop-again : tie.Need-loop-again Inv-loop μ-loop
 loop-again c =
@@ -85,21 +70,4 @@ returns-2 c =
     sym (ap (λ (n : ℕ). every n (λ k. unseen (s .args .order .now) k (getD (s .args .order .now) k 0))) (sym e) ∙ l .inv .3)
 
 pub fresh-in-spec : {M : Type 1} → statement M
-fresh-in-spec =
-    tie.close
-    (tie.spec
-    Inv-loop
-    μ-loop
-    loop-holds
-    mul-wide
-    shared-slice-read-wide
-    wide-requires
-    slice-read-if1
-    same-length
-    returns
-    slice-write-seen
-    add-i
-    loop-less
-    loop-again
-    same-length-2
-    returns-2)
+fresh-in-spec = tie.close (tie.spec Inv-loop μ-loop loop-holds (λ c. search needs) (λ c. search needs) (λ c κs. tt) slice-read-if1 same-length returns slice-write-seen (λ c. search needs) (λ c. search needs) loop-again same-length-2 returns-2)

@@ -22,34 +22,16 @@ abbrev μ-loop : tie.MeasureT-loop
 loop-holds : tie.Need-loop-holds Inv-loop μ-loop
 loop-holds c = (search needs, (λ o. placed-none (c .before .before .args .order .now) o (c .before .before .args .new-numbers .now)), refl)
 
-mul-wide : tie.Need-mul-wide Inv-loop μ-loop
-mul-wide c = search needs
-
-shared-slice-read-wide : tie.Need-shared-slice-read-wide Inv-loop μ-loop
-shared-slice-read-wide c = search needs
-
-wide-requires : tie.Need-wide-requires Inv-loop μ-loop
-wide-requires c κs = tt
-
 cast-new-numbers : tie.Need-cast-new-numbers Inv-loop μ-loop
 cast-new-numbers c =
     let s = c .before .before .before .before .before .before in
     omega (arith, s .pre .0 .few)
-
-mul-new-numbers : tie.Need-mul-new-numbers Inv-loop μ-loop
-mul-new-numbers c = search needs
 
 slice-write-new-numbers : tie.Need-slice-write-new-numbers Inv-loop μ-loop
 slice-write-new-numbers c =
     let s = c .before .before .before .before .before .before in
     let l = c .before .before .before .loop in
     omega (arith, l .inv .2, s .pre .1, c .wide .ensures .0, order-below (s .args .order .now) (s .pre .0) (l .i) (omega arith))
-
-add-i : tie.Need-add-i Inv-loop μ-loop
-add-i c = search needs
-
-loop-less : tie.Need-loop-less Inv-loop μ-loop
-loop-less c = search needs
 
 loop-again : tie.Need-loop-again Inv-loop μ-loop
 loop-again c =
@@ -67,20 +49,4 @@ returns c =
     placed-end (s .args .order .now) (s .pre .0) (l .i) (s .args .new-numbers .now) (l .new-numbers) (omega arith) (s .pre .1) (l .inv .1 (s .pre .0))
 
 pub place-numbers-spec : {M : Type 1} → statement M
-place-numbers-spec =
-    tie.close
-    (tie.spec
-    Inv-loop
-    μ-loop
-    loop-holds
-    mul-wide
-    shared-slice-read-wide
-    wide-requires
-    cast-new-numbers
-    mul-new-numbers
-    slice-write-new-numbers
-    add-i
-    loop-less
-    loop-again
-    same-length
-    returns)
+place-numbers-spec = tie.close (tie.spec Inv-loop μ-loop loop-holds (λ c. search needs) (λ c. search needs) (λ c κs. tt) cast-new-numbers (λ c. search needs) slice-write-new-numbers (λ c. search needs) (λ c. search needs) loop-again same-length returns)

@@ -28,29 +28,14 @@ mul-wide c = let s = c .before .before .before .before in let l = c .before .loo
 slice-read-wide : tie.Need-slice-read-wide Inv-loop μ-loop
 slice-read-wide c = let s = c .before .before .before .before .before in let l = c .before .before .loop in omega (arith, l .inv .2, s .pre .1)
 
-wide-requires : tie.Need-wide-requires Inv-loop μ-loop
-wide-requires c κs = tt
-
-mul-ends : tie.Need-mul-ends Inv-loop μ-loop
-mul-ends c = search needs
-
 shared-slice-read-ends : tie.Need-shared-slice-read-ends Inv-loop μ-loop
 shared-slice-read-ends c =
     let s = c .before .before .before .before .before .before .before in
     let l = c .before .before .before .before .loop in
     omega (arith, c .before .wide .ensures .0, rename-reads (λ u. getD (s .args .new-numbers .now) u 0) (s .args .ends .now) (s .args .n) (l .i) (omega arith) (s .pre .1) (l .inv .1), s .pre .0 (l .i) (omega arith))
 
-mul-ends-2 : tie.Need-mul-ends-2 Inv-loop μ-loop
-mul-ends-2 c = search needs
-
 slice-write-ends : tie.Need-slice-write-ends Inv-loop μ-loop
 slice-write-ends c = let s = c .before .before .before .before .before .before .before in let l = c .before .before .before .before .loop in omega (arith, l .inv .2, s .pre .1)
-
-add-i : tie.Need-add-i Inv-loop μ-loop
-add-i c = search needs
-
-loop-less : tie.Need-loop-less Inv-loop μ-loop
-loop-less c = search needs
 
 loop-again : tie.Need-loop-again Inv-loop μ-loop
 loop-again c =
@@ -69,21 +54,4 @@ returns c =
     rename-end (λ u. getD (s .args .new-numbers .now) u 0) (s .args .ends .now) (s .args .n) (l .i) (omega arith) (s .pre .1) (l .inv .1)
 
 pub rename-by-spec : {M : Type 1} → statement M
-rename-by-spec =
-    tie.close
-    (tie.spec
-    Inv-loop
-    μ-loop
-    loop-holds
-    mul-wide
-    slice-read-wide
-    wide-requires
-    mul-ends
-    shared-slice-read-ends
-    mul-ends-2
-    slice-write-ends
-    add-i
-    loop-less
-    loop-again
-    same-length
-    returns)
+rename-by-spec = tie.close (tie.spec Inv-loop μ-loop loop-holds mul-wide slice-read-wide (λ c κs. tt) (λ c. search needs) shared-slice-read-ends (λ c. search needs) slice-write-ends (λ c. search needs) (λ c. search needs) loop-again same-length returns)

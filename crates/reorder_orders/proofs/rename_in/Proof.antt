@@ -16,9 +16,6 @@ use Rattle.reorder_orders.proofs.rename_in.Lts as lts
 use Rattle.reorder_orders.proofs.place_numbers.Reads as place-numbers-reads
 use Rattle.reorder_orders.proofs.rename_by.Reads as rename-by-reads
 
-place-numbers-requires : tie.Need-place-numbers-requires
-place-numbers-requires c κs = search needs
-
 rename-by-requires : tie.Need-rename-by-requires
 rename-by-requires c κs =
     let s = c .before .before .before .before .before .before .before .before .before .before in
@@ -52,13 +49,4 @@ returns c =
     )
 
 pub rename-in-spec : {M : Type 1} → statement M
-rename-in-spec =
-    tie.close
-    (tie.spec
-    place-numbers-requires
-    rename-by-requires
-    rename-by-requires-2
-    same-length
-    same-length-2
-    same-length-3
-    returns)
+rename-in-spec = tie.close (tie.spec (λ c κs. search needs) rename-by-requires rename-by-requires-2 same-length same-length-2 same-length-3 returns)

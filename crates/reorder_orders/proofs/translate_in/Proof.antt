@@ -16,9 +16,6 @@ use Rattle.reorder_orders.proofs.translate_in.Lts as lts
 use Rattle.reorder_orders.proofs.gather_u32.Reads as gather-u32-reads
 use Rattle.reorder_orders.proofs.place_numbers.Reads as place-numbers-reads
 
-place-numbers-requires : tie.Need-place-numbers-requires
-place-numbers-requires c κs = search needs
-
 gather-u32-requires : tie.Need-gather-u32-requires
 gather-u32-requires c κs =
     let s = c .before .before .before .before .before .before .before .before .before .before in
@@ -39,6 +36,4 @@ returns c =
     c .before .before .gather-u32 .ensures ∙ ap (λ (l : List ℕ). over l (a .column .now)) (renamed-by (a .order .now) (s .pre .0 .0) (a .new-numbers .now) (a .list .now) (c .before .before .before .before .before .before .before .place-numbers .ensures) (s .pre .1))
 
 pub translate-in-spec : {M : Type 1} → statement M
-translate-in-spec =
-    tie.close
-    (tie.spec place-numbers-requires gather-u32-requires same-length same-length-2 returns)
+translate-in-spec = tie.close (tie.spec (λ c κs. search needs) gather-u32-requires same-length same-length-2 returns)

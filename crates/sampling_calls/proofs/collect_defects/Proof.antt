@@ -18,9 +18,6 @@ use Rattle.sampling_calls.proofs.collect_defects.Lts as lts
 use Rattle.sampling_flips.proofs.flip_all.Reads as flip-all-reads
 use Rattle.columns_marked.proofs.list_marked.Reads as list-marked-reads
 
-flip-all-requires : tie.Need-flip-all-requires
-flip-all-requires c κs = search needs
-
 list-marked-requires : tie.Need-list-marked-requires
 list-marked-requires c κs =
     let s = c .before .before .before .before .before .before .before .before .before .before .before .before in
@@ -42,5 +39,4 @@ returns c =
     (c .before .before .list-marked .ensures .0 ∙ ap length e, c .before .before .list-marked .ensures .1 ∙ ap (λ (l : List ℕ). over l (a .defect-list .now)) e)
 
 pub collect-defects-spec : {M : Type 1} → statement M
-collect-defects-spec =
-    tie.close (tie.spec flip-all-requires list-marked-requires same-length same-length-2 returns)
+collect-defects-spec = tie.close (tie.spec (λ c κs. search needs) list-marked-requires same-length same-length-2 returns)

@@ -9,9 +9,6 @@ use Rattle.sampling_calls.proofs.find_defects.Reads as reads
 use Rattle.sampling_calls.proofs.find_defects.Lts as lts
 use Rattle.sampling_calls.proofs.collect_defects.Reads as collect-defects-reads
 
-slice-aggregate-collect-defects : tie.Need-slice-aggregate-collect-defects
-slice-aggregate-collect-defects c = search needs
-
 collect-defects-requires : tie.Need-collect-defects-requires
 collect-defects-requires c κs =
     let p = c .before .before .before .before .before .before .before .pre in (
@@ -29,10 +26,5 @@ collect-defects-requires c κs =
 same-length : tie.Need-same-length
 same-length c = c .before .defect-list .given
 
-returns : tie.Need-returns
-returns c = search needs
-
 pub find-defects-spec : {M : Type 1} → statement M
-find-defects-spec =
-    tie.close
-    (tie.spec slice-aggregate-collect-defects collect-defects-requires same-length returns)
+find-defects-spec = tie.close (tie.spec (λ c. search needs) collect-defects-requires same-length (λ c. search needs))

@@ -20,9 +20,6 @@ use Rattle.sampling_calls.proofs.doors.errors_door.Reads as errors-door
 use Rattle.sampling_flips.proofs.flip_all.Reads as flip-all-reads
 use Rattle.columns_marked.proofs.list_marked.Reads as list-marked-reads
 
-errors-door-requires : tie.Need-errors-door-requires
-errors-door-requires c κs = tt
-
 flip-all-requires : tie.Need-flip-all-requires
 flip-all-requires c κs =
     let a = c .before .before .before .before .before .before .before .before .before .before .before .before .before .before .args in
@@ -77,15 +74,6 @@ returns c =
     (sym (over-take (a .edge-num) (a .erasure .now) (k .lists .long-erasure)))
     (x .0) (x .1) (y .0) (y .1)
 
-same-length-4 : tie.Need-same-length-4
-same-length-4 c = search needs
-
-same-length-5 : tie.Need-same-length-5
-same-length-5 c = search needs
-
-same-length-6 : tie.Need-same-length-6
-same-length-6 c = search needs
-
 returns-2 : tie.Need-returns-2
 returns-2 c =
     let a = c .before .before .before .before .before .before .before .before .before .before .before .before .before .args in
@@ -96,18 +84,4 @@ returns-2 c =
     (c .before .errors-door .ensures) (c .if1 .left)
 
 pub generate-errors-spec : {M : Type 1} → statement M
-generate-errors-spec =
-    tie.close
-    (tie.spec
-    errors-door-requires
-    flip-all-requires
-    list-marked-requires
-    list-marked-requires-2
-    same-length
-    same-length-2
-    same-length-3
-    returns
-    same-length-4
-    same-length-5
-    same-length-6
-    returns-2)
+generate-errors-spec = tie.close (tie.spec (λ c κs. tt) flip-all-requires list-marked-requires list-marked-requires-2 same-length same-length-2 same-length-3 returns (λ c. search needs) (λ c. search needs) (λ c. search needs) returns-2)

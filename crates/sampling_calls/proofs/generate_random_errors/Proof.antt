@@ -23,15 +23,6 @@ use Rattle.sampling_calls.proofs.doors.sampling_door.Reads as sampling-
 use Rattle.columns_marked.proofs.list_marked.Reads as list-marked-reads
 use Rattle.sampling_edges.proofs.sample_edges.Reads as sample-edges-reads
 
-sampling-door-requires : tie.Need-sampling-door-requires
-sampling-door-requires c κs = tt
-
-fill-u8-requires : tie.Need-fill-u8-requires
-fill-u8-requires c κs = tt
-
-seed-from-u64-requires : tie.Need-seed-from-u64-requires
-seed-from-u64-requires c κs = tt
-
 sample-edges-requires : tie.Need-sample-edges-requires
 sample-edges-requires c κs =
     let a = c .before .before .before .before .before .before .before .before .before .before .before .before .before .before .before .before .before .before .before .before .before .before .args in
@@ -58,9 +49,6 @@ list-marked-requires-2 c κs =
     let k : SamplingMet g (a .p .now) (a .pe .now) s = sampling-met g (a .p .now) (a .pe .now) s (sym (c .before .before .before .before .before .before .before .before .before .before .before .before .before .before .before .before .before .before .before .before .sampling-door .ensures) ∙ c .before .before .before .before .before .before .before .before .before .before .before .before .before .before .before .before .before .before .before .if1 .taken) in
     let l = length-erasure _ g (a .p .now) (a .pe .now) (a .defect .now) (a .erasure .now) (k .sound) (k .lists .long-defect) (k .lists .long-erasure) (c .before .before .before .before .before .before .before .before .before .before .before .before .before .before .before .before .before .fill-u8 .ensures) (c .before .before .before .before .before .before .before .before .before .before .before .sample-edges .ensures) in
     (omega (arith, l, k .lists .long-erasure), k .lists .long-erasures, k .sound .graph .few-edges)
-
-same-length : tie.Need-same-length
-same-length c = search needs
 
 same-length-2 : tie.Need-same-length-2
 same-length-2 c = c .before .before .before .before .before .before .before .before .before .before .before .erasure .given
@@ -89,18 +77,6 @@ returns c =
     (sampled-erasure r g (a .p .now) (a .pe .now) (a .defect .now) (a .erasure .now) (k .sound) (k .lists .long-defect) (k .lists .long-erasure) (c .before .before .before .before .before .before .before .before .before .before .before .before .before .before .before .before .before .before .before .before .fill-u8 .ensures) this)
     (x .0) (x .1) (y .0) (y .1)
 
-same-length-5 : tie.Need-same-length-5
-same-length-5 c = search needs
-
-same-length-6 : tie.Need-same-length-6
-same-length-6 c = search needs
-
-same-length-7 : tie.Need-same-length-7
-same-length-7 c = search needs
-
-same-length-8 : tie.Need-same-length-8
-same-length-8 c = search needs
-
 returns-2 : tie.Need-returns-2
 returns-2 c =
     let a = c .before .before .before .before .before .before .before .before .before .before .before .before .before .before .before .args in
@@ -111,22 +87,4 @@ returns-2 c =
     (c .before .sampling-door .ensures) (c .if1 .left)
 
 pub generate-random-errors-spec : {M : Type 1} → statement M
-generate-random-errors-spec =
-    tie.close
-    (tie.spec
-    sampling-door-requires
-    fill-u8-requires
-    seed-from-u64-requires
-    sample-edges-requires
-    list-marked-requires
-    list-marked-requires-2
-    same-length
-    same-length-2
-    same-length-3
-    same-length-4
-    returns
-    same-length-5
-    same-length-6
-    same-length-7
-    same-length-8
-    returns-2)
+generate-random-errors-spec = tie.close (tie.spec (λ c κs. tt) (λ c κs. tt) (λ c κs. tt) sample-edges-requires list-marked-requires list-marked-requires-2 (λ c. search needs) same-length-2 same-length-3 same-length-4 returns (λ c. search needs) (λ c. search needs) (λ c. search needs) (λ c. search needs) returns-2)

@@ -12,9 +12,6 @@ use Rattle.sampling_calls.proofs.syndrome_of.Lts as lts
 use Rattle.sampling_calls.proofs.doors.syndrome_door.Reads as syndrome-door-reads
 use Rattle.sampling_calls.proofs.find_defects.Reads as find-defects-reads
 
-syndrome-door-requires : tie.Need-syndrome-door-requires
-syndrome-door-requires c κs = tt
-
 find-defects-requires : tie.Need-find-defects-requires
 find-defects-requires c κs =
     let a = c .before .before .before .before .before .before .before .before .before .args in
@@ -31,9 +28,6 @@ returns c =
     let g : CodeGraph = codeGraph (a .vertex-num) (a .edge-num) (a .ends-a .now) (a .ends-b .now) (a .boundary .now) in
     syndrome-accepted g (a .list .now) (a .defect-list .now) (sym (c .before .before .before .before .before .syndrome-door .ensures) ∙ c .before .before .before .before .if1 .taken) (c .before .before .find-defects .ensures .0) (c .before .before .find-defects .ensures .1)
 
-same-length-2 : tie.Need-same-length-2
-same-length-2 c = search needs
-
 returns-2 : tie.Need-returns-2
 returns-2 c =
     let a = c .before .before .before .before .before .before .before .before .args in
@@ -41,12 +35,4 @@ returns-2 c =
     syndrome-refused g (a .list .now) (a .defect-list .now) (c .before .syndrome-door .ensures) (c .if1 .left)
 
 pub syndrome-of-spec : {M : Type 1} → statement M
-syndrome-of-spec =
-    tie.close
-    (tie.spec
-    syndrome-door-requires
-    find-defects-requires
-    same-length
-    returns
-    same-length-2
-    returns-2)
+syndrome-of-spec = tie.close (tie.spec (λ c κs. tt) find-defects-requires same-length returns (λ c. search needs) returns-2)

@@ -11,28 +11,10 @@ use Rattle.columns.proofs.done_of.Reads as done-of-reads
 use Rattle.columns_stores.proofs.fill_u8.Reads as fill-u8-reads
 use Rattle.sampling_clear.proofs.clear_door.Reads as clear-door-reads
 
-clear-door-requires : tie.Need-clear-door-requires
-clear-door-requires c κs = tt
-
-done-of-requires : tie.Need-done-of-requires
-done-of-requires c κs = tt
-
-same-length : tie.Need-same-length
-same-length c = search needs
-
-same-length-2 : tie.Need-same-length-2
-same-length-2 c = search needs
-
 returns : tie.Need-returns
 returns c =
     let a = c .before .before .before .before .before .before .before .args in
     clear-refused (a .vertex-num) (a .edge-num) (a .defect .now) (a .erasure .now) (c .before .before .clear-door .ensures) (c .before .if1 .taken) (c .done-of .ensures)
-
-fill-u8-requires : tie.Need-fill-u8-requires
-fill-u8-requires c κs = tt
-
-fill-u8-requires-2 : tie.Need-fill-u8-requires-2
-fill-u8-requires-2 c κs = tt
 
 same-length-3 : tie.Need-same-length-3
 same-length-3 c = c .before .before .before .before .before .defect .given
@@ -46,16 +28,4 @@ returns-2 c =
     clear-accepted (a .vertex-num) (a .edge-num) (a .defect .now) (a .erasure .now) (sym (c .before .before .before .before .before .before .before .before .before .clear-door .ensures) ∙ c .before .before .before .before .before .before .before .before .if1 .left) (c .before .before .before .before .before .before .fill-u8 .ensures) (c .before .before .fill-u82 .ensures)
 
 pub clear-errors-spec : {M : Type 1} → statement M
-clear-errors-spec =
-    tie.close
-    (tie.spec
-    clear-door-requires
-    done-of-requires
-    same-length
-    same-length-2
-    returns
-    fill-u8-requires
-    fill-u8-requires-2
-    same-length-3
-    same-length-4
-    returns-2)
+clear-errors-spec = tie.close (tie.spec (λ c κs. tt) (λ c κs. tt) (λ c. search needs) (λ c. search needs) returns (λ c κs. tt) (λ c κs. tt) same-length-3 same-length-4 returns-2)

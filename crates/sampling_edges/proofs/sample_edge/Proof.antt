@@ -11,15 +11,6 @@ use Rattle.sampling_edges.proofs.sample_edge.Lts as lts
 use Rattle.sampling_generator.proofs.DeterministicRng.next_f64.Reads as next-f64-reads
 use Rattle.sampling_edges.proofs.error_probability.Reads as error-probability-reads
 
-next-f64-requires : tie.Need-next-f64-requires
-next-f64-requires c κs = tt
-
-next-f64-requires-2 : tie.Need-next-f64-requires-2
-next-f64-requires-2 c κs = tt
-
-error-probability-requires : tie.Need-error-probability-requires
-error-probability-requires c κs = tt
-
 returns : tie.Need-returns
 returns c =
     let a = c .before .before .before .before .before .before .before .args in
@@ -34,5 +25,4 @@ returns c =
     }
 
 pub sample-edge-spec : {M : Type 1} → statement M
-sample-edge-spec =
-    tie.close (tie.spec next-f64-requires next-f64-requires-2 error-probability-requires returns)
+sample-edge-spec = tie.close (tie.spec (λ c κs. tt) (λ c κs. tt) (λ c κs. tt) returns)

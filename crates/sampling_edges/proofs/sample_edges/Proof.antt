@@ -28,27 +28,6 @@ loop-holds c =
     let a = c .before .before .before .before .before .before .before .args in
     (search needs, sampled-none (a .rng) (a .ends-a .now) (a .ends-b .now) (a .boundary .now) (a .p .now) (a .pe .now) (a .defect .now) (a .erasure .now), refl, refl)
 
-cast-at : tie.Need-cast-at Inv-loop μ-loop
-cast-at c = search needs
-
-mul-sample-edge : tie.Need-mul-sample-edge Inv-loop μ-loop
-mul-sample-edge c = search needs
-
-shared-slice-read-sample-edge : tie.Need-shared-slice-read-sample-edge Inv-loop μ-loop
-shared-slice-read-sample-edge c = search needs
-
-mul-sample-edge-2 : tie.Need-mul-sample-edge-2 Inv-loop μ-loop
-mul-sample-edge-2 c = search needs
-
-shared-slice-read-sample-edge-2 : tie.Need-shared-slice-read-sample-edge-2 Inv-loop μ-loop
-shared-slice-read-sample-edge-2 c = search needs
-
-sample-edge-requires : tie.Need-sample-edge-requires Inv-loop μ-loop
-sample-edge-requires c κs = tt
-
-erasure-byte-requires : tie.Need-erasure-byte-requires Inv-loop μ-loop
-erasure-byte-requires c κs = tt
-
 slice-write-erasure : tie.Need-slice-write-erasure Inv-loop μ-loop
 slice-write-erasure c = let l = c .before .before .before .before .before .loop in omega (arith, l .inv .3)
 
@@ -57,12 +36,6 @@ flip-edge-if-requires c κs =
     let s = c .before .before .before .before .before .before .before .before .before .before .before .before .before .before in
     let l = c .before .before .before .before .before .before .loop in
     (search needs, fits-on (l .defect) (l .inv .2) (s .pre .0))
-
-add-i : tie.Need-add-i Inv-loop μ-loop
-add-i c = search needs
-
-loop-less : tie.Need-loop-less Inv-loop μ-loop
-loop-less c = search needs
 
 loop-again : tie.Need-loop-again Inv-loop μ-loop
 loop-again c =
@@ -89,24 +62,4 @@ returns c =
     rw (sym e) (l .inv .1)
 
 pub sample-edges-spec : {M : Type 1} → statement M
-sample-edges-spec =
-    tie.close
-    (tie.spec
-    Inv-loop
-    μ-loop
-    loop-holds
-    cast-at
-    mul-sample-edge
-    shared-slice-read-sample-edge
-    mul-sample-edge-2
-    shared-slice-read-sample-edge-2
-    sample-edge-requires
-    erasure-byte-requires
-    slice-write-erasure
-    flip-edge-if-requires
-    add-i
-    loop-less
-    loop-again
-    same-length
-    same-length-2
-    returns)
+sample-edges-spec = tie.close (tie.spec Inv-loop μ-loop loop-holds (λ c. search needs) (λ c. search needs) (λ c. search needs) (λ c. search needs) (λ c. search needs) (λ c κs. tt) (λ c κs. tt) slice-write-erasure flip-edge-if-requires (λ c. search needs) (λ c. search needs) loop-again same-length same-length-2 returns)

@@ -25,24 +25,12 @@ loop-holds : tie.Need-loop-holds Inv-loop μ-loop
 unfolding flipEach
 loop-holds c = (search needs, refl)
 
-mul-t9 : tie.Need-mul-t9 Inv-loop μ-loop
-mul-t9 c = search needs
-
-shared-slice-read-t13 : tie.Need-shared-slice-read-t13 Inv-loop μ-loop
-shared-slice-read-t13 c = search needs
-
 flip-edge-requires : tie.Need-flip-edge-requires Inv-loop μ-loop
 flip-edge-requires c κs =
     let s = c .before .before .before .before .before .before .before .before .before in
     let l = c .before .before .before .loop in
     let same : length (l .defect) ≡ length (s .args .defect .now) = ap length (l .inv .1) ∙ simp length-flipEach in
     (s .pre .1 (l .i) (omega arith), fits-on (l .defect) same (s .pre .0))
-
-add-i : tie.Need-add-i Inv-loop μ-loop
-add-i c = search needs
-
-loop-less : tie.Need-loop-less Inv-loop μ-loop
-loop-less c = search needs
 
 loop-again : tie.Need-loop-again Inv-loop μ-loop
 loop-again c =
@@ -62,17 +50,4 @@ returns c =
     ∙ ap (λ (es : List ℕ). flipEach (a .ends-a .now) (a .ends-b .now) (a .boundary .now) es (a .defect .now)) (take-length (a .list .now))
 
 pub flip-all-spec : {M : Type 1} → statement M
-flip-all-spec =
-    tie.close
-    (tie.spec
-    Inv-loop
-    μ-loop
-    loop-holds
-    mul-t9
-    shared-slice-read-t13
-    flip-edge-requires
-    add-i
-    loop-less
-    loop-again
-    same-length
-    returns)
+flip-all-spec = tie.close (tie.spec Inv-loop μ-loop loop-holds (λ c. search needs) (λ c. search needs) flip-edge-requires (λ c. search needs) (λ c. search needs) loop-again same-length returns)

@@ -13,26 +13,11 @@ use Rattle.sampling_flips.proofs.flip_edge.Reads as reads
 use Rattle.sampling_flips.proofs.flip_edge.Lts as lts
 use Rattle.sampling_flips.proofs.flip_at.Reads as flip-at-reads
 
-cast-at : tie.Need-cast-at
-cast-at c = search needs
-
-mul-t10 : tie.Need-mul-t10
-mul-t10 c = search needs
-
-shared-slice-read-t12 : tie.Need-shared-slice-read-t12
-shared-slice-read-t12 c = search needs
-
 flip-at-requires : tie.Need-flip-at-requires
 flip-at-requires c κs =
     let s : tie.Start = c .before .before .before .before .before .before .before in
     let h = s .pre .1 .in-a (s .args .k .0) (s .pre .0) in
     (omega (arith, h, s .pre .1 .long-boundary), omega (arith, h, s .pre .1 .long-defect))
-
-mul-t10-2 : tie.Need-mul-t10-2
-mul-t10-2 c = search needs
-
-shared-slice-read-t12-2 : tie.Need-shared-slice-read-t12-2
-shared-slice-read-t12-2 c = search needs
 
 flip-at-requires-2 : tie.Need-flip-at-requires-2
 flip-at-requires-2 c κs =
@@ -41,9 +26,6 @@ flip-at-requires-2 c κs =
     let l = simp length-flipAt at (ap length (c .before .before .before .before .flip-at .ensures)) in
     (omega (arith, h, s .pre .1 .long-boundary), omega (arith, h, s .pre .1 .long-defect, l))
 
-same-length : tie.Need-same-length
-same-length c = search needs
-
 returns : tie.Need-returns
 unfolding flipEdge
 returns c =
@@ -51,15 +33,4 @@ returns c =
     c .before .before .flip-at2 .ensures ∙ ap (flipAt (s .args .boundary .now) (getD (s .args .ends-b .now) (s .args .k .0) 0)) (c .before .before .before .before .before .before .before .flip-at .ensures)
 
 pub flip-edge-spec : {M : Type 1} → statement M
-flip-edge-spec =
-    tie.close
-    (tie.spec
-    cast-at
-    mul-t10
-    shared-slice-read-t12
-    flip-at-requires
-    mul-t10-2
-    shared-slice-read-t12-2
-    flip-at-requires-2
-    same-length
-    returns)
+flip-edge-spec = tie.close (tie.spec (λ c. search needs) (λ c. search needs) (λ c. search needs) flip-at-requires (λ c. search needs) (λ c. search needs) flip-at-requires-2 (λ c. search needs) returns)

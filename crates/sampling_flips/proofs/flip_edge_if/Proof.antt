@@ -10,9 +10,6 @@ use Rattle.sampling_flips.proofs.flip_edge_if.Reads as reads
 use Rattle.sampling_flips.proofs.flip_edge_if.Lts as lts
 use Rattle.sampling_flips.proofs.flip_edge.Reads as flip-edge-reads
 
-flip-edge-requires : tie.Need-flip-edge-requires
-flip-edge-requires c κs = search needs
-
 same-length : tie.Need-same-length
 same-length c = c .before .defect .given
 
@@ -25,4 +22,4 @@ unfolding flipEach
 returns-2 c = simp (c .if1 .left)
 
 pub flip-edge-if-spec : {M : Type 1} → statement M
-flip-edge-if-spec = tie.close (tie.spec flip-edge-requires same-length returns returns-2)
+flip-edge-if-spec = tie.close (tie.spec (λ c κs. search needs) same-length returns returns-2)

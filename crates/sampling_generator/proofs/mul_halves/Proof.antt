@@ -13,25 +13,11 @@ mul-cross c = half-fits (search needs) (search needs)
 mul-cross-2 : tie.Need-mul-cross-2
 mul-cross-2 c = half-fits (search needs) (search needs)
 
-add-cross : tie.Need-add-cross
-add-cross c = search needs
-
 mul-wrapping-add-u64 : tie.Need-mul-wrapping-add-u64
 mul-wrapping-add-u64 c = half-fits (search needs) (search needs)
-
-wrapping-add-u64-requires : tie.Need-wrapping-add-u64-requires
-wrapping-add-u64-requires c κs = tt
 
 returns : tie.Need-returns
 returns c = c .wrapping-add-u64 .ensures ∙ low-product 4294967296 (c .before .args .a) (c .before .args .b)
 
 pub mul-halves-spec : {M : Type 1} → statement M
-mul-halves-spec =
-    tie.close
-    (tie.spec
-    mul-cross
-    mul-cross-2
-    add-cross
-    mul-wrapping-add-u64
-    wrapping-add-u64-requires
-    returns)
+mul-halves-spec = tie.close (tie.spec mul-cross mul-cross-2 (λ c. search needs) mul-wrapping-add-u64 (λ c κs. tt) returns)

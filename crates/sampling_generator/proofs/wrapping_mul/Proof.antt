@@ -5,31 +5,11 @@ use borrow.Author.Needs.{needs}
 use Rattle.sampling_generator.proofs.wrapping_mul.Statement.{statement}
 use Rattle.sampling_generator.proofs.wrapping_mul.Tie as tie
 
-mul-shifted-requires : tie.Need-mul-shifted-requires
-mul-shifted-requires c κs = search needs
-
 returns : tie.Need-returns
 returns c = c .mul-shifted .ensures ∙ ap (λ (k : ℕ). (c .before .before .args .a * k) % 2 ^ 64) (sym (c .before .if1 .taken))
-
-mul-shifted-requires-2 : tie.Need-mul-shifted-requires-2
-mul-shifted-requires-2 c κs = search needs
 
 returns-2 : tie.Need-returns-2
 returns-2 c = c .mul-shifted2 .ensures ∙ ap (λ (k : ℕ). (c .before .before .before .args .a * k) % 2 ^ 64) (sym (c .before .if2 .taken))
 
-mul-halves-requires : tie.Need-mul-halves-requires
-mul-halves-requires c κs = tt
-
-returns-3 : tie.Need-returns-3
-returns-3 c = search needs
-
 pub wrapping-mul-spec : {M : Type 1} → statement M
-wrapping-mul-spec =
-    tie.close
-    (tie.spec
-    mul-shifted-requires
-    returns
-    mul-shifted-requires-2
-    returns-2
-    mul-halves-requires
-    returns-3)
+wrapping-mul-spec = tie.close (tie.spec (λ c κs. search needs) returns (λ c κs. search needs) returns-2 (λ c κs. tt) (λ c. search needs))

@@ -10,9 +10,6 @@ returns c =
     let s = c .before .before .before in
     (no-edges _ (s .args .len) (s .args .v) (c .if1 .taken), below-more (s .args .v) (s .pre .1))
 
-twice-in-requires : tie.Need-twice-in-requires
-twice-in-requires c κs = search needs
-
 same-length : tie.Need-same-length
 same-length c = c .before .mark .given
 
@@ -23,4 +20,4 @@ returns-2 c =
     (t .0 ∙ some-edges _ (s .args .len) (s .args .v) (c .before .before .before .before .if1 .left), t .1)
 
 pub at-vertex-spec : {M : Type 1} → statement M
-at-vertex-spec = tie.close (tie.spec returns twice-in-requires same-length returns-2)
+at-vertex-spec = tie.close (tie.spec returns (λ c κs. search needs) same-length returns-2)

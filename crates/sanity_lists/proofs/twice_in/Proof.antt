@@ -15,22 +15,10 @@ Inv-loop numbers start len v mark₀ stamp i₀ mark i =
 abbrev μ-loop : tie.MeasureT-loop
 μ-loop numbers start len v mark₀ stamp i₀ mark i = len - i
 
-add-stamp : tie.Need-add-stamp Inv-loop μ-loop
-add-stamp c = search needs
-
 loop-holds : tie.Need-loop-holds Inv-loop μ-loop
 loop-holds c =
     let s = c .before .before in
     (omega arith, stamp-new (s .args .numbers .now) (s .args .start) (s .args .v) (s .args .mark .now) (s .pre .1), none-start (part (s .args .numbers .now) (s .args .start) (s .args .len)) (s .args .v))
-
-add-x : tie.Need-add-x Inv-loop μ-loop
-add-x c = search needs
-
-mul-x : tie.Need-mul-x Inv-loop μ-loop
-mul-x c = search needs
-
-shared-slice-read-x : tie.Need-shared-slice-read-x Inv-loop μ-loop
-shared-slice-read-x c = search needs
 
 is-seen-requires : tie.Need-is-seen-requires Inv-loop μ-loop
 is-seen-requires c κs = (omega arith, c .before .before .before .loop .inv .1)
@@ -46,12 +34,6 @@ returns c =
 
 stamp-next-requires : tie.Need-stamp-next-requires Inv-loop μ-loop
 stamp-next-requires c κs = (c .before .before .before .before .before .before .loop .inv .1, refl)
-
-add-i : tie.Need-add-i Inv-loop μ-loop
-add-i c = search needs
-
-loop-less : tie.Need-loop-less Inv-loop μ-loop
-loop-less c = search needs
 
 loop-again : tie.Need-loop-again Inv-loop μ-loop
 loop-again c =
@@ -70,22 +52,4 @@ returns-2 c =
     (twice-none (s .args .numbers .now) (s .args .start) (s .args .len) (s .args .v) (s .pre .0 .0) (subst (NoneTwice (part (s .args .numbers .now) (s .args .start) (s .args .len)) (s .args .v)) e (l .inv .2)), stamp-below (l .inv .1))
 
 pub twice-in-spec : {M : Type 1} → statement M
-twice-in-spec =
-    tie.close
-    (tie.spec
-    Inv-loop
-    μ-loop
-    add-stamp
-    loop-holds
-    add-x
-    mul-x
-    shared-slice-read-x
-    is-seen-requires
-    same-length
-    returns
-    stamp-next-requires
-    add-i
-    loop-less
-    loop-again
-    same-length-2
-    returns-2)
+twice-in-spec = tie.close (tie.spec Inv-loop μ-loop (λ c. search needs) loop-holds (λ c. search needs) (λ c. search needs) (λ c. search needs) is-seen-requires same-length returns stamp-next-requires (λ c. search needs) (λ c. search needs) loop-again same-length-2 returns-2)

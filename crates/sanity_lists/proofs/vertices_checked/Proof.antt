@@ -7,17 +7,10 @@ use borrow.Author.Needs.{needs}
 use Rattle.sanity_lists.proofs.vertices_checked.Statement.{statement}
 use Rattle.sanity_lists.proofs.vertices_checked.Tie as tie
 
-slice-aggregate-vertices-in : tie.Need-slice-aggregate-vertices-in
-slice-aggregate-vertices-in c = search needs
-
 vertices-in-requires : tie.Need-vertices-in-requires
 vertices-in-requires c κs =
     let p = c .before .before .before .pre in
     (p, record { len = length-replicate {A = ℕ} 32768 0; most = λ x h. omega (arith, zeros-at 32768 x) })
 
-returns : tie.Need-returns
-returns c = search needs
-
 pub vertices-checked-spec : {M : Type 1} → statement M
-vertices-checked-spec =
-    tie.close (tie.spec slice-aggregate-vertices-in vertices-in-requires returns)
+vertices-checked-spec = tie.close (tie.spec (λ c. search needs) vertices-in-requires (λ c. search needs))

@@ -37,26 +37,14 @@ loop-holds c =
     let s = c .before .before .before in
     (omega arith, s .pre .1, sym (total-none (s .args .lengths .now)), first-none (finding (s .args .lengths .now) (s .args .numbers .now)))
 
-cast-wide : tie.Need-cast-wide Inv-loop μ-loop
-cast-wide c = search needs
-
-mul-wide : tie.Need-mul-wide Inv-loop μ-loop
-mul-wide c = search needs
-
 shared-slice-read-wide : tie.Need-shared-slice-read-wide Inv-loop μ-loop
 shared-slice-read-wide c = omega (arith, c .before .before .before .before .before .before .pre .0 .0)
-
-wide-requires : tie.Need-wide-requires Inv-loop μ-loop
-wide-requires c κs = tt
 
 at-vertex-requires : tie.Need-at-vertex-requires Inv-loop μ-loop
 at-vertex-requires c κs =
     let s = c .before .before .before .before .before .before .before .before in
     let l = c .before .before .before .before .loop in
     ((room (s .args .lengths .now) (s .args .numbers .now) (s .args .n) (l .v) (omega arith) (s .pre .0 .0) (s .pre .0 .1) (l .inv .2) (c .before .wide .ensures), omega arith), l .inv .1)
-
-is-sound-requires : tie.Need-is-sound-requires Inv-loop μ-loop
-is-sound-requires c κs = tt
 
 same-length : tie.Need-same-length Inv-loop μ-loop
 same-length c = c .before .before .before .before .at-vertex .ensures .1 .len ∙ sym (c .before .before .before .before .before .before .before .before .before .before .before .before .before .pre .1 .len)
@@ -73,12 +61,6 @@ add-start c =
     let s = c .before .before .before .before .before .before .before .before .before .before .before .before .before in
     let l = c .before .before .before .before .before .before .before .before .before .loop in
     omega (arith, room (s .args .lengths .now) (s .args .numbers .now) (s .args .n) (l .v) (omega arith) (s .pre .0 .0) (s .pre .0 .1) (l .inv .2) (c .before .before .before .before .before .before .wide .ensures))
-
-add-v : tie.Need-add-v Inv-loop μ-loop
-add-v c = search needs
-
-loop-less : tie.Need-loop-less Inv-loop μ-loop
-loop-less c = search needs
 
 loop-again : tie.Need-loop-again Inv-loop μ-loop
 loop-again c =
@@ -99,23 +81,4 @@ returns-2 c =
     sym (ap (λ (k : ℕ). firstOf k (finding (s .args .lengths .now) (s .args .numbers .now))) (sym e) ∙ l .inv .3)
 
 pub vertices-in-spec : {M : Type 1} → statement M
-vertices-in-spec =
-    tie.close
-    (tie.spec
-    Inv-loop
-    μ-loop
-    loop-holds
-    cast-wide
-    mul-wide
-    shared-slice-read-wide
-    wide-requires
-    at-vertex-requires
-    is-sound-requires
-    same-length
-    returns
-    add-start
-    add-v
-    loop-less
-    loop-again
-    same-length-2
-    returns-2)
+vertices-in-spec = tie.close (tie.spec Inv-loop μ-loop loop-holds (λ c. search needs) (λ c. search needs) shared-slice-read-wide (λ c κs. tt) at-vertex-requires (λ c κs. tt) same-length returns add-start (λ c. search needs) (λ c. search needs) loop-again same-length-2 returns-2)

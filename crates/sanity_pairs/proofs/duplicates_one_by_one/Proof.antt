@@ -19,23 +19,8 @@ abbrev μ-loop : tie.MeasureT-loop
 loop-holds : tie.Need-loop-holds Inv-loop μ-loop
 loop-holds c = (omega arith, first-none (duplicate (c .before .before .args .a .now) (c .before .before .args .b .now)))
 
-first-same-requires : tie.Need-first-same-requires Inv-loop μ-loop
-first-same-requires c κs = search needs
-
-cast-t7 : tie.Need-cast-t7 Inv-loop μ-loop
-cast-t7 c = search needs
-
-cast-t9 : tie.Need-cast-t9 Inv-loop μ-loop
-cast-t9 c = search needs
-
 returns : tie.Need-returns Inv-loop μ-loop
 returns c = scan-stop (c .before .first-same .ensures) (c .before .before .before .before .before .before .args .n) (omega arith) (c .before .before .before .loop .inv .1) (c .if1 .taken)
-
-add-i : tie.Need-add-i Inv-loop μ-loop
-add-i c = search needs
-
-loop-less : tie.Need-loop-less Inv-loop μ-loop
-loop-less c = search needs
 
 loop-again : tie.Need-loop-again Inv-loop μ-loop
 loop-again c = (omega arith, scan-more (c .before .first-same .ensures) (c .before .before .before .loop .inv .1) (λ g. omega arith))
@@ -48,17 +33,4 @@ returns-2 c =
     sym (ap (λ (k : ℕ). firstOf k (duplicate (a .a .now) (a .b .now))) (sym e) ∙ l .inv .1)
 
 pub duplicates-one-by-one-spec : {M : Type 1} → statement M
-duplicates-one-by-one-spec =
-    tie.close
-    (tie.spec
-    Inv-loop
-    μ-loop
-    loop-holds
-    first-same-requires
-    cast-t7
-    cast-t9
-    returns
-    add-i
-    loop-less
-    loop-again
-    returns-2)
+duplicates-one-by-one-spec = tie.close (tie.spec Inv-loop μ-loop loop-holds (λ c κs. search needs) (λ c. search needs) (λ c. search needs) returns (λ c. search needs) (λ c. search needs) loop-again returns-2)

@@ -16,23 +16,8 @@ Inv-loop a b i x y j₀ j =
 abbrev μ-loop : tie.MeasureT-loop
 μ-loop a b i x y j₀ j = i - j
 
-low-at-requires : tie.Need-low-at-requires Inv-loop μ-loop
-low-at-requires c κs = search needs
-
-high-at-requires : tie.Need-high-at-requires Inv-loop μ-loop
-high-at-requires c κs = search needs
-
 loop-holds : tie.Need-loop-holds Inv-loop μ-loop
 loop-holds c = (omega arith, λ m h. absurd (omega arith))
-
-low-at-requires-2 : tie.Need-low-at-requires-2 Inv-loop μ-loop
-low-at-requires-2 c κs = search needs
-
-high-at-requires-2 : tie.Need-high-at-requires-2 Inv-loop μ-loop
-high-at-requires-2 c κs = search needs
-
-both-requires : tie.Need-both-requires Inv-loop μ-loop
-both-requires c κs = tt
 
 returns : tie.Need-returns Inv-loop μ-loop
 returns c =
@@ -45,12 +30,6 @@ returns c =
       high = λ g. sym (c .before .before .high-at2 .ensures) ∙ p .1 ∙ c .before .before .before .before .before .before .high-at .ensures;
       none = λ m h x y. l .inv .1 m h (x, y);
     }
-
-add-j : tie.Need-add-j Inv-loop μ-loop
-add-j c = search needs
-
-loop-less : tie.Need-loop-less Inv-loop μ-loop
-loop-less c = search needs
 
 loop-again : tie.Need-loop-again Inv-loop μ-loop
 loop-again c =
@@ -75,19 +54,4 @@ returns-2 c =
     }
 
 pub first-same-spec : {M : Type 1} → statement M
-first-same-spec =
-    tie.close
-    (tie.spec
-    Inv-loop
-    μ-loop
-    low-at-requires
-    high-at-requires
-    loop-holds
-    low-at-requires-2
-    high-at-requires-2
-    both-requires
-    returns
-    add-j
-    loop-less
-    loop-again
-    returns-2)
+first-same-spec = tie.close (tie.spec Inv-loop μ-loop (λ c κs. search needs) (λ c κs. search needs) loop-holds (λ c κs. search needs) (λ c κs. search needs) (λ c κs. tt) returns (λ c. search needs) (λ c. search needs) loop-again returns-2)

@@ -28,12 +28,6 @@ part-answer-start c = omega arith
 part-answer-end : tie.Need-part-answer-end Inv-loop μ-loop
 part-answer-end c = omega (arith, c .find .ensures .1, c .find .ensures .0)
 
-answer-requires : tie.Need-answer-requires Inv-loop μ-loop
-answer-requires c κs = search needs
-
-past-requires : tie.Need-past-requires Inv-loop μ-loop
-past-requires c κs = search needs
-
 loop-less : tie.Need-loop-less Inv-loop μ-loop
 loop-less c = omega arith
 
@@ -43,23 +37,5 @@ loop-again c = (omega arith, search needs)
 same-length : tie.Need-same-length Inv-loop μ-loop
 same-length c = c .before .loop .inv .1
 
-returns : tie.Need-returns Inv-loop μ-loop
-returns c = search needs
-
 pub answer-all-spec : {M : Type 1} → statement M
-answer-all-spec =
-    tie.close
-    (tie.spec
-    Inv-loop
-    μ-loop
-    loop-holds
-    find-requires
-    sub-answer
-    part-answer-start
-    part-answer-end
-    answer-requires
-    past-requires
-    loop-less
-    loop-again
-    same-length
-    returns)
+answer-all-spec = tie.close (tie.spec Inv-loop μ-loop loop-holds find-requires sub-answer part-answer-start part-answer-end (λ c κs. search needs) (λ c κs. search needs) loop-less loop-again same-length (λ c. search needs))

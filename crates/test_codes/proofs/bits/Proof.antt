@@ -7,9 +7,6 @@ use borrow.Author.Needs.{needs}
 use Rattle.test_codes.proofs.bits.Statement.{statement}
 use Rattle.test_codes.proofs.bits.Tie as tie
 
-returns : tie.Need-returns
-returns c = search needs
-
 no-nan : (x : Float) → ne x x ≡ false → T (not (isNan x))
 unfolding ne isNan
 no-nan nan e = absurd (true≢false e)
@@ -19,8 +16,5 @@ no-nan (fin s m d) e = tt
 float-to-bits-result : tie.Need-float-to-bits-result
 float-to-bits-result c = no-nan (c .before .args .x) (c .if1 .left)
 
-returns-2 : tie.Need-returns-2
-returns-2 c = search needs
-
 pub bits-spec : {M : Type 1} → statement M
-bits-spec = tie.close (tie.spec returns float-to-bits-result returns-2)
+bits-spec = tie.close (tie.spec (λ c. search needs) float-to-bits-result (λ c. search needs))

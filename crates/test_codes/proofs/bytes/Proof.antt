@@ -10,49 +10,5 @@ Inv-loop column n m h₀ i₀ h i = i ≤ m
 abbrev μ-loop : tie.MeasureT-loop
 μ-loop column n m h₀ i₀ h i = m - i
 
-lesser-requires : tie.Need-lesser-requires Inv-loop μ-loop
-lesser-requires c κs = search needs
-
-loop-holds : tie.Need-loop-holds Inv-loop μ-loop
-loop-holds c = search needs
-
-shared-slice-read-wide-byte : tie.Need-shared-slice-read-wide-byte Inv-loop μ-loop
-shared-slice-read-wide-byte c = search needs
-
-wide-byte-requires : tie.Need-wide-byte-requires Inv-loop μ-loop
-wide-byte-requires c κs = search needs
-
-mix-requires : tie.Need-mix-requires Inv-loop μ-loop
-mix-requires c κs = search needs
-
-add-i : tie.Need-add-i Inv-loop μ-loop
-add-i c = search needs
-
-loop-less : tie.Need-loop-less Inv-loop μ-loop
-loop-less c = search needs
-
-loop-again : tie.Need-loop-again Inv-loop μ-loop
-loop-again c = search needs
-
-show-requires : tie.Need-show-requires Inv-loop μ-loop
-show-requires c κs = search needs
-
-returns : tie.Need-returns Inv-loop μ-loop
-returns c = search needs
-
 pub bytes-spec : {M : Type 1} → statement M
-bytes-spec =
-    tie.close
-    (tie.spec
-    Inv-loop
-    μ-loop
-    lesser-requires
-    loop-holds
-    shared-slice-read-wide-byte
-    wide-byte-requires
-    mix-requires
-    add-i
-    loop-less
-    loop-again
-    show-requires
-    returns)
+bytes-spec = tie.close (tie.spec Inv-loop μ-loop (λ c κs. search needs) (λ c. search needs) (λ c. search needs) (λ c κs. search needs) (λ c κs. search needs) (λ c. search needs) (λ c. search needs) (λ c. search needs) (λ c κs. search needs) (λ c. search needs))

@@ -95,9 +95,6 @@ array-borrow-prefix-neighbor-numbers c = c .before .before .before .before .befo
 slice-aggregate-create-code-13 : tie.Need-slice-aggregate-create-code-13
 slice-aggregate-create-code-13 c = first {A = ℕ} 39370 (c .before .before .before .before .before .before .before .before .before .before .before .before .before .args .entries) 0 (c .before .before .before .before .before .before .before .before .before .before .before .before .before .pre .3)
 
-create-code-requires : tie.Need-create-code-requires
-create-code-requires c κs = tt
-
 slice-aggregate-show-code : tie.Need-slice-aggregate-show-code
 slice-aggregate-show-code c =
     let called = c .before .before .before .before .before .before .before .before .before .before .before .before .before .before in
@@ -138,50 +135,5 @@ slice-aggregate-show-code-8 c =
     let called = c .before .before .before .before .before .before .before .before .before .before .before .before .before .before .before .before .before .before .before .before .before in
     whole {A = Float} 4096 (called .before .before .before .before .before .before .before .before .before .before .before .before .before .before .args .vertices) (ofBits binary64 0x3fe0000000000000) (called .create-code .last .1 .1 .1 .1 .1 .1 .1 .1 .1 .1 .1 .0) (c .before .before .before .before .before .before .before .before .before .before .before .before .pos-t2 .given)
 
-show-code-requires : tie.Need-show-code-requires
-show-code-requires c κs = tt
-
-returns : tie.Need-returns
-returns c = tt
-
 pub code-in-spec : {M : Type 1} → statement M
-code-in-spec =
-    tie.close
-    (tie.spec
-    array-borrow-prefix-ends-a
-    slice-aggregate-create-code
-    array-borrow-prefix-ends-b
-    slice-aggregate-create-code-2
-    array-borrow-prefix-p
-    slice-aggregate-create-code-3
-    array-borrow-prefix-pe
-    slice-aggregate-create-code-4
-    array-borrow-prefix-half-weight
-    slice-aggregate-create-code-5
-    array-borrow-prefix-erasure
-    slice-aggregate-create-code-6
-    array-borrow-prefix-pos-i
-    slice-aggregate-create-code-7
-    array-borrow-prefix-pos-j
-    slice-aggregate-create-code-8
-    array-borrow-prefix-pos-t
-    slice-aggregate-create-code-9
-    array-borrow-prefix-boundary
-    slice-aggregate-create-code-10
-    array-borrow-prefix-defect
-    slice-aggregate-create-code-11
-    array-borrow-prefix-list-lengths
-    slice-aggregate-create-code-12
-    array-borrow-prefix-neighbor-numbers
-    slice-aggregate-create-code-13
-    create-code-requires
-    slice-aggregate-show-code
-    slice-aggregate-show-code-2
-    slice-aggregate-show-code-3
-    slice-aggregate-show-code-4
-    slice-aggregate-show-code-5
-    slice-aggregate-show-code-6
-    slice-aggregate-show-code-7
-    slice-aggregate-show-code-8
-    show-code-requires
-    returns)
+code-in-spec = tie.close (tie.spec array-borrow-prefix-ends-a slice-aggregate-create-code array-borrow-prefix-ends-b slice-aggregate-create-code-2 array-borrow-prefix-p slice-aggregate-create-code-3 array-borrow-prefix-pe slice-aggregate-create-code-4 array-borrow-prefix-half-weight slice-aggregate-create-code-5 array-borrow-prefix-erasure slice-aggregate-create-code-6 array-borrow-prefix-pos-i slice-aggregate-create-code-7 array-borrow-prefix-pos-j slice-aggregate-create-code-8 array-borrow-prefix-pos-t slice-aggregate-create-code-9 array-borrow-prefix-boundary slice-aggregate-create-code-10 array-borrow-prefix-defect slice-aggregate-create-code-11 array-borrow-prefix-list-lengths slice-aggregate-create-code-12 array-borrow-prefix-neighbor-numbers slice-aggregate-create-code-13 (λ c κs. tt) slice-aggregate-show-code slice-aggregate-show-code-2 slice-aggregate-show-code-3 slice-aggregate-show-code-4 slice-aggregate-show-code-5 slice-aggregate-show-code-6 slice-aggregate-show-code-7 slice-aggregate-show-code-8 (λ c κs. tt) (λ c. tt))

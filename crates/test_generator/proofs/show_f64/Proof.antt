@@ -6,9 +6,6 @@ use borrow.Author.Needs.{needs}
 use Rattle.test_generator.proofs.show_f64.Statement.{statement}
 use Rattle.test_generator.proofs.show_f64.Tie as tie
 
-returns : tie.Need-returns
-returns c = search needs
-
 no-nan : (x : Float) → ne x x ≡ false → T (not (isNan x))
 unfolding ne isNan
 no-nan nan e = absurd (true≢false e)
@@ -18,11 +15,5 @@ no-nan (fin s m d) e = tt
 float-to-bits-show : tie.Need-float-to-bits-show
 float-to-bits-show c = no-nan (c .before .args .x) (c .if1 .left)
 
-show-requires : tie.Need-show-requires
-show-requires c κs = search needs
-
-returns-2 : tie.Need-returns-2
-returns-2 c = search needs
-
 pub show-f64-spec : {M : Type 1} → statement M
-show-f64-spec = tie.close (tie.spec returns float-to-bits-show show-requires returns-2)
+show-f64-spec = tie.close (tie.spec (λ c. search needs) float-to-bits-show (λ c κs. search needs) (λ c. search needs))

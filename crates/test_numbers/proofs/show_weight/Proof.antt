@@ -16,9 +16,6 @@ not-negative : (z : ℤ) → ltZ z (pos 0) ≡ false → T (nonNeg z)
 not-negative (pos n) e = tt
 not-negative (negsuc n) e = absurd (true≢false e)
 
-show-none-requires : tie.Need-show-none-requires
-show-none-requires c κs = search needs
-
 cast-show : tie.Need-cast-show
 cast-show c =
     let s : tie.Start = c .before in (
@@ -26,15 +23,5 @@ cast-show c =
       subst (λ (z : ℤ). Fits w64 (natAbs z)) (sym (toZ-ofZ w32 (s .args .w) (s .fits .w))) (record { fits = lt-of-le-of-lt (natAbs-le (s .args .w) (s .fits .w .sfits)) (lit< tt) }),
     )
 
-show-requires : tie.Need-show-requires
-show-requires c κs = search needs
-
-returns : tie.Need-returns
-returns c = search needs
-
-returns-2 : tie.Need-returns-2
-returns-2 c = search needs
-
 pub show-weight-spec : {M : Type 1} → statement M
-show-weight-spec =
-    tie.close (tie.spec show-none-requires cast-show show-requires returns returns-2)
+show-weight-spec = tie.close (tie.spec (λ c κs. search needs) cast-show (λ c κs. search needs) (λ c. search needs) (λ c. search needs))

@@ -12,49 +12,8 @@ Inv-loop list n m i₀ i = (i ≤ m) × (m ≡ min n (length list))
 abbrev μ-loop : tie.MeasureT-loop
 μ-loop list n m i₀ i = m - i
 
-lesser-requires : tie.Need-lesser-requires Inv-loop μ-loop
-lesser-requires c κs = search needs
-
 loop-holds : tie.Need-loop-holds Inv-loop μ-loop
 loop-holds c = (search needs, c .lesser .ensures)
 
-mul-show-weight : tie.Need-mul-show-weight Inv-loop μ-loop
-mul-show-weight c = search needs
-
-shared-slice-copy-out-show-weight : tie.Need-shared-slice-copy-out-show-weight Inv-loop μ-loop
-shared-slice-copy-out-show-weight c = search needs
-
-show-weight-requires : tie.Need-show-weight-requires Inv-loop μ-loop
-show-weight-requires c κs = search needs
-
-add-i : tie.Need-add-i Inv-loop μ-loop
-add-i c = search needs
-
-loop-less : tie.Need-loop-less Inv-loop μ-loop
-loop-less c = search needs
-
-loop-again : tie.Need-loop-again Inv-loop μ-loop
-loop-again c = search needs
-
-end-line-requires : tie.Need-end-line-requires Inv-loop μ-loop
-end-line-requires c κs = search needs
-
-returns : tie.Need-returns Inv-loop μ-loop
-returns c = search needs
-
 pub show-weights-spec : {M : Type 1} → statement M
-show-weights-spec =
-    tie.close
-    (tie.spec
-    Inv-loop
-    μ-loop
-    lesser-requires
-    loop-holds
-    mul-show-weight
-    shared-slice-copy-out-show-weight
-    show-weight-requires
-    add-i
-    loop-less
-    loop-again
-    end-line-requires
-    returns)
+show-weights-spec = tie.close (tie.spec Inv-loop μ-loop (λ c κs. search needs) loop-holds (λ c. search needs) (λ c. search needs) (λ c κs. search needs) (λ c. search needs) (λ c. search needs) (λ c. search needs) (λ c κs. search needs) (λ c. search needs))

@@ -46,15 +46,6 @@ slice-aggregate-create-code-12 c = length-replicate {A = ℕ} 64 0
 slice-aggregate-create-code-13 : tie.Need-slice-aggregate-create-code-13
 slice-aggregate-create-code-13 c = length-replicate {A = ℕ} 384 0
 
-create-code-requires : tie.Need-create-code-requires
-create-code-requires c κs = tt
-
-vertices-in-requires : tie.Need-vertices-in-requires
-vertices-in-requires c κs = tt
-
-edges-in-requires : tie.Need-edges-in-requires
-edges-in-requires c κs = tt
-
 slice-aggregate-show-errors : tie.Need-slice-aggregate-show-errors
 slice-aggregate-show-errors c = sym (c .before .before .before .before .before .before .before .before .before .before .before .before .before .before .before .ends-a2 .given)
 
@@ -63,9 +54,6 @@ slice-aggregate-show-errors-2 c = sym (c .before .before .before .before .before
 
 slice-aggregate-show-errors-3 : tie.Need-slice-aggregate-show-errors-3
 slice-aggregate-show-errors-3 c = sym (c .before .before .before .before .before .before .before .before .boundary2 .given)
-
-show-errors-requires : tie.Need-show-errors-requires
-show-errors-requires c κs = tt
 
 slice-aggregate-reorder-vertices : tie.Need-slice-aggregate-reorder-vertices
 slice-aggregate-reorder-vertices c = sym (c .before .before .before .before .before .before .before .before .before .before .before .before .before .before .before .before .before .before .before .ends-a2 .given)
@@ -97,12 +85,6 @@ slice-aggregate-reorder-vertices-9 c = sym (c .before .before .before .before .b
 slice-aggregate-reorder-vertices-10 : tie.Need-slice-aggregate-reorder-vertices-10
 slice-aggregate-reorder-vertices-10 c = length-replicate {A = ℕ} 384 0
 
-reorder-vertices-requires : tie.Need-reorder-vertices-requires
-reorder-vertices-requires c κs = tt
-
-show-done-requires : tie.Need-show-done-requires
-show-done-requires c κs = tt
-
 slice-aggregate-show-code : tie.Need-slice-aggregate-show-code
 slice-aggregate-show-code c = sym (c .before .before .before .before .before .before .before .before .before .before .before .ends-a5 .given)
 
@@ -118,52 +100,5 @@ slice-aggregate-show-code-4 c = sym (c .before .before .before .before .before .
 slice-aggregate-show-code-5 : tie.Need-slice-aggregate-show-code-5
 slice-aggregate-show-code-5 c = sym (c .before .before .before .before .before .before .before .numbers4 .given)
 
-show-code-requires : tie.Need-show-code-requires
-show-code-requires c κs = tt
-
-returns : tie.Need-returns
-returns c = search needs
-
 pub replay-code-spec : {M : Type 1} → statement M
-replay-code-spec =
-    tie.close
-    (tie.spec
-    slice-aggregate-create-code
-    slice-aggregate-create-code-2
-    slice-aggregate-create-code-3
-    slice-aggregate-create-code-4
-    slice-aggregate-create-code-5
-    slice-aggregate-create-code-6
-    slice-aggregate-create-code-7
-    slice-aggregate-create-code-8
-    slice-aggregate-create-code-9
-    slice-aggregate-create-code-10
-    slice-aggregate-create-code-11
-    slice-aggregate-create-code-12
-    slice-aggregate-create-code-13
-    create-code-requires
-    vertices-in-requires
-    edges-in-requires
-    slice-aggregate-show-errors
-    slice-aggregate-show-errors-2
-    slice-aggregate-show-errors-3
-    show-errors-requires
-    slice-aggregate-reorder-vertices
-    slice-aggregate-reorder-vertices-2
-    slice-aggregate-reorder-vertices-3
-    slice-aggregate-reorder-vertices-4
-    slice-aggregate-reorder-vertices-5
-    slice-aggregate-reorder-vertices-6
-    slice-aggregate-reorder-vertices-7
-    slice-aggregate-reorder-vertices-8
-    slice-aggregate-reorder-vertices-9
-    slice-aggregate-reorder-vertices-10
-    reorder-vertices-requires
-    show-done-requires
-    slice-aggregate-show-code
-    slice-aggregate-show-code-2
-    slice-aggregate-show-code-3
-    slice-aggregate-show-code-4
-    slice-aggregate-show-code-5
-    show-code-requires
-    returns)
+replay-code-spec = tie.close (tie.spec slice-aggregate-create-code slice-aggregate-create-code-2 slice-aggregate-create-code-3 slice-aggregate-create-code-4 slice-aggregate-create-code-5 slice-aggregate-create-code-6 slice-aggregate-create-code-7 slice-aggregate-create-code-8 slice-aggregate-create-code-9 slice-aggregate-create-code-10 slice-aggregate-create-code-11 slice-aggregate-create-code-12 slice-aggregate-create-code-13 (λ c κs. tt) (λ c κs. tt) (λ c κs. tt) slice-aggregate-show-errors slice-aggregate-show-errors-2 slice-aggregate-show-errors-3 (λ c κs. tt) slice-aggregate-reorder-vertices slice-aggregate-reorder-vertices-2 slice-aggregate-reorder-vertices-3 slice-aggregate-reorder-vertices-4 slice-aggregate-reorder-vertices-5 slice-aggregate-reorder-vertices-6 slice-aggregate-reorder-vertices-7 slice-aggregate-reorder-vertices-8 slice-aggregate-reorder-vertices-9 slice-aggregate-reorder-vertices-10 (λ c κs. tt) (λ c κs. tt) slice-aggregate-show-code slice-aggregate-show-code-2 slice-aggregate-show-code-3 slice-aggregate-show-code-4 slice-aggregate-show-code-5 (λ c κs. tt) (λ c. search needs))

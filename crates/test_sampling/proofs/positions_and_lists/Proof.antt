@@ -33,85 +33,26 @@ slice-aggregate-reorder-vertices-9 c = refl
 slice-aggregate-reorder-vertices-10 : tie.Need-slice-aggregate-reorder-vertices-10
 slice-aggregate-reorder-vertices-10 c = refl
 
-reorder-vertices-requires : tie.Need-reorder-vertices-requires
-reorder-vertices-requires c κs = tt
-
-show-done-requires : tie.Need-show-done-requires
-show-done-requires c κs = tt
-
 slice-aggregate-show-list : tie.Need-slice-aggregate-show-list
 slice-aggregate-show-list c = sym (c .before .before .before .before .before .before .before .before .before .before .before .ends-a2 .given)
-
-show-list-requires : tie.Need-show-list-requires
-show-list-requires c κs = tt
 
 slice-aggregate-show-list-2 : tie.Need-slice-aggregate-show-list-2
 slice-aggregate-show-list-2 c = sym (c .before .before .before .before .before .before .before .before .before .before .before .before .ends-b2 .given)
 
-show-list-requires-2 : tie.Need-show-list-requires-2
-show-list-requires-2 c κs = tt
-
 slice-aggregate-show-bytes : tie.Need-slice-aggregate-show-bytes
 slice-aggregate-show-bytes c = sym (c .before .before .before .before .before .before .before .before .before .before .before .before .before .boundary2 .given)
-
-show-bytes-requires : tie.Need-show-bytes-requires
-show-bytes-requires c κs = tt
 
 slice-aggregate-show-bytes-2 : tie.Need-slice-aggregate-show-bytes-2
 slice-aggregate-show-bytes-2 c = sym (c .before .before .before .before .before .before .before .before .before .before .before .before .before .before .defect2 .given)
 
-show-bytes-requires-2 : tie.Need-show-bytes-requires-2
-show-bytes-requires-2 c κs = tt
-
 slice-aggregate-show-list-3 : tie.Need-slice-aggregate-show-list-3
 slice-aggregate-show-list-3 c = sym (c .before .before .before .before .before .before .before .before .before .before .before .before .lengths2 .given)
-
-show-list-requires-3 : tie.Need-show-list-requires-3
-show-list-requires-3 c κs = tt
 
 slice-aggregate-show-list-4 : tie.Need-slice-aggregate-show-list-4
 slice-aggregate-show-list-4 c = sym (c .before .before .before .before .before .before .before .before .before .before .before .before .before .lists2 .given)
 
-show-list-requires-4 : tie.Need-show-list-requires-4
-show-list-requires-4 c κs = tt
-
 slice-aggregate-show-list-5 : tie.Need-slice-aggregate-show-list-5
 slice-aggregate-show-list-5 c = sym (c .before .before .before .before .before .before .before .before .before .before .before .before .before .before .scratch2 .given)
 
-show-list-requires-5 : tie.Need-show-list-requires-5
-show-list-requires-5 c κs = tt
-
-returns : tie.Need-returns
-returns c = tt
-
 pub positions-and-lists-spec : {M : Type 1} → statement M
-positions-and-lists-spec =
-    tie.close
-    (tie.spec
-    slice-aggregate-reorder-vertices
-    slice-aggregate-reorder-vertices-2
-    slice-aggregate-reorder-vertices-3
-    slice-aggregate-reorder-vertices-4
-    slice-aggregate-reorder-vertices-5
-    slice-aggregate-reorder-vertices-6
-    slice-aggregate-reorder-vertices-7
-    slice-aggregate-reorder-vertices-8
-    slice-aggregate-reorder-vertices-9
-    slice-aggregate-reorder-vertices-10
-    reorder-vertices-requires
-    show-done-requires
-    slice-aggregate-show-list
-    show-list-requires
-    slice-aggregate-show-list-2
-    show-list-requires-2
-    slice-aggregate-show-bytes
-    show-bytes-requires
-    slice-aggregate-show-bytes-2
-    show-bytes-requires-2
-    slice-aggregate-show-list-3
-    show-list-requires-3
-    slice-aggregate-show-list-4
-    show-list-requires-4
-    slice-aggregate-show-list-5
-    show-list-requires-5
-    returns)
+positions-and-lists-spec = tie.close (tie.spec slice-aggregate-reorder-vertices slice-aggregate-reorder-vertices-2 slice-aggregate-reorder-vertices-3 slice-aggregate-reorder-vertices-4 slice-aggregate-reorder-vertices-5 slice-aggregate-reorder-vertices-6 slice-aggregate-reorder-vertices-7 slice-aggregate-reorder-vertices-8 slice-aggregate-reorder-vertices-9 slice-aggregate-reorder-vertices-10 (λ c κs. tt) (λ c κs. tt) slice-aggregate-show-list (λ c κs. tt) slice-aggregate-show-list-2 (λ c κs. tt) slice-aggregate-show-bytes (λ c κs. tt) slice-aggregate-show-bytes-2 (λ c κs. tt) slice-aggregate-show-list-3 (λ c κs. tt) slice-aggregate-show-list-4 (λ c κs. tt) slice-aggregate-show-list-5 (λ c κs. tt) (λ c. tt))

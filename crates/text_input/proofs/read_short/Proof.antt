@@ -20,9 +20,6 @@ well-is c =
 is-well : (c : tie.Else1) → wellFormed (c .before .before .before .before .before .before .before .before .before .before .before .before .before .before .before .before .before .args .text .now) ≡ true
 is-well c = sym (well-is (c .before)) ∙ not-false _ (c .if1 .left)
 
-digits-at-requires : tie.Need-digits-at-requires
-digits-at-requires c κs = search needs
-
 decimal-sound-requires : tie.Need-decimal-sound-requires
 decimal-sound-requires c κs = (omega arith, omega arith, c .digits-at .ensures .0)
 
@@ -71,24 +68,6 @@ add-is c = omega arith
 add-is-2 : tie.Need-add-is-2
 add-is-2 c = omega arith
 
-is-requires : tie.Need-is-requires
-is-requires c κs = tt
-
-both-requires : tie.Need-both-requires
-both-requires c κs = tt
-
-both-requires-2 : tie.Need-both-requires-2
-both-requires-2 c κs = tt
-
-both-requires-3 : tie.Need-both-requires-3
-both-requires-3 c κs = tt
-
-both-requires-4 : tie.Need-both-requires-4
-both-requires-4 c κs = tt
-
-both-requires-5 : tie.Need-both-requires-5
-both-requires-5 c κs = tt
-
 returns : tie.Need-returns
 returns c = not-formed (c .before .before .before .before .before .before .before .before .before .before .before .before .before .before .before .before .before .args .text .now) (sym (well-is (c .before)) ∙ not-true _ (c .if1 .taken))
 
@@ -111,36 +90,4 @@ returns-2 : tie.Need-returns-2
 returns-2 c = formed (c .before .before .before .before .before .before .before .before .before .before .before .before .before .before .before .before .before .before .before .before .before .before .args .text .now) _ (is-well (c .before .before .before .before .before)) (line (c .before .before .before .before .before .before .before .before .before .before .before .before .before .before .before .before .before .before .before .before .before .before .args .text .now) (c .before .before .before .before .before .before .before .before .before .before .before .before .before .before .before .before .before .before .before .before .digits-at .result) (c .before .before .before .before .before .before .before .before .before .before .before .before .before .before .before .before .before .before .digits-at2 .result) (c .before .before .before .before .before .before .before .before .before .before .before .before .before .before .before .before .digits-at3 .result) (c .before .before .before .before .before .before .before .before .before .before .before .before .before .digits-at4 .result) (c .before .before .before .before .before .before .before .before .before .before .before .before .before .before .before .before .before .before .before .before .digits-at .ensures .0) (c .before .before .before .before .before .before .before .before .before .before .before .before .before .before .before .before .before .before .digits-at2 .ensures .0) (c .before .before .before .before .before .before .before .before .before .before .before .before .before .before .before .before .digits-at3 .ensures .0) (c .before .before .before .before .before .before .before .before .before .before .before .before .before .digits-at4 .ensures .0) (c .before .before .before .before .decimal-value .ensures) (c .before .before .before .decimal-value2 .ensures) (c .before .before .decimal-value3 .ensures) (c .before .hex-value .ensures) (c .decimal-value4 .ensures))
 
 pub read-short-spec : {M : Type 1} → statement M
-read-short-spec =
-    tie.close
-    (tie.spec
-    digits-at-requires
-    decimal-sound-requires
-    add-at2
-    digits-at-requires-2
-    decimal-sound-requires-2
-    add-at3
-    add-at3-2
-    digits-at-requires-3
-    decimal-sound-requires-3
-    add-at4
-    add-at4-2
-    hex-sound-requires
-    add-at5
-    digits-at-requires-4
-    decimal-sound-requires-4
-    add-is
-    add-is-2
-    is-requires
-    both-requires
-    both-requires-2
-    both-requires-3
-    both-requires-4
-    both-requires-5
-    returns
-    decimal-value-requires
-    decimal-value-requires-2
-    decimal-value-requires-3
-    hex-value-requires
-    decimal-value-requires-4
-    returns-2)
+read-short-spec = tie.close (tie.spec (λ c κs. search needs) decimal-sound-requires add-at2 digits-at-requires-2 decimal-sound-requires-2 add-at3 add-at3-2 digits-at-requires-3 decimal-sound-requires-3 add-at4 add-at4-2 hex-sound-requires add-at5 digits-at-requires-4 decimal-sound-requires-4 add-is add-is-2 (λ c κs. tt) (λ c κs. tt) (λ c κs. tt) (λ c κs. tt) (λ c κs. tt) (λ c κs. tt) returns decimal-value-requires decimal-value-requires-2 decimal-value-requires-3 hex-value-requires decimal-value-requires-4 returns-2)

@@ -54,15 +54,4 @@ returns c =
     renamed (ap (λ (k : ℕ). joined k (edgeLine (s .ends-a .now) (s .ends-b .now) (s .weights .now))) all) (l .inv .2)
 
 pub put-edges-spec : {M : Type 1} → statement M
-put-edges-spec =
-    tie.close
-    (tie.spec
-    Inv-loop
-    μ-loop
-    loop-holds
-    put-edge-requires
-    add-e
-    loop-less
-    loop-again
-    same-length
-    returns)
+put-edges-spec = tie.close (tie.spec Inv-loop μ-loop loop-holds put-edge-requires add-e loop-less loop-again same-length returns)

@@ -13,12 +13,6 @@ use borrow.Author.Needs.{needs}
 use Rattle.text_lines.proofs.put_graph.Statement.{statement}
 use Rattle.text_lines.proofs.put_graph.Tie as tie
 
-put-byte-requires : tie.Need-put-byte-requires
-put-byte-requires c κs = search needs
-
-put-field-requires : tie.Need-put-field-requires
-put-field-requires c κs = search needs
-
 put-field-requires-2 : tie.Need-put-field-requires-2
 put-field-requires-2 c κs = omega (arith, c .before .before .before .put-field .ensures .1, c .before .before .before .before .before .before .before .put-byte .ensures .next)
 
@@ -33,9 +27,6 @@ put-field-requires-5 c κs = omega (arith, c .before .before .before .put-field4
 
 put-byte-requires-2 : tie.Need-put-byte-requires-2
 put-byte-requires-2 c κs = omega (arith, c .before .before .before .put-field5 .ensures .1, c .before .before .before .before .before .before .before .put-field4 .ensures .1, c .before .before .before .before .before .before .before .before .before .before .before .put-field3 .ensures .1, c .before .before .before .before .before .before .before .before .before .before .before .before .before .before .before .put-field2 .ensures .1, c .before .before .before .before .before .before .before .before .before .before .before .before .before .before .before .before .before .before .before .put-field .ensures .1, c .before .before .before .before .before .before .before .before .before .before .before .before .before .before .before .before .before .before .before .before .before .before .before .put-byte .ensures .next)
-
-same-length : tie.Need-same-length
-same-length c = search needs
 
 returns : tie.Need-returns
 returns c =
@@ -53,15 +44,4 @@ returns c =
     (field e [] (c .before .before .before .before .before .before .put-field5 .ensures .0) (line-end (c .before .before .put-byte2 .ensures)))))))
 
 pub put-graph-spec : {M : Type 1} → statement M
-put-graph-spec =
-    tie.close
-    (tie.spec
-    put-byte-requires
-    put-field-requires
-    put-field-requires-2
-    put-field-requires-3
-    put-field-requires-4
-    put-field-requires-5
-    put-byte-requires-2
-    same-length
-    returns)
+put-graph-spec = tie.close (tie.spec (λ c κs. search needs) (λ c κs. search needs) put-field-requires-2 put-field-requires-3 put-field-requires-4 put-field-requires-5 put-byte-requires-2 (λ c. search needs) returns)

@@ -13,17 +13,8 @@ use borrow.Author.Needs.{needs}
 use Rattle.text_lines.proofs.put_one.Statement.{statement}
 use Rattle.text_lines.proofs.put_one.Tie as tie
 
-put-byte-requires : tie.Need-put-byte-requires
-put-byte-requires c κs = search needs
-
-put-field-requires : tie.Need-put-field-requires
-put-field-requires c κs = search needs
-
 put-byte-requires-2 : tie.Need-put-byte-requires-2
 put-byte-requires-2 c κs = omega (arith, c .before .before .before .put-field .ensures .1, c .before .before .before .before .before .before .before .put-byte .ensures .next)
-
-same-length : tie.Need-same-length
-same-length c = search needs
 
 returns : tie.Need-returns
 returns c =
@@ -31,6 +22,4 @@ returns c =
     lettered _ (n ∷ []) (c .before .before .before .before .before .before .before .before .before .before .put-byte .ensures) (field n [] (c .before .before .before .before .before .before .put-field .ensures .0) (line-end (c .before .before .put-byte2 .ensures)))
 
 pub put-one-spec : {M : Type 1} → statement M
-put-one-spec =
-    tie.close
-    (tie.spec put-byte-requires put-field-requires put-byte-requires-2 same-length returns)
+put-one-spec = tie.close (tie.spec (λ c κs. search needs) (λ c κs. search needs) put-byte-requires-2 (λ c. search needs) returns)

@@ -13,15 +13,6 @@ use borrow.Author.Needs.{needs}
 use Rattle.text_lines.proofs.put_vertex.Statement.{statement}
 use Rattle.text_lines.proofs.put_vertex.Tie as tie
 
-put-byte-requires : tie.Need-put-byte-requires
-put-byte-requires c κs = search needs
-
-put-field-requires : tie.Need-put-field-requires
-put-field-requires c κs = search needs
-
-shared-slice-read-put-field : tie.Need-shared-slice-read-put-field
-shared-slice-read-put-field c = search needs
-
 cast-put-field : tie.Need-cast-put-field
 cast-put-field c = omega (arith, c .shared-slice-known2 .given (c .before .before .before .before .before .before .before .before .before .before .before .before .args .v))
 
@@ -31,9 +22,6 @@ put-field-requires-2 c κs = omega (arith, c .before .before .before .before .pu
 put-byte-requires-2 : tie.Need-put-byte-requires-2
 put-byte-requires-2 c κs = omega (arith, c .before .before .before .put-field2 .ensures .1, c .before .before .before .before .before .before .before .before .put-field .ensures .1, c .before .before .before .before .before .before .before .before .before .before .before .before .put-byte .ensures .next)
 
-same-length : tie.Need-same-length
-same-length c = search needs
-
 returns : tie.Need-returns
 returns c =
     let s = c .before .before .before .before .before .before .before .before .before .before .before .before .before .before .before .before .before .before .before .args in
@@ -41,14 +29,4 @@ returns c =
     lettered 0x76 (s .v ∷ b ∷ []) (c .before .before .before .before .before .before .before .before .before .before .before .before .before .before .before .put-byte .ensures) (field (s .v) (b ∷ []) (c .before .before .before .before .before .before .before .before .before .before .before .put-field .ensures .0) (field b [] (c .before .before .before .before .before .before .put-field2 .ensures .0) (line-end (c .before .before .put-byte2 .ensures))))
 
 pub put-vertex-spec : {M : Type 1} → statement M
-put-vertex-spec =
-    tie.close
-    (tie.spec
-    put-byte-requires
-    put-field-requires
-    shared-slice-read-put-field
-    cast-put-field
-    put-field-requires-2
-    put-byte-requires-2
-    same-length
-    returns)
+put-vertex-spec = tie.close (tie.spec (λ c κs. search needs) (λ c κs. search needs) (λ c. search needs) cast-put-field put-field-requires-2 put-byte-requires-2 (λ c. search needs) returns)

@@ -53,15 +53,4 @@ returns c =
     renamed (ap (λ (k : ℕ). joined k (vertexLine (s .boundary .now))) all) (l .inv .2)
 
 pub put-vertices-spec : {M : Type 1} → statement M
-put-vertices-spec =
-    tie.close
-    (tie.spec
-    Inv-loop
-    μ-loop
-    loop-holds
-    put-vertex-requires
-    add-v
-    loop-less
-    loop-again
-    same-length
-    returns)
+put-vertices-spec = tie.close (tie.spec Inv-loop μ-loop loop-holds put-vertex-requires add-v loop-less loop-again same-length returns)

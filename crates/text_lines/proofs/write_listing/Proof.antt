@@ -9,9 +9,6 @@ use borrow.Author.Needs.{needs}
 use Rattle.text_lines.proofs.write_listing.Statement.{statement}
 use Rattle.text_lines.proofs.write_listing.Tie as tie
 
-put-graph-requires : tie.Need-put-graph-requires
-put-graph-requires c κs = tt
-
 put-vertices-requires : tie.Need-put-vertices-requires
 put-vertices-requires c κs = (omega (arith, c .before .before .before .put-graph .ensures .next, ended-few (c .before .before .before .before .before .before .before .before .before .before .args .kind ∷ c .before .before .before .before .before .before .before .before .before .before .args .d ∷ c .before .before .before .before .before .before .before .before .before .before .args .rounds ∷ c .before .before .before .before .before .before .before .before .before .before .args .vertices ∷ c .before .before .before .before .before .before .before .before .before .before .args .edges ∷ [])), c .before .before .before .before .before .before .before .before .before .before .pre .0 .0, c .before .before .before .before .before .before .before .before .before .before .pre .0 .1)
 
@@ -22,9 +19,6 @@ put-edges-requires c κs =
 
 put-one-requires : tie.Need-put-one-requires
 put-one-requires c κs = omega (arith, c .before .before .before .put-edges .ensures .next, c .before .before .before .before .before .before .before .put-vertices .ensures .next, c .before .before .before .before .before .before .before .before .before .before .before .put-graph .ensures .next, c .before .before .before .before .before .before .before .before .before .before .before .before .before .before .before .before .before .before .pre .0 .0, c .before .before .before .before .before .before .before .before .before .before .before .before .before .before .before .before .before .before .pre .1 .0, ended-few (c .before .before .before .before .before .before .before .before .before .before .before .before .before .before .before .before .before .before .args .kind ∷ c .before .before .before .before .before .before .before .before .before .before .before .before .before .before .before .before .before .before .args .d ∷ c .before .before .before .before .before .before .before .before .before .before .before .before .before .before .before .before .before .before .args .rounds ∷ c .before .before .before .before .before .before .before .before .before .before .before .before .before .before .before .before .before .before .args .vertices ∷ c .before .before .before .before .before .before .before .before .before .before .before .before .before .before .before .before .before .before .args .edges ∷ []), vertex-lines-few (c .before .before .before .before .before .before .before .before .before .before .before .before .before .before .before .before .before .before .args .vertices) (c .before .before .before .before .before .before .before .before .before .before .before .before .before .before .before .before .before .before .args .boundary .now), edge-lines-few (c .before .before .before .before .before .before .before .before .before .before .before .before .before .before .before .before .before .before .args .edges) (c .before .before .before .before .before .before .before .before .before .before .before .before .before .before .before .before .before .before .args .ends-a .now) (c .before .before .before .before .before .before .before .before .before .before .before .before .before .before .before .before .before .before .args .ends-b .now) (c .before .before .before .before .before .before .before .before .before .before .before .before .before .before .before .before .before .before .args .weights .now))
-
-same-length : tie.Need-same-length
-same-length c = search needs
 
 returns : tie.Need-returns
 unfolding listing
@@ -37,12 +31,4 @@ returns c =
     (both v (e ++ x) (c .before .before .before .before .before .before .before .before .before .before .put-vertices .ensures) (both e x (c .before .before .before .before .before .before .put-edges .ensures) (c .before .before .put-one .ensures)))
 
 pub write-listing-spec : {M : Type 1} → statement M
-write-listing-spec =
-    tie.close
-    (tie.spec
-    put-graph-requires
-    put-vertices-requires
-    put-edges-requires
-    put-one-requires
-    same-length
-    returns)
+write-listing-spec = tie.close (tie.spec (λ c κs. tt) put-vertices-requires put-edges-requires put-one-requires (λ c. search needs) returns)

@@ -47,9 +47,6 @@ slice-aggregate-new-12 c = length-replicate {A = ℕ} 1024 0
 slice-aggregate-new-13 : tie.Need-slice-aggregate-new-13
 slice-aggregate-new-13 c = length-replicate {A = ℕ} 12288 0
 
-new-requires : tie.Need-new-requires
-new-requires c κs = tt
-
 slice-aggregate-write-made : tie.Need-slice-aggregate-write-made
 slice-aggregate-write-made c = sym (c .before .before .before .before .before .before .before .before .before .before .before .before .before .ends-a2 .given ∙ length-replicate {A = ℕ} 6144 0)
 
@@ -72,27 +69,4 @@ returns : tie.Need-returns
 returns c = made-put _ _ _ _ _ _ _ (room-of _ (length-replicate {A = ℕ} 6144 0) (length-replicate {A = ℕ} 6144 0) (length-replicate {A = Float} 6144 (ofBits binary64 0x0)) (length-replicate {A = Float} 6144 (ofBits binary64 0x0)) (length-replicate {A = ℕ} 6144 0) (length-replicate {A = ℕ} 6144 0) (length-replicate {A = Float} 1024 (ofBits binary64 0x0)) (length-replicate {A = Float} 1024 (ofBits binary64 0x0)) (length-replicate {A = Float} 1024 (ofBits binary64 0x0)) (length-replicate {A = ℕ} 1024 0) (length-replicate {A = ℕ} 1024 0) (length-replicate {A = ℕ} 1024 0) (length-replicate {A = ℕ} 12288 0)) (c .before .before .before .before .before .before .before .before .before .before .before .before .before .before .before .before .before .before .before .before .before .new .result) (c .before .before .before .before .before .before .before .before .before .before .before .before .before .before .before .before .before .before .before .before .before .new .ensures) (c .before .before .write-made .ensures)
 
 pub write-code-spec : {M : Type 1} → statement M
-write-code-spec =
-    tie.close
-    (tie.spec
-    slice-aggregate-new
-    slice-aggregate-new-2
-    slice-aggregate-new-3
-    slice-aggregate-new-4
-    slice-aggregate-new-5
-    slice-aggregate-new-6
-    slice-aggregate-new-7
-    slice-aggregate-new-8
-    slice-aggregate-new-9
-    slice-aggregate-new-10
-    slice-aggregate-new-11
-    slice-aggregate-new-12
-    slice-aggregate-new-13
-    new-requires
-    slice-aggregate-write-made
-    slice-aggregate-write-made-2
-    slice-aggregate-write-made-3
-    slice-aggregate-write-made-4
-    write-made-requires
-    same-length
-    returns)
+write-code-spec = tie.close (tie.spec slice-aggregate-new slice-aggregate-new-2 slice-aggregate-new-3 slice-aggregate-new-4 slice-aggregate-new-5 slice-aggregate-new-6 slice-aggregate-new-7 slice-aggregate-new-8 slice-aggregate-new-9 slice-aggregate-new-10 slice-aggregate-new-11 slice-aggregate-new-12 slice-aggregate-new-13 (λ c κs. tt) slice-aggregate-write-made slice-aggregate-write-made-2 slice-aggregate-write-made-3 slice-aggregate-write-made-4 write-made-requires same-length returns)

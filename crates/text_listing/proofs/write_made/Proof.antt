@@ -7,15 +7,6 @@ use borrow.Author.Needs.{needs}
 use Rattle.text_listing.proofs.write_made.Statement.{statement}
 use Rattle.text_listing.proofs.write_made.Tie as tie
 
-enum-known-made : tie.Need-enum-known-made
-enum-known-made c = search needs
-
-write-refusal-requires : tie.Need-write-refusal-requires
-write-refusal-requires c κs = tt
-
-enum-known-made-2 : tie.Need-enum-known-made-2
-enum-known-made-2 c = search needs
-
 write-built-requires : tie.Need-write-built-requires
 write-built-requires c κs = holds-made (c .before .before .before .before .before .before .before .before .before .args .made) _ _ (c .before .before .before .before .before .before .before .before .before .pre) (let t = c .before .before .made2 .given in let u = c .before .known-told2 .given in cc)
 
@@ -32,14 +23,4 @@ returns-2 : tie.Need-returns-2
 returns-2 c = built-made _ _ _ _ _ (c .before .before .before .before .before .before .before .before .before .before .before .before .args .made) (c .before .before .write-built .ensures) (λ n q. let t = c .before .before .before .before .before .made2 .given in let u = c .before .before .before .before .known-told2 .given in let z : _≡_ {A = ℕ} 0 1 = cc in omega arith)
 
 pub write-made-spec : {M : Type 1} → statement M
-write-made-spec =
-    tie.close
-    (tie.spec
-    enum-known-made
-    write-refusal-requires
-    enum-known-made-2
-    write-built-requires
-    same-length
-    returns
-    same-length-2
-    returns-2)
+write-made-spec = tie.close (tie.spec (λ c. search needs) (λ c κs. tt) (λ c. search needs) write-built-requires same-length returns same-length-2 returns-2)

@@ -9,20 +9,11 @@ use borrow.Author.Needs.{needs}
 use Rattle.text_numbers.proofs.digit.Statement.{statement}
 use Rattle.text_numbers.proofs.digit.Tie as tie
 
-power-of-ten-requires : tie.Need-power-of-ten-requires
-power-of-ten-requires c κs = search needs
-
 div-result : tie.Need-div-result
 div-result c = omega (arith, c .power-of-ten .ensures, some-power (c .before .args .k))
-
-add-result : tie.Need-add-result
-add-result c = search needs
-
-cast-result : tie.Need-cast-result
-cast-result c = search needs
 
 returns : tie.Need-returns
 returns c = ap (λ (p : ℕ). 48 + c .before .args .n / p % 10) (c .power-of-ten .ensures)
 
 pub digit-spec : {M : Type 1} → statement M
-digit-spec = tie.close (tie.spec power-of-ten-requires div-result add-result cast-result returns)
+digit-spec = tie.close (tie.spec (λ c κs. search needs) div-result (λ c. search needs) (λ c. search needs) returns)

@@ -38,14 +38,4 @@ returns : tie.Need-returns Inv-loop μ-loop
 returns c = c .before .loop .inv .1 ∙ ap (λ (n : ℕ). 10 ^ n) (same (c .before .loop .i) (c .before .before .args .k) (omega arith) (omega arith))
 
 pub power-of-ten-spec : {M : Type 1} → statement M
-power-of-ten-spec =
-    tie.close
-    (tie.spec
-    Inv-loop
-    μ-loop
-    loop-holds
-    mul-power
-    add-i
-    loop-less
-    loop-again
-    returns)
+power-of-ten-spec = tie.close (tie.spec Inv-loop μ-loop loop-holds mul-power add-i loop-less loop-again returns)

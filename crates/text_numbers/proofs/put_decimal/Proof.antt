@@ -31,9 +31,6 @@ Inv-loop text₀ at n next₀ k₀ text next k =
 abbrev μ-loop : tie.MeasureT-loop
 μ-loop text₀ at n next₀ k₀ text next k = k
 
-size-requires : tie.Need-size-requires Inv-loop μ-loop
-size-requires c κs = tt
-
 loop-holds : tie.Need-loop-holds Inv-loop μ-loop
 loop-holds c =
     let s = c .before .before .args in
@@ -80,17 +77,4 @@ returns c =
     record { stored = ended (l .text) _ (l .next) (l .k) (s .n) (c .loop-test .left) (l .inv .2); next = omega (arith, l .inv .3) }
 
 pub put-decimal-spec : {M : Type 1} → statement M
-put-decimal-spec =
-    tie.close
-    (tie.spec
-    Inv-loop
-    μ-loop
-    size-requires
-    loop-holds
-    sub-k
-    digit-requires
-    put-byte-requires
-    loop-less
-    loop-again
-    same-length
-    returns)
+put-decimal-spec = tie.close (tie.spec Inv-loop μ-loop (λ c κs. tt) loop-holds sub-k digit-requires put-byte-requires loop-less loop-again same-length returns)

@@ -39,16 +39,4 @@ returns-2 : tie.Need-returns-2 Inv-loop μ-loop
 returns-2 c = (size-end (c .before .loop .k) (c .before .before .args .n) (c .loop-test .left) ∙ sym (c .before .loop .inv .1), omega arith)
 
 pub size-spec : {M : Type 1} → statement M
-size-spec =
-    tie.close
-    (tie.spec
-    Inv-loop
-    μ-loop
-    loop-holds
-    power-of-ten-requires
-    add-result
-    returns
-    sub-k
-    loop-less
-    loop-again
-    returns-2)
+size-spec = tie.close (tie.spec Inv-loop μ-loop loop-holds power-of-ten-requires add-result returns sub-k loop-less loop-again returns-2)

@@ -5,17 +5,8 @@ use borrow.Author.Needs.{needs}
 use Rattle.text_numbers.proofs.store.Statement.{statement}
 use Rattle.text_numbers.proofs.store.Tie as tie
 
-slice-write-text : tie.Need-slice-write-text
-slice-write-text c = search needs
-
-same-length : tie.Need-same-length
-same-length c = search needs
-
-returns : tie.Need-returns
-returns c = search needs
-
 returns-2 : tie.Need-returns-2
 returns-2 c = let s = c .before .args in sym (set-out (s .text .now) (s .at) (s .b) (c .if1 .left))
 
 pub store-spec : {M : Type 1} → statement M
-store-spec = tie.close (tie.spec slice-write-text same-length returns returns-2)
+store-spec = tie.close (tie.spec (λ c. search needs) (λ c. search needs) (λ c. search needs) returns-2)

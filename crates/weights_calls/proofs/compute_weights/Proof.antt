@@ -49,51 +49,6 @@ stored : (q max : ℕ) (ps : List Float) (l : Float) (before column : List ℕ) 
 stored q max ps l before column e f z =
     e ∙ ap (λ (x : Float). over (map (λ p. halfWeight max (edgeWeight p) x) ps) before) f ∙ sym (after-accepted q (halfWeights max ps) before z)
 
-at-most-requires : tie.Need-at-most-requires
-at-most-requires c κs = tt
-
-at-most-requires-2 : tie.Need-at-most-requires-2
-at-most-requires-2 c κs = tt
-
-both-requires : tie.Need-both-requires
-both-requires c κs = tt
-
-cast-at-most : tie.Need-cast-at-most
-cast-at-most c = search needs
-
-at-most-requires-3 : tie.Need-at-most-requires-3
-at-most-requires-3 c κs = tt
-
-is-largest-half-weight-requires : tie.Need-is-largest-half-weight-requires
-is-largest-half-weight-requires c κs = tt
-
-are-probabilities-requires : tie.Need-are-probabilities-requires
-are-probabilities-requires c κs = tt
-
-largest-weight-requires : tie.Need-largest-weight-requires
-largest-weight-requires c κs = tt
-
-is-above-zero-requires : tie.Need-is-above-zero-requires
-is-above-zero-requires c κs = tt
-
-asked-requires : tie.Need-asked-requires
-asked-requires c κs = tt
-
-asked-requires-2 : tie.Need-asked-requires-2
-asked-requires-2 c κs = tt
-
-asked-requires-3 : tie.Need-asked-requires-3
-asked-requires-3 c κs = tt
-
-asked-requires-4 : tie.Need-asked-requires-4
-asked-requires-4 c κs = tt
-
-asked-requires-5 : tie.Need-asked-requires-5
-asked-requires-5 c κs = tt
-
-done-of-requires : tie.Need-done-of-requires
-done-of-requires c κs = tt
-
 returns : tie.Need-returns
 returns c =
     let s = c .before .before .before .before .before .before .before .before .before .before .before .before .before .before .before .before .before .args in
@@ -125,25 +80,4 @@ returns-2 c =
     }
 
 pub compute-weights-spec : {M : Type 1} → statement M
-compute-weights-spec =
-    tie.close
-    (tie.spec
-    at-most-requires
-    at-most-requires-2
-    both-requires
-    cast-at-most
-    at-most-requires-3
-    is-largest-half-weight-requires
-    are-probabilities-requires
-    largest-weight-requires
-    is-above-zero-requires
-    asked-requires
-    asked-requires-2
-    asked-requires-3
-    asked-requires-4
-    asked-requires-5
-    done-of-requires
-    returns
-    store-half-weights-requires
-    same-length
-    returns-2)
+compute-weights-spec = tie.close (tie.spec (λ c κs. tt) (λ c κs. tt) (λ c κs. tt) (λ c. search needs) (λ c κs. tt) (λ c κs. tt) (λ c κs. tt) (λ c κs. tt) (λ c κs. tt) (λ c κs. tt) (λ c κs. tt) (λ c κs. tt) (λ c κs. tt) (λ c κs. tt) (λ c κs. tt) returns store-half-weights-requires same-length returns-2)

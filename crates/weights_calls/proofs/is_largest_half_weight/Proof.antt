@@ -2,11 +2,8 @@
 use Rattle.weights_calls.proofs.is_largest_half_weight.Statement.{statement}
 use Rattle.weights_calls.proofs.is_largest_half_weight.Tie as tie
 
-both-requires : tie.Need-both-requires
-both-requires c κs = tt
-
 returns : tie.Need-returns
 returns c = c .both .ensures
 
 pub is-largest-half-weight-spec : {M : Type 1} → statement M
-is-largest-half-weight-spec = tie.close (tie.spec both-requires returns)
+is-largest-half-weight-spec = tie.close (tie.spec (λ c κs. tt) returns)

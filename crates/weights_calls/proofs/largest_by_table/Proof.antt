@@ -22,24 +22,15 @@ Inv-loop p n known-p₀ known-w₀ m largest₀ i₀ known-p known-w l i =
 abbrev μ-loop : tie.MeasureT-loop
 μ-loop p n known-p₀ known-w₀ m largest₀ i₀ known-p known-w l i = m - i
 
-lesser-requires : tie.Need-lesser-requires Inv-loop μ-loop
-lesser-requires c κs = tt
-
 loop-holds : tie.Need-loop-holds Inv-loop μ-loop
 unfolding largest
 loop-holds c = (omega arith, c .lesser .ensures, refl, refl, refl, c .before .before .before .before .pre)
-
-mul-known-weight : tie.Need-mul-known-weight Inv-loop μ-loop
-mul-known-weight c = search needs
 
 shared-slice-read-known-weight : tie.Need-shared-slice-read-known-weight Inv-loop μ-loop
 shared-slice-read-known-weight c = omega (arith, c .before .before .loop .inv .1)
 
 known-weight-requires : tie.Need-known-weight-requires Inv-loop μ-loop
 known-weight-requires c κs = c .before .before .before .before .loop .inv .5
-
-larger-weight-requires : tie.Need-larger-weight-requires Inv-loop μ-loop
-larger-weight-requires c κs = tt
 
 add-i : tie.Need-add-i Inv-loop μ-loop
 add-i c = omega (arith, c .before .before .before .before .before .before .before .before .before .before .loop .inv .1, c .before .before .before .before .before .before .before .before .before .loop-test .taken)
@@ -77,20 +68,4 @@ returns c =
     at .inv .2 ∙ ap largestWeight (sym (take-first (s .p .now) (s .n) (at .i) (omega (arith, at .inv .1)) (omega (arith, at .inv .1))))
 
 pub largest-by-table-spec : {M : Type 1} → statement M
-largest-by-table-spec =
-    tie.close
-    (tie.spec
-    Inv-loop
-    μ-loop
-    lesser-requires
-    loop-holds
-    mul-known-weight
-    shared-slice-read-known-weight
-    known-weight-requires
-    larger-weight-requires
-    add-i
-    loop-less
-    loop-again
-    same-length
-    same-length-2
-    returns)
+largest-by-table-spec = tie.close (tie.spec Inv-loop μ-loop (λ c κs. tt) loop-holds (λ c. search needs) shared-slice-read-known-weight known-weight-requires (λ c κs. tt) add-i loop-less loop-again same-length same-length-2 returns)

@@ -26,17 +26,11 @@ abbrev μ-loop : tie.MeasureT-loop
 loop-holds : tie.Need-loop-holds Inv-loop μ-loop
 loop-holds c = (omega arith, refl, refl, refl, refl, c .before .before .before .before .pre .2)
 
-mul-known-half-weight : tie.Need-mul-known-half-weight Inv-loop μ-loop
-mul-known-half-weight c = search needs
-
 shared-slice-read-known-half-weight : tie.Need-shared-slice-read-known-half-weight Inv-loop μ-loop
 shared-slice-read-known-half-weight c = omega (arith, c .before .before .before .before .before .before .before .pre .0, c .before .loop-test .taken)
 
 known-half-weight-requires : tie.Need-known-half-weight-requires Inv-loop μ-loop
 known-half-weight-requires c κs = c .before .before .before .before .loop .inv .5
-
-mul-column : tie.Need-mul-column Inv-loop μ-loop
-mul-column c = search needs
 
 slice-write-column : tie.Need-slice-write-column Inv-loop μ-loop
 slice-write-column c = omega (arith, c .before .before .before .before .before .before .before .before .before .before .before .before .before .before .pre .1, c .before .before .before .before .before .before .before .before .before .loop .inv .1, c .before .before .before .before .before .before .before .before .loop-test .taken)
@@ -87,21 +81,4 @@ returns c =
     (omega (arith, start .pre .0, start .pre .1, length-map (take (s .n) (s .p .now)) one, length-take (s .n) (s .p .now)))
 
 pub store-by-table-spec : {M : Type 1} → statement M
-store-by-table-spec =
-    tie.close
-    (tie.spec
-    Inv-loop
-    μ-loop
-    loop-holds
-    mul-known-half-weight
-    shared-slice-read-known-half-weight
-    known-half-weight-requires
-    mul-column
-    slice-write-column
-    add-i
-    loop-less
-    loop-again
-    same-length
-    same-length-2
-    same-length-3
-    returns)
+store-by-table-spec = tie.close (tie.spec Inv-loop μ-loop loop-holds (λ c. search needs) shared-slice-read-known-half-weight known-half-weight-requires (λ c. search needs) slice-write-column add-i loop-less loop-again same-length same-length-2 same-length-3 returns)

@@ -7,12 +7,6 @@ use Rattle.columns_answers.proofs.Said.{accepts-of, refuses-of}
 use Rattle.weights_calls.proofs.weight_of_p.Statement.{statement}
 use Rattle.weights_calls.proofs.weight_of_p.Tie as tie
 
-is-probability-requires : tie.Need-is-probability-requires
-is-probability-requires c κs = tt
-
-edge-weight-requires : tie.Need-edge-weight-requires
-edge-weight-requires c κs = tt
-
 returns : tie.Need-returns
 returns c =
     let test = c .before .before .is-probability .ensures in
@@ -24,5 +18,4 @@ returns-2 c =
     refuses-of (ap (λ (b : Bool). ask b 9 0) (sym (c .if1 .left) ∙ test)) (λ e. absurd (omega arith))
 
 pub weight-of-p-spec : {M : Type 1} → statement M
-weight-of-p-spec =
-    tie.close (tie.spec is-probability-requires edge-weight-requires returns returns-2)
+weight-of-p-spec = tie.close (tie.spec (λ c κs. tt) (λ c κs. tt) returns returns-2)

@@ -5,17 +5,10 @@ use Rattle.weights_diagonal.specs.Diagonal.{replaced}
 use Rattle.weights_diagonal.proofs.edge_probability.Statement.{statement}
 use Rattle.weights_diagonal.proofs.edge_probability.Tie as tie
 
-is-diagonal-requires : tie.Need-is-diagonal-requires
-is-diagonal-requires c κs = tt
-
-replaced-probability-requires : tie.Need-replaced-probability-requires
-replaced-probability-requires c κs = tt
-
 returns : tie.Need-returns
 returns c =
     let s = c .before .before .args in
     c .replaced-probability .ensures ∙ ap (λ (b : Bool). replaced (s .d) (s .p) b) (c .before .is-diagonal .ensures)
 
 pub edge-probability-spec : {M : Type 1} → statement M
-edge-probability-spec =
-    tie.close (tie.spec is-diagonal-requires replaced-probability-requires returns)
+edge-probability-spec = tie.close (tie.spec (λ c κs. tt) (λ c κs. tt) returns)

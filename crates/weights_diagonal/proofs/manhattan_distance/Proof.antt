@@ -3,18 +3,9 @@ use Rattle.weights_diagonal.specs.Diagonal.{manhattanDistance}
 use Rattle.weights_diagonal.proofs.manhattan_distance.Statement.{statement}
 use Rattle.weights_diagonal.proofs.manhattan_distance.Tie as tie
 
-abs-requires : tie.Need-abs-requires
-abs-requires c κs = tt
-
-abs-requires-2 : tie.Need-abs-requires-2
-abs-requires-2 c κs = tt
-
-abs-requires-3 : tie.Need-abs-requires-3
-abs-requires-3 c κs = tt
-
 returns : tie.Need-returns
 unfolding manhattanDistance
 returns c = cc (c .before .before .before .before .before .before .abs .ensures, c .before .before .before .abs2 .ensures, c .abs3 .ensures)
 
 pub manhattan-distance-spec : {M : Type 1} → statement M
-manhattan-distance-spec = tie.close (tie.spec abs-requires abs-requires-2 abs-requires-3 returns)
+manhattan-distance-spec = tie.close (tie.spec (λ c κs. tt) (λ c κs. tt) (λ c κs. tt) returns)

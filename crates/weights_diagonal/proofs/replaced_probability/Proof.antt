@@ -13,20 +13,8 @@ near : (d : DiagonalProbability) (p : Float) (far : Bool) → far ≡ false → 
 near None p far e = refl
 near (Given x) p far e = ap (λ (b : Bool). cond b x p) (sym e)
 
-enum-known-d : tie.Need-enum-known-d
-enum-known-d c = search needs
-
-enum-told : tie.Need-enum-told
-enum-told c = search needs
-
-returns : tie.Need-returns
-returns c = search needs
-
-returns-2 : tie.Need-returns-2
-returns-2 c = search needs
-
 returns-3 : tie.Need-returns-3
 returns-3 c = near (c .before .args .d) (c .before .args .p) (c .before .args .diagonal) (c .if1 .left)
 
 pub replaced-probability-spec : {M : Type 1} → statement M
-replaced-probability-spec = tie.close (tie.spec enum-known-d enum-told returns returns-2 returns-3)
+replaced-probability-spec = tie.close (tie.spec (λ c. search needs) (λ c. search needs) (λ c. search needs) (λ c. search needs) returns-3)

@@ -18,30 +18,15 @@ Inv-loop pe n m i₀ pass₀ i pass = (i ≤ m) × (m ≡ min n (length pe)) × 
 abbrev μ-loop : tie.MeasureT-loop
 μ-loop pe n m i₀ pass₀ i pass = m - i
 
-lesser-requires : tie.Need-lesser-requires Inv-loop μ-loop
-lesser-requires c κs = tt
-
 loop-holds : tie.Need-loop-holds Inv-loop μ-loop
 unfolding all
 loop-holds c = (search needs, c .lesser .ensures, refl)
 
-mul-is-erasure-probability : tie.Need-mul-is-erasure-probability Inv-loop μ-loop
-mul-is-erasure-probability c = search needs
-
 shared-slice-read-is-erasure-probability : tie.Need-shared-slice-read-is-erasure-probability Inv-loop μ-loop
 shared-slice-read-is-erasure-probability c = omega (arith, c .before .before .loop .inv .1)
 
-is-erasure-probability-requires : tie.Need-is-erasure-probability-requires Inv-loop μ-loop
-is-erasure-probability-requires c κs = tt
-
-both-requires : tie.Need-both-requires Inv-loop μ-loop
-both-requires c κs = tt
-
 add-i : tie.Need-add-i Inv-loop μ-loop
 add-i c = omega (arith, c .before .before .before .before .loop .inv .1)
-
-loop-less : tie.Need-loop-less Inv-loop μ-loop
-loop-less c = search needs
 
 loop-again : tie.Need-loop-again Inv-loop μ-loop
 loop-again c =
@@ -61,18 +46,4 @@ returns c =
     at .inv .2 ∙ sym (all-whole isErasureProbability (s .pe .now) nan (s .n) (at .i) (omega (arith, at .inv .1)) (omega (arith, at .inv .1)))
 
 pub are-erasure-probabilities-spec : {M : Type 1} → statement M
-are-erasure-probabilities-spec =
-    tie.close
-    (tie.spec
-    Inv-loop
-    μ-loop
-    lesser-requires
-    loop-holds
-    mul-is-erasure-probability
-    shared-slice-read-is-erasure-probability
-    is-erasure-probability-requires
-    both-requires
-    add-i
-    loop-less
-    loop-again
-    returns)
+are-erasure-probabilities-spec = tie.close (tie.spec Inv-loop μ-loop (λ c κs. tt) loop-holds (λ c. search needs) shared-slice-read-is-erasure-probability (λ c κs. tt) (λ c κs. tt) add-i (λ c. search needs) loop-again returns)

@@ -18,30 +18,15 @@ Inv-loop p n m i₀ pass₀ i pass = (i ≤ m) × (m ≡ min n (length p)) × (p
 abbrev μ-loop : tie.MeasureT-loop
 μ-loop p n m i₀ pass₀ i pass = m - i
 
-lesser-requires : tie.Need-lesser-requires Inv-loop μ-loop
-lesser-requires c κs = search needs
-
 loop-holds : tie.Need-loop-holds Inv-loop μ-loop
 unfolding all
 loop-holds c = (search needs, c .lesser .ensures, refl)
 
-mul-is-in-range : tie.Need-mul-is-in-range Inv-loop μ-loop
-mul-is-in-range c = search needs
-
 shared-slice-read-is-in-range : tie.Need-shared-slice-read-is-in-range Inv-loop μ-loop
 shared-slice-read-is-in-range c = omega (arith, c .before .before .loop .inv .1)
 
-is-in-range-requires : tie.Need-is-in-range-requires Inv-loop μ-loop
-is-in-range-requires c κs = search needs
-
-both-requires : tie.Need-both-requires Inv-loop μ-loop
-both-requires c κs = search needs
-
 add-i : tie.Need-add-i Inv-loop μ-loop
 add-i c = omega (arith, c .before .before .before .before .loop .inv .1)
-
-loop-less : tie.Need-loop-less Inv-loop μ-loop
-loop-less c = search needs
 
 loop-again : tie.Need-loop-again Inv-loop μ-loop
 loop-again c =
@@ -61,18 +46,4 @@ returns c =
     at .inv .2 ∙ sym (all-whole isInRange (s .p .now) nan (s .n) (at .i) (omega (arith, at .inv .1)) (omega (arith, at .inv .1)))
 
 pub are-in-range-spec : {M : Type 1} → statement M
-are-in-range-spec =
-    tie.close
-    (tie.spec
-    Inv-loop
-    μ-loop
-    lesser-requires
-    loop-holds
-    mul-is-in-range
-    shared-slice-read-is-in-range
-    is-in-range-requires
-    both-requires
-    add-i
-    loop-less
-    loop-again
-    returns)
+are-in-range-spec = tie.close (tie.spec Inv-loop μ-loop (λ c κs. search needs) loop-holds (λ c. search needs) shared-slice-read-is-in-range (λ c κs. search needs) (λ c κs. search needs) add-i (λ c. search needs) loop-again returns)

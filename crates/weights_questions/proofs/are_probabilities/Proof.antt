@@ -22,20 +22,10 @@ in-range (x ∷ xs) e =
     let h = and-both (isInRange x) (all isInRange xs) e in
     both-and (second (isPlusZero x) (h .0)) (in-range xs (h .1))
 
-are-in-range-requires : tie.Need-are-in-range-requires
-are-in-range-requires c κs = search needs
-
 returns : tie.Need-returns
 returns c =
     let s = c .before .before .before .args in
     sym (in-range (take (s .n) (s .p .now)) (sym (c .before .are-in-range .ensures) ∙ c .if1 .taken))
 
-each-probability-requires : tie.Need-each-probability-requires
-each-probability-requires c κs = search needs
-
-returns-2 : tie.Need-returns-2
-returns-2 c = search needs
-
 pub are-probabilities-spec : {M : Type 1} → statement M
-are-probabilities-spec =
-    tie.close (tie.spec are-in-range-requires returns each-probability-requires returns-2)
+are-probabilities-spec = tie.close (tie.spec (λ c κs. search needs) returns (λ c κs. search needs) (λ c. search needs))

@@ -18,30 +18,15 @@ Inv-loop p n m i₀ pass₀ i pass = (i ≤ m) × (m ≡ min n (length p)) × (p
 abbrev μ-loop : tie.MeasureT-loop
 μ-loop p n m i₀ pass₀ i pass = m - i
 
-lesser-requires : tie.Need-lesser-requires Inv-loop μ-loop
-lesser-requires c κs = tt
-
 loop-holds : tie.Need-loop-holds Inv-loop μ-loop
 unfolding all
 loop-holds c = (search needs, c .lesser .ensures, refl)
 
-mul-is-probability : tie.Need-mul-is-probability Inv-loop μ-loop
-mul-is-probability c = search needs
-
 shared-slice-read-is-probability : tie.Need-shared-slice-read-is-probability Inv-loop μ-loop
 shared-slice-read-is-probability c = omega (arith, c .before .before .loop .inv .1)
 
-is-probability-requires : tie.Need-is-probability-requires Inv-loop μ-loop
-is-probability-requires c κs = tt
-
-both-requires : tie.Need-both-requires Inv-loop μ-loop
-both-requires c κs = tt
-
 add-i : tie.Need-add-i Inv-loop μ-loop
 add-i c = omega (arith, c .before .before .before .before .loop .inv .1)
-
-loop-less : tie.Need-loop-less Inv-loop μ-loop
-loop-less c = search needs
 
 loop-again : tie.Need-loop-again Inv-loop μ-loop
 loop-again c =
@@ -61,18 +46,4 @@ returns c =
     at .inv .2 ∙ sym (all-whole isProbability (s .p .now) nan (s .n) (at .i) (omega (arith, at .inv .1)) (omega (arith, at .inv .1)))
 
 pub each-probability-spec : {M : Type 1} → statement M
-each-probability-spec =
-    tie.close
-    (tie.spec
-    Inv-loop
-    μ-loop
-    lesser-requires
-    loop-holds
-    mul-is-probability
-    shared-slice-read-is-probability
-    is-probability-requires
-    both-requires
-    add-i
-    loop-less
-    loop-again
-    returns)
+each-probability-spec = tie.close (tie.spec Inv-loop μ-loop (λ c κs. tt) loop-holds (λ c. search needs) shared-slice-read-is-probability (λ c κs. tt) (λ c κs. tt) add-i (λ c. search needs) loop-again returns)

@@ -21,27 +21,6 @@ number c =
     let from7 = c .before .asked2 .ensures ∙ asks 7 (c .before .before .before .at-most2 .ensures) (c .before .before .asked .ensures) in
     c .asked3 .ensures ∙ asks 6 (c .before .before .before .before .at-most .ensures) from7
 
-at-most-requires : tie.Need-at-most-requires
-at-most-requires c κs = tt
-
-cast-at-most : tie.Need-cast-at-most
-cast-at-most c = search needs
-
-at-most-requires-2 : tie.Need-at-most-requires-2
-at-most-requires-2 c κs = tt
-
-asked-requires : tie.Need-asked-requires
-asked-requires c κs = tt
-
-asked-requires-2 : tie.Need-asked-requires-2
-asked-requires-2 c κs = tt
-
-asked-requires-3 : tie.Need-asked-requires-3
-asked-requires-3 c κs = tt
-
-done-of-requires : tie.Need-done-of-requires
-done-of-requires c κs = tt
-
 returns : tie.Need-returns
 returns c =
     let s = c .before .before .before .before .before .before .before .before .args in
@@ -50,9 +29,6 @@ returns c =
       answers = said-of _ _ (c .done-of .ensures ∙ ap done is);
       writes = sym (after-refused (setDoor (s .met) (s .edge-num) (s .column .now)) (replicate (s .edge-num) (s .value)) (s .column .now) (λ e. c .before .if1 .taken (is ∙ e)));
     }
-
-fill-f64-requires : tie.Need-fill-f64-requires
-fill-f64-requires c κs = tt
 
 same-length : tie.Need-same-length
 same-length c = c .before .column .given
@@ -70,17 +46,4 @@ returns-2 c =
     }
 
 pub set-each-spec : {M : Type 1} → statement M
-set-each-spec =
-    tie.close
-    (tie.spec
-    at-most-requires
-    cast-at-most
-    at-most-requires-2
-    asked-requires
-    asked-requires-2
-    asked-requires-3
-    done-of-requires
-    returns
-    fill-f64-requires
-    same-length
-    returns-2)
+set-each-spec = tie.close (tie.spec (λ c κs. tt) (λ c. search needs) (λ c κs. tt) (λ c κs. tt) (λ c κs. tt) (λ c κs. tt) (λ c κs. tt) returns (λ c κs. tt) same-length returns-2)

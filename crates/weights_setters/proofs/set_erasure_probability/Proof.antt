@@ -3,12 +3,6 @@ use Rattle.weights_setters.proofs.Tested.{tested}
 use Rattle.weights_setters.proofs.set_erasure_probability.Statement.{statement}
 use Rattle.weights_setters.proofs.set_erasure_probability.Tie as tie
 
-is-erasure-probability-requires : tie.Need-is-erasure-probability-requires
-is-erasure-probability-requires c κs = tt
-
-set-each-requires : tie.Need-set-each-requires
-set-each-requires c κs = tt
-
 same-length : tie.Need-same-length
 same-length c = c .before .column .given
 
@@ -16,5 +10,4 @@ returns : tie.Need-returns
 returns c = tested (c .before .before .before .before .is-erasure-probability .ensures) (c .before .before .set-each .ensures)
 
 pub set-erasure-probability-spec : {M : Type 1} → statement M
-set-erasure-probability-spec =
-    tie.close (tie.spec is-erasure-probability-requires set-each-requires same-length returns)
+set-erasure-probability-spec = tie.close (tie.spec (λ c κs. tt) (λ c κs. tt) same-length returns)

@@ -2,12 +2,6 @@
 use Rattle.c_engine.proofs.queries.moldingcress_all_edges.Statement.{statement}
 use Rattle.c_engine.proofs.queries.moldingcress_all_edges.Tie as tie
 
-all-edges-requires : tie.Need-all-edges-requires
-all-edges-requires c κs = tt
-
-done-number-requires : tie.Need-done-number-requires
-done-number-requires c κs = tt
-
 same-length : tie.Need-same-length
 same-length c = c .before .before .before .before .before .before .before .before .before .before .before .before .before .before .before .before .before .out-weight .given
 
@@ -45,18 +39,4 @@ returns c =
     }
 
 pub moldingcress-all-edges-spec : {M : Type 1} → statement M
-moldingcress-all-edges-spec =
-    tie.close
-    (tie.spec
-    all-edges-requires
-    done-number-requires
-    same-length
-    same-length-2
-    same-length-3
-    same-length-4
-    same-length-5
-    same-length-6
-    same-length-7
-    same-length-8
-    same-length-9
-    returns)
+moldingcress-all-edges-spec = tie.close (tie.spec (λ c κs. tt) (λ c κs. tt) same-length same-length-2 same-length-3 same-length-4 same-length-5 same-length-6 same-length-7 same-length-8 same-length-9 returns)

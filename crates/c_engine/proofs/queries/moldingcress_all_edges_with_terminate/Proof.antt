@@ -5,15 +5,6 @@ use Rattle.c_engine.proofs.queries.moldingcress_all_edges_with_terminat
 }
 use Rattle.c_engine.proofs.queries.moldingcress_all_edges_with_terminate.Tie as tie
 
-end-of-requires : tie.Need-end-of-requires
-end-of-requires c κs = tt
-
-all-edges-with-terminate-requires : tie.Need-all-edges-with-terminate-requires
-all-edges-with-terminate-requires c κs = tt
-
-done-number-requires : tie.Need-done-number-requires
-done-number-requires c κs = tt
-
 same-length : tie.Need-same-length
 same-length c = c .before .before .before .before .before .before .before .before .before .before .before .before .before .before .before .before .before .out-weight .given
 
@@ -51,19 +42,4 @@ returns c =
     }
 
 pub moldingcress-all-edges-with-terminate-spec : {M : Type 1} → statement M
-moldingcress-all-edges-with-terminate-spec =
-    tie.close
-    (tie.spec
-    end-of-requires
-    all-edges-with-terminate-requires
-    done-number-requires
-    same-length
-    same-length-2
-    same-length-3
-    same-length-4
-    same-length-5
-    same-length-6
-    same-length-7
-    same-length-8
-    same-length-9
-    returns)
+moldingcress-all-edges-with-terminate-spec = tie.close (tie.spec (λ c κs. tt) (λ c κs. tt) (λ c κs. tt) same-length same-length-2 same-length-3 same-length-4 same-length-5 same-length-6 same-length-7 same-length-8 same-length-9 returns)

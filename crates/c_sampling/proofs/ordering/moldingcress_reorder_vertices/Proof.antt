@@ -3,12 +3,6 @@ use borrow.Author.Needs.{needs}
 use Rattle.c_sampling.proofs.ordering.moldingcress_reorder_vertices.Statement.{statement}
 use Rattle.c_sampling.proofs.ordering.moldingcress_reorder_vertices.Tie as tie
 
-reorder-vertices-requires : tie.Need-reorder-vertices-requires
-reorder-vertices-requires c κs = tt
-
-done-number-requires : tie.Need-done-number-requires
-done-number-requires c κs = tt
-
 same-length : tie.Need-same-length
 same-length c = c .before .before .before .before .before .before .before .before .before .before .before .before .before .before .before .before .before .before .before .before .ends-a .given
 
@@ -39,23 +33,5 @@ same-length-9 c = c .before .before .before .before .numbers .given
 same-length-10 : tie.Need-same-length-10
 same-length-10 c = c .before .before .scratch .given
 
-returns : tie.Need-returns
-returns c = search needs
-
 pub moldingcress-reorder-vertices-spec : {M : Type 1} → statement M
-moldingcress-reorder-vertices-spec =
-    tie.close
-    (tie.spec
-    reorder-vertices-requires
-    done-number-requires
-    same-length
-    same-length-2
-    same-length-3
-    same-length-4
-    same-length-5
-    same-length-6
-    same-length-7
-    same-length-8
-    same-length-9
-    same-length-10
-    returns)
+moldingcress-reorder-vertices-spec = tie.close (tie.spec (λ c κs. tt) (λ c κs. tt) same-length same-length-2 same-length-3 same-length-4 same-length-5 same-length-6 same-length-7 same-length-8 same-length-9 same-length-10 (λ c. search needs))

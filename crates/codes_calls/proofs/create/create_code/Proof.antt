@@ -3,12 +3,6 @@ use borrow.Author.Needs.{needs}
 use Rattle.codes_calls.proofs.create.create_code.Statement.{statement}
 use Rattle.codes_calls.proofs.create.create_code.Tie as tie
 
-slice-aggregate-create-in : tie.Need-slice-aggregate-create-in
-slice-aggregate-create-in c = search needs
-
-create-in-requires : tie.Need-create-in-requires
-create-in-requires c κs = search needs
-
 same-length : tie.Need-same-length
 same-length c = c .before .before .before .before .before .before .before .before .before .before .before .before .before .before .before .before .before .before .before .before .before .before .before .before .before .before .before .create-in .kept .1 .1 .1 .0
 
@@ -48,26 +42,5 @@ same-length-12 c = c .before .before .before .before .list-lengths .given
 same-length-13 : tie.Need-same-length-13
 same-length-13 c = c .before .before .neighbor-numbers .given
 
-returns : tie.Need-returns
-returns c = search needs
-
 pub create-code-spec : {M : Type 1} → statement M
-create-code-spec =
-    tie.close
-    (tie.spec
-    slice-aggregate-create-in
-    create-in-requires
-    same-length
-    same-length-2
-    same-length-3
-    same-length-4
-    same-length-5
-    same-length-6
-    same-length-7
-    same-length-8
-    same-length-9
-    same-length-10
-    same-length-11
-    same-length-12
-    same-length-13
-    returns)
+create-code-spec = tie.close (tie.spec (λ c. search needs) (λ c κs. search needs) same-length same-length-2 same-length-3 same-length-4 same-length-5 same-length-6 same-length-7 same-length-8 same-length-9 same-length-10 same-length-11 same-length-12 same-length-13 (λ c. search needs))

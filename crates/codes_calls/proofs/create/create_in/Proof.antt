@@ -33,15 +33,6 @@ q-is c = told _ _ _ _ _ _ _ _ _ _ (c .refusal-of .ensures) (c .before .shortest-
 open′ : (c : tie.Else1) → Open (c .before .before .before .before .before .before .before .before .before .before .before .before .before .before .before .before .before .before .args .kind) (c .before .before .before .before .before .before .before .before .before .before .before .before .before .before .before .before .before .before .args .d) (c .before .before .before .before .before .before .before .before .before .before .before .before .before .before .before .before .before .before .args .rounds) (lent (c .before .before .before .before .before .before .before .before .before .before .before .before .before .before .before .before .before .before))
 open′ c = opened _ _ _ _ (sym (q-is (c .before)) ∙ c .if1 .left)
 
-shortest-of-requires : tie.Need-shortest-of-requires
-shortest-of-requires c κs = tt
-
-shortest-of-requires-2 : tie.Need-shortest-of-requires-2
-shortest-of-requires-2 c κs = tt
-
-refusal-of-requires : tie.Need-refusal-of-requires
-refusal-of-requires c κs = tt
-
 returns : tie.Need-returns
 returns c = refused _ _ _ _ _ (lent (c .before .before .before .before .before .before .before .before .before .before .before .before .before .before .before .before .before .before)) (q-is (c .before)) (c .if1 .taken)
 
@@ -106,30 +97,4 @@ returns-2 : tie.Need-returns-2
 returns-2 c = built _ _ _ _ (lent (c .before .before .before .before .before .before .before .before .before .before .before .before .before .before .before .before .before .before .before .before .before .before .before .before .before .before .before .before .before .before .before .before .before .before .before .before .before .before .before .before .before .before .before .before .before .before .before .before .before .before .before .before .before .before .before .before .before .before .before .before .before .before .before .before .before)) _ (sym (q-is (c .before .before .before .before .before .before .before .before .before .before .before .before .before .before .before .before .before .before .before .before .before .before .before .before .before .before .before .before .before .before .before .before .before .before .before .before .before .before .before .before .before .before .before .before .before .before .before .before)) ∙ c .before .before .before .before .before .before .before .before .before .before .before .before .before .before .before .before .before .before .before .before .before .before .before .before .before .before .before .before .before .before .before .before .before .before .before .before .before .before .before .before .before .before .before .before .before .before .before .if1 .left) (open′ (c .before .before .before .before .before .before .before .before .before .before .before .before .before .before .before .before .before .before .before .before .before .before .before .before .before .before .before .before .before .before .before .before .before .before .before .before .before .before .before .before .before .before .before .before .before .before .before)) _ _ _ (c .before .before .before .before .before .before .before .before .before .before .before .before .before .before .before .before .before .before .before .before .before .before .before .before .before .before .before .before .before .before .before .before .before .before .before .before .before .before .before .before .fill-edges .ensures) (c .before .before .before .before .before .before .before .before .before .before .before .before .before .before .before .before .before .before .before .before .before .before .fill-vertices .ensures) (c .before .before .before .before .before .before .fill-lists .ensures)
 
 pub create-in-spec : {M : Type 1} → statement M
-create-in-spec =
-    tie.close
-    (tie.spec
-    shortest-of-requires
-    shortest-of-requires-2
-    refusal-of-requires
-    returns
-    fill-edges-requires
-    fill-vertices-requires
-    fill-lists-requires
-    cast-t63
-    cast-t64
-    same-length
-    same-length-2
-    same-length-3
-    same-length-4
-    same-length-5
-    same-length-6
-    same-length-7
-    same-length-8
-    same-length-9
-    same-length-10
-    same-length-11
-    same-length-12
-    same-length-13
-    same-length-14
-    returns-2)
+create-in-spec = tie.close (tie.spec (λ c κs. tt) (λ c κs. tt) (λ c κs. tt) returns fill-edges-requires fill-vertices-requires fill-lists-requires cast-t63 cast-t64 same-length same-length-2 same-length-3 same-length-4 same-length-5 same-length-6 same-length-7 same-length-8 same-length-9 same-length-10 same-length-11 same-length-12 same-length-13 same-length-14 returns-2)

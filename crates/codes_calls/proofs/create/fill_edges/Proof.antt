@@ -20,18 +20,6 @@ code-edges-requires c κs =
     let l = c .before .before .before .before .before .before .before .before .pre .1 in
     (record { room-a = omega (arith, l .long-a); room-b = omega (arith, l .long-b) }, omega (arith, ok .distance .three, ok .distance .few, ok .few-rounds, ok .few-vertices, vertices-are (s .kind) (s .d) (s .rounds) ok))
 
-fill-f64-requires : tie.Need-fill-f64-requires
-fill-f64-requires c κs = tt
-
-fill-f64-requires-2 : tie.Need-fill-f64-requires-2
-fill-f64-requires-2 c κs = tt
-
-fill-u32-requires : tie.Need-fill-u32-requires
-fill-u32-requires c κs = tt
-
-fill-u8-requires : tie.Need-fill-u8-requires
-fill-u8-requires c κs = tt
-
 same-length : tie.Need-same-length
 same-length c = c .before .before .before .before .before .before .before .before .before .before .before .before .before .before .before .before .before .before .before .ends-a .given
 
@@ -69,18 +57,4 @@ returns c =
     }
 
 pub fill-edges-spec : {M : Type 1} → statement M
-fill-edges-spec =
-    tie.close
-    (tie.spec
-    code-edges-requires
-    fill-f64-requires
-    fill-f64-requires-2
-    fill-u32-requires
-    fill-u8-requires
-    same-length
-    same-length-2
-    same-length-3
-    same-length-4
-    same-length-5
-    same-length-6
-    returns)
+fill-edges-spec = tie.close (tie.spec code-edges-requires (λ c κs. tt) (λ c κs. tt) (λ c κs. tt) (λ c κs. tt) same-length same-length-2 same-length-3 same-length-4 same-length-5 same-length-6 returns)

@@ -19,9 +19,6 @@ code-vertices-requires c κs =
     let l = c .before .before .before .before .before .before .before .before .before .pre .1 in
     (record { room-m = omega (arith, l .long-m); room-i = omega (arith, l .long-i); room-j = omega (arith, l .long-j); room-t = omega (arith, l .long-t) }, omega (arith, ok .distance .three, ok .distance .few, ok .few-rounds))
 
-fill-u8-requires : tie.Need-fill-u8-requires
-fill-u8-requires c κs = tt
-
 same-length : tie.Need-same-length
 same-length c = c .before .before .before .before .before .before .before .before .before .pos-i .given
 
@@ -55,14 +52,4 @@ returns c =
     }
 
 pub fill-vertices-spec : {M : Type 1} → statement M
-fill-vertices-spec =
-    tie.close
-    (tie.spec
-    code-vertices-requires
-    fill-u8-requires
-    same-length
-    same-length-2
-    same-length-3
-    same-length-4
-    same-length-5
-    returns)
+fill-vertices-spec = tie.close (tie.spec code-vertices-requires (λ c κs. tt) same-length same-length-2 same-length-3 same-length-4 same-length-5 returns)

@@ -4,31 +4,8 @@ use Prim.Native.Nat.{min}
 use Rattle.codes_calls.proofs.create.shortest_of.Statement.{statement}
 use Rattle.codes_calls.proofs.create.shortest_of.Tie as tie
 
-lesser-requires : tie.Need-lesser-requires
-lesser-requires c κs = tt
-
-lesser-requires-2 : tie.Need-lesser-requires-2
-lesser-requires-2 c κs = tt
-
-lesser-requires-3 : tie.Need-lesser-requires-3
-lesser-requires-3 c κs = tt
-
-lesser-requires-4 : tie.Need-lesser-requires-4
-lesser-requires-4 c κs = tt
-
-lesser-requires-5 : tie.Need-lesser-requires-5
-lesser-requires-5 c κs = tt
-
 returns : tie.Need-returns
 returns c = c .lesser5 .ensures ∙ ap (min (c .before .before .before .before .before .args .a)) (c .before .lesser4 .ensures ∙ ap (min (c .before .before .before .before .before .args .b)) (c .before .before .lesser3 .ensures ∙ ap (min (c .before .before .before .before .before .args .c)) (c .before .before .before .lesser2 .ensures ∙ ap (min (c .before .before .before .before .before .args .d)) (c .before .before .before .before .lesser .ensures))))
 
 pub shortest-of-spec : {M : Type 1} → statement M
-shortest-of-spec =
-    tie.close
-    (tie.spec
-    lesser-requires
-    lesser-requires-2
-    lesser-requires-3
-    lesser-requires-4
-    lesser-requires-5
-    returns)
+shortest-of-spec = tie.close (tie.spec (λ c κs. tt) (λ c κs. tt) (λ c κs. tt) (λ c κs. tt) (λ c κs. tt) returns)

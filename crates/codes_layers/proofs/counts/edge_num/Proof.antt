@@ -6,15 +6,6 @@ use borrow.Author.Needs.{needs}
 use Rattle.codes_layers.proofs.counts.edge_num.Statement.{statement}
 use Rattle.codes_layers.proofs.counts.edge_num.Tie as tie
 
-layer-edge-num-requires : tie.Need-layer-edge-num-requires
-layer-edge-num-requires c κs = search needs
-
-gap-edge-num-requires : tie.Need-gap-edge-num-requires
-gap-edge-num-requires c κs = search needs
-
-add-result : tie.Need-add-result
-add-result c = search needs
-
 mul-result : tie.Need-mul-result
 mul-result c = omega (arith, few (c .before .before .args .rounds + 1) (c .before .layer-edge-num .result) 4096 40000000 (omega arith) (omega arith))
 
@@ -28,13 +19,4 @@ returns : tie.Need-returns
 returns c = ((λ k. (c .before .before .args .rounds + 1) * c .before .layer-edge-num .ensures .0 k + c .before .before .args .rounds * c .gap-edge-num .ensures .0 k), omega (arith, few (c .before .before .args .rounds + 1) (c .before .layer-edge-num .result) 4096 40000000 (omega arith) (omega arith), few (c .before .before .args .rounds) (c .gap-edge-num .result) 4096 80000000 (omega arith) (omega arith)))
 
 pub edge-num-spec : {M : Type 1} → statement M
-edge-num-spec =
-    tie.close
-    (tie.spec
-    layer-edge-num-requires
-    gap-edge-num-requires
-    add-result
-    mul-result
-    mul-result-2
-    add-result-2
-    returns)
+edge-num-spec = tie.close (tie.spec (λ c κs. search needs) (λ c κs. search needs) (λ c. search needs) mul-result mul-result-2 add-result-2 returns)

@@ -15,12 +15,6 @@ returns c = (simp (eq-eqb _ _ (c .if1 .taken)), search needs)
 mul-result : tie.Need-mul-result
 mul-result c = omega (arith, few (c .before .before .args .d) (c .before .before .args .d) 4095 4095 (omega arith) (omega arith))
 
-sub-result : tie.Need-sub-result
-sub-result c = search needs
-
-sub-result-2 : tie.Need-sub-result-2
-sub-result-2 c = search needs
-
 mul-result-2 : tie.Need-mul-result-2
 mul-result-2 c = omega (arith, few (c .before .before .args .d - 1) (c .before .before .args .d - 1) 4095 4095 (omega arith) (omega arith))
 
@@ -39,15 +33,4 @@ unfolding layerEdgeNum
 returns-3 c = (simp (ne-eqb _ _ (c .before .if1 .left), lt-leb _ _ (c .if2 .left)), omega (arith, few (c .before .before .args .d) (c .before .before .args .d) 4095 4095 (omega arith) (omega arith)))
 
 pub layer-edge-num-spec : {M : Type 1} → statement M
-layer-edge-num-spec =
-    tie.close
-    (tie.spec
-    returns
-    mul-result
-    sub-result
-    sub-result-2
-    mul-result-2
-    add-result
-    returns-2
-    mul-result-3
-    returns-3)
+layer-edge-num-spec = tie.close (tie.spec returns mul-result (λ c. search needs) (λ c. search needs) mul-result-2 add-result returns-2 mul-result-3 returns-3)

@@ -8,15 +8,9 @@ use borrow.Author.Needs.{needs}
 use Rattle.codes_layers.proofs.counts.layer_vertex_num.Statement.{statement}
 use Rattle.codes_layers.proofs.counts.layer_vertex_num.Tie as tie
 
-add-result : tie.Need-add-result
-add-result c = search needs
-
 returns : tie.Need-returns
 unfolding layerVertexNum
 returns c = (simp (eq-eqb _ _ (c .if1 .taken)), search needs)
-
-add-result-2 : tie.Need-add-result-2
-add-result-2 c = search needs
 
 mul-result : tie.Need-mul-result
 mul-result c = omega (arith, few (c .before .before .args .d) (c .before .before .args .d + 1) 4095 4096 (omega arith) (omega arith))
@@ -24,12 +18,6 @@ mul-result c = omega (arith, few (c .before .before .args .d) (c .before .before
 returns-2 : tie.Need-returns-2
 unfolding layerVertexNum
 returns-2 c = (simp (ne-eqb _ _ (c .before .if1 .left), le-leb _ _ (c .if2 .taken)), omega (arith, few (c .before .before .args .d) (c .before .before .args .d + 1) 4095 4096 (omega arith) (omega arith)))
-
-add-result-3 : tie.Need-add-result-3
-add-result-3 c = search needs
-
-add-result-4 : tie.Need-add-result-4
-add-result-4 c = search needs
 
 mul-result-2 : tie.Need-mul-result-2
 mul-result-2 c = omega (arith, few ((c .before .before .args .d + 1) / 2) (c .before .before .args .d + 1) 4095 4096 (omega arith) (omega arith))
@@ -39,15 +27,4 @@ unfolding layerVertexNum
 returns-3 c = (simp (ne-eqb _ _ (c .before .if1 .left), lt-leb _ _ (c .if2 .left)), omega (arith, few ((c .before .before .args .d + 1) / 2) (c .before .before .args .d + 1) 4095 4096 (omega arith) (omega arith)))
 
 pub layer-vertex-num-spec : {M : Type 1} → statement M
-layer-vertex-num-spec =
-    tie.close
-    (tie.spec
-    add-result
-    returns
-    add-result-2
-    mul-result
-    returns-2
-    add-result-3
-    add-result-4
-    mul-result-2
-    returns-3)
+layer-vertex-num-spec = tie.close (tie.spec (λ c. search needs) returns (λ c. search needs) mul-result returns-2 (λ c. search needs) (λ c. search needs) mul-result-2 returns-3)

@@ -7,12 +7,6 @@ use borrow.Author.Needs.{needs}
 use Rattle.codes_layers.proofs.counts.vertex_num.Statement.{statement}
 use Rattle.codes_layers.proofs.counts.vertex_num.Tie as tie
 
-layer-vertex-num-requires : tie.Need-layer-vertex-num-requires
-layer-vertex-num-requires c κs = search needs
-
-add-result : tie.Need-add-result
-add-result c = search needs
-
 mul-result : tie.Need-mul-result
 mul-result c = omega (arith, few (c .before .args .rounds + 1) (c .layer-vertex-num .result) 4096 16773120 (omega arith) (omega arith))
 
@@ -20,4 +14,4 @@ returns : tie.Need-returns
 returns c = ap (λ (n : ℕ). (c .before .args .rounds + 1) * n) (c .layer-vertex-num .ensures .0)
 
 pub vertex-num-spec : {M : Type 1} → statement M
-vertex-num-spec = tie.close (tie.spec layer-vertex-num-requires add-result mul-result returns)
+vertex-num-spec = tie.close (tie.spec (λ c κs. search needs) (λ c. search needs) mul-result returns)

@@ -21,17 +21,8 @@ loop-holds : tie.Need-loop-holds Inv-loop μ-loop
 unfolding joined
 loop-holds c = (omega arith, placed-none)
 
-add-loop : tie.Need-add-loop Inv-loop μ-loop
-add-loop c = search needs
-
 layer-vertices-requires : tie.Need-layer-vertices-requires Inv-loop μ-loop
 layer-vertices-requires c κs = (more-room ((c .before .before .before .before .before .before .before .before .before .before .args .rounds + 1) * layerSize (c .before .before .before .before .before .before .before .before .before .before .args .kind) (c .before .before .before .before .before .before .before .before .before .before .args .d)) (layerSize (c .before .before .before .before .before .before .before .before .before .before .args .kind) (c .before .before .before .before .before .before .before .before .before .before .args .d)) (c .before .before .before .before .before .before .before .before .before .before .pre .0) (omega (arith, layers-counted (c .before .before .before .before .before .before .before .before .before .before .args .kind) (c .before .before .before .before .before .before .before .before .before .before .args .d) (c .before .before .before .before .before .loop .t), row-room (c .before .before .before .before .before .before .before .before .before .before .args .rounds + 1) (layerSize (c .before .before .before .before .before .before .before .before .before .before .args .kind) (c .before .before .before .before .before .before .before .before .before .before .args .d)) {row = c .before .before .before .before .before .loop .t} (c .before .before .before .before .loop-test .taken))) (c .before .before .before .before .before .loop .inv .1), omega arith)
-
-add-t : tie.Need-add-t Inv-loop μ-loop
-add-t c = search needs
-
-loop-less : tie.Need-loop-less Inv-loop μ-loop
-loop-less c = search needs
 
 loop-again : tie.Need-loop-again Inv-loop μ-loop
 loop-again c = (omega arith, joined-placed (λ k. layerVertices (c .before .before .before .before .before .before .before .before .before .before .before .before .before .before .before .before .before .before .before .args .kind) (c .before .before .before .before .before .before .before .before .before .before .before .before .before .before .before .before .before .before .before .args .d) k) (c .before .before .before .before .before .before .before .before .before .before .before .before .before .before .loop .inv .1) (c .before .before .before .before .before .before .before .before .layer-vertices .ensures))
@@ -53,19 +44,4 @@ unfolding verticesOf
 returns c = joined-done _ (c .before .loop .inv .1) (c .before .loop .inv .0) (c .loop-test .left)
 
 pub code-vertices-spec : {M : Type 1} → statement M
-code-vertices-spec =
-    tie.close
-    (tie.spec
-    Inv-loop
-    μ-loop
-    loop-holds
-    add-loop
-    layer-vertices-requires
-    add-t
-    loop-less
-    loop-again
-    same-length
-    same-length-2
-    same-length-3
-    same-length-4
-    returns)
+code-vertices-spec = tie.close (tie.spec Inv-loop μ-loop loop-holds (λ c. search needs) layer-vertices-requires (λ c. search needs) (λ c. search needs) loop-again same-length same-length-2 same-length-3 same-length-4 returns)

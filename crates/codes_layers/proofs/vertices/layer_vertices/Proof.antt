@@ -17,21 +17,12 @@ Inv-loop boundary₀ pos-i₀ pos-j₀ pos-t₀ at kind d t rows next₀ row₀ 
 abbrev μ-loop : tie.MeasureT-loop
 μ-loop boundary₀ pos-i₀ pos-j₀ pos-t₀ at kind d t rows next₀ row₀ boundary pos-i pos-j pos-t next row = rows - row
 
-rows-of-requires : tie.Need-rows-of-requires Inv-loop μ-loop
-rows-of-requires c κs = search needs
-
 loop-holds : tie.Need-loop-holds Inv-loop μ-loop
 unfolding joined
 loop-holds c = (omega arith, placed-none)
 
 row-vertices-requires : tie.Need-row-vertices-requires Inv-loop μ-loop
 row-vertices-requires c κs = (more-room (layerSize (c .before .before .before .before .before .before .before .before .before .before .before .args .kind) (c .before .before .before .before .before .before .before .before .before .before .before .args .d)) (width (c .before .before .before .before .before .before .before .before .before .before .before .args .kind) (c .before .before .before .before .before .before .before .before .before .before .before .args .d)) (c .before .before .before .before .before .before .before .before .before .before .before .pre .0) (omega (arith, rows-counted (c .before .before .before .before .before .before .before .before .before .before .before .args .kind) (c .before .before .before .before .before .before .before .before .before .before .before .args .d) (c .before .before .before .before .before .before .before .before .before .before .before .args .t) (c .before .before .before .before .before .loop .row), row-room (rows (c .before .before .before .before .before .before .before .before .before .before .before .args .kind) (c .before .before .before .before .before .before .before .before .before .before .before .args .d)) (width (c .before .before .before .before .before .before .before .before .before .before .before .args .kind) (c .before .before .before .before .before .before .before .before .before .before .before .args .d)) {row = c .before .before .before .before .before .loop .row} (omega (arith, c .before .before .before .before .before .before .rows-of .ensures)))) (c .before .before .before .before .before .loop .inv .1), omega arith)
-
-add-row : tie.Need-add-row Inv-loop μ-loop
-add-row c = search needs
-
-loop-less : tie.Need-loop-less Inv-loop μ-loop
-loop-less c = search needs
 
 loop-again : tie.Need-loop-again Inv-loop μ-loop
 loop-again c = (omega arith, joined-placed (λ k. each (width (c .before .before .before .before .before .before .before .before .before .before .before .before .before .before .before .before .before .before .before .before .args .kind) (c .before .before .before .before .before .before .before .before .before .before .before .before .before .before .before .before .before .before .before .before .args .d)) (λ i. vertexOf (c .before .before .before .before .before .before .before .before .before .before .before .before .before .before .before .before .before .before .before .before .args .kind) (c .before .before .before .before .before .before .before .before .before .before .before .before .before .before .before .before .before .before .before .before .args .d) (c .before .before .before .before .before .before .before .before .before .before .before .before .before .before .before .before .before .before .before .before .args .t) k i)) (c .before .before .before .before .before .before .before .before .before .before .before .before .before .before .loop .inv .1) (c .before .before .before .before .before .before .before .before .row-vertices .ensures))
@@ -53,19 +44,4 @@ unfolding layerVertices
 returns c = joined-done _ (c .before .loop .inv .1) (omega (arith, c .before .loop .inv .0, c .before .before .rows-of .ensures)) (omega (arith, c .loop-test .left, c .before .before .rows-of .ensures))
 
 pub layer-vertices-spec : {M : Type 1} → statement M
-layer-vertices-spec =
-    tie.close
-    (tie.spec
-    Inv-loop
-    μ-loop
-    rows-of-requires
-    loop-holds
-    row-vertices-requires
-    add-row
-    loop-less
-    loop-again
-    same-length
-    same-length-2
-    same-length-3
-    same-length-4
-    returns)
+layer-vertices-spec = tie.close (tie.spec Inv-loop μ-loop (λ c κs. search needs) loop-holds row-vertices-requires (λ c. search needs) (λ c. search needs) loop-again same-length same-length-2 same-length-3 same-length-4 returns)

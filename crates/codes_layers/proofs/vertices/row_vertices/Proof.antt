@@ -17,24 +17,12 @@ Inv-loop boundary₀ pos-i₀ pos-j₀ pos-t₀ at kind d t row w next₀ i₀ b
 abbrev μ-loop : tie.MeasureT-loop
 μ-loop boundary₀ pos-i₀ pos-j₀ pos-t₀ at kind d t row w next₀ i₀ boundary pos-i pos-j pos-t next i = w - i
 
-width-of-requires : tie.Need-width-of-requires Inv-loop μ-loop
-width-of-requires c κs = search needs
-
 loop-holds : tie.Need-loop-holds Inv-loop μ-loop
 unfolding each
 loop-holds c = (omega arith, placed-none)
 
-vertex-of-requires : tie.Need-vertex-of-requires Inv-loop μ-loop
-vertex-of-requires c κs = search needs
-
 push-vertex-requires : tie.Need-push-vertex-requires Inv-loop μ-loop
 push-vertex-requires c κs = more-room (width (c .before .before .before .before .before .before .before .before .before .before .before .before .args .kind) (c .before .before .before .before .before .before .before .before .before .before .before .before .args .d)) 1 (c .before .before .before .before .before .before .before .before .before .before .before .before .pre .0) (omega (arith, length-each (c .before .before .before .before .before .before .loop .i) (λ k. vertexOf (c .before .before .before .before .before .before .before .before .before .before .before .before .args .kind) (c .before .before .before .before .before .before .before .before .before .before .before .before .args .d) (c .before .before .before .before .before .before .before .before .before .before .before .before .args .t) (c .before .before .before .before .before .before .before .before .before .before .before .before .args .row) k), c .before .before .before .before .before .before .before .width-of .ensures .0)) (c .before .before .before .before .before .before .loop .inv .1)
-
-add-i : tie.Need-add-i Inv-loop μ-loop
-add-i c = search needs
-
-loop-less : tie.Need-loop-less Inv-loop μ-loop
-loop-less c = search needs
 
 loop-again : tie.Need-loop-again Inv-loop μ-loop
 loop-again c = (omega arith, each-placed (λ k. vertexOf (c .before .before .before .before .before .before .before .before .before .before .before .before .before .before .before .before .before .before .before .before .before .args .kind) (c .before .before .before .before .before .before .before .before .before .before .before .before .before .before .before .before .before .before .before .before .before .args .d) (c .before .before .before .before .before .before .before .before .before .before .before .before .before .before .before .before .before .before .before .before .before .args .t) (c .before .before .before .before .before .before .before .before .before .before .before .before .before .before .before .before .before .before .before .before .before .args .row) k) (c .before .before .before .before .before .before .before .before .before .before .before .before .before .before .before .loop .inv .1) (placed-as (λ k. c .before .before .before .before .before .before .before .before .before .before .before .before .before .vertex-of .ensures k ∷ []) (c .before .before .before .before .before .before .before .before .push-vertex .ensures)))
@@ -55,20 +43,4 @@ returns : tie.Need-returns Inv-loop μ-loop
 returns c = each-done _ (c .before .loop .inv .1) (omega (arith, c .before .loop .inv .0, c .before .before .width-of .ensures .0)) (omega (arith, c .loop-test .left, c .before .before .width-of .ensures .0))
 
 pub row-vertices-spec : {M : Type 1} → statement M
-row-vertices-spec =
-    tie.close
-    (tie.spec
-    Inv-loop
-    μ-loop
-    width-of-requires
-    loop-holds
-    vertex-of-requires
-    push-vertex-requires
-    add-i
-    loop-less
-    loop-again
-    same-length
-    same-length-2
-    same-length-3
-    same-length-4
-    returns)
+row-vertices-spec = tie.close (tie.spec Inv-loop μ-loop (λ c κs. search needs) loop-holds (λ c κs. search needs) push-vertex-requires (λ c. search needs) (λ c. search needs) loop-again same-length same-length-2 same-length-3 same-length-4 returns)

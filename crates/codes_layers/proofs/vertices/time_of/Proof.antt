@@ -3,9 +3,6 @@ use borrow.Author.Tests.{eq-eqb, ne-eqb}
 use Rattle.codes_layers.proofs.vertices.time_of.Statement.{statement}
 use Rattle.codes_layers.proofs.vertices.time_of.Tie as tie
 
-rotated-time-requires : tie.Need-rotated-time-requires
-rotated-time-requires c κs = tt
-
 returns : tie.Need-returns
 returns c = simp (eq-eqb _ _ (c .before .if1 .taken)) (c .rotated-time .ensures)
 
@@ -13,4 +10,4 @@ returns-2 : tie.Need-returns-2
 returns-2 c = simp (ne-eqb _ _ (c .if1 .left))
 
 pub time-of-spec : {M : Type 1} → statement M
-time-of-spec = tie.close (tie.spec rotated-time-requires returns returns-2)
+time-of-spec = tie.close (tie.spec (λ c κs. tt) returns returns-2)

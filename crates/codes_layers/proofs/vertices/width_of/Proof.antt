@@ -5,22 +5,13 @@ use borrow.Author.Needs.{needs}
 use Rattle.codes_layers.proofs.vertices.width_of.Statement.{statement}
 use Rattle.codes_layers.proofs.vertices.width_of.Tie as tie
 
-add-result : tie.Need-add-result
-add-result c = search needs
-
 returns : tie.Need-returns
 unfolding width
 returns c = (simp (le-leb _ _ (c .if1 .taken)), search needs)
-
-sub-result : tie.Need-sub-result
-sub-result c = search needs
-
-add-result-2 : tie.Need-add-result-2
-add-result-2 c = search needs
 
 returns-2 : tie.Need-returns-2
 unfolding width
 returns-2 c = (simp (lt-leb _ _ (c .if1 .left)), search needs)
 
 pub width-of-spec : {M : Type 1} → statement M
-width-of-spec = tie.close (tie.spec add-result returns sub-result add-result-2 returns-2)
+width-of-spec = tie.close (tie.spec (λ c. search needs) returns (λ c. search needs) (λ c. search needs) returns-2)

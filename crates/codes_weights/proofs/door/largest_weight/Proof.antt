@@ -10,21 +10,6 @@ use Rattle.codes_weights.specs.Steps.{diagonalP, largestOf}
 use Rattle.codes_weights.proofs.door.largest_weight.Statement.{statement}
 use Rattle.codes_weights.proofs.door.largest_weight.Tie as tie
 
-edge-weight-requires : tie.Need-edge-weight-requires
-edge-weight-requires c κs = tt
-
-larger-weight-requires : tie.Need-larger-weight-requires
-larger-weight-requires c κs = tt
-
-diagonal-p-requires : tie.Need-diagonal-p-requires
-diagonal-p-requires c κs = tt
-
-edge-weight-requires-2 : tie.Need-edge-weight-requires-2
-edge-weight-requires-2 c κs = tt
-
-larger-weight-requires-2 : tie.Need-larger-weight-requires-2
-larger-weight-requires-2 c κs = tt
-
 returns : tie.Need-returns
 unfolding largestOf
 returns c =
@@ -44,13 +29,4 @@ returns-2 c =
     ∙ sym (ap (λ (b : Bool). cond b straight (larger straight (edgeWeight (diagonalP (s .p) (s .diagonal))))) (ne-eqb (s .rounds) 0 (c .if1 .left)))
 
 pub largest-weight-spec : {M : Type 1} → statement M
-largest-weight-spec =
-    tie.close
-    (tie.spec
-    edge-weight-requires
-    larger-weight-requires
-    diagonal-p-requires
-    edge-weight-requires-2
-    larger-weight-requires-2
-    returns
-    returns-2)
+largest-weight-spec = tie.close (tie.spec (λ c κs. tt) (λ c κs. tt) (λ c κs. tt) (λ c κs. tt) (λ c κs. tt) returns returns-2)

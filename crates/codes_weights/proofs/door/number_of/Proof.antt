@@ -8,15 +8,6 @@ use Rattle.codes_weights.specs.Steps.{doorNumber}
 use Rattle.codes_weights.proofs.door.number_of.Statement.{statement}
 use Rattle.codes_weights.proofs.door.number_of.Tie as tie
 
-asked-requires : tie.Need-asked-requires
-asked-requires c κs = tt
-
-asked-requires-2 : tie.Need-asked-requires-2
-asked-requires-2 c κs = tt
-
-asked-requires-3 : tie.Need-asked-requires-3
-asked-requires-3 c κs = tt
-
 returns : tie.Need-returns
 unfolding doorNumber
 returns c =
@@ -31,5 +22,4 @@ returns-2 c =
     sym (ap (λ (b : Bool). cond b (ask (s .eight) 8 (ask (s .nine) 9 (ask (s .ten) 10 0))) (s .q)) (ne-eqb (s .q) 0 (c .if1 .left)))
 
 pub number-of-spec : {M : Type 1} → statement M
-number-of-spec =
-    tie.close (tie.spec asked-requires asked-requires-2 asked-requires-3 returns returns-2)
+number-of-spec = tie.close (tie.spec (λ c κs. tt) (λ c κs. tt) (λ c κs. tt) returns returns-2)

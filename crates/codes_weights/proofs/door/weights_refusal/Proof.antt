@@ -5,37 +5,10 @@ use Rattle.codes_weights.specs.Steps.{doorNumber}
 use Rattle.codes_weights.proofs.door.weights_refusal.Statement.{statement}
 use Rattle.codes_weights.proofs.door.weights_refusal.Tie as tie
 
-is-largest-half-weight-requires : tie.Need-is-largest-half-weight-requires
-is-largest-half-weight-requires c κs = tt
-
-is-probability-requires : tie.Need-is-probability-requires
-is-probability-requires c κs = tt
-
-is-diagonal-probability-requires : tie.Need-is-diagonal-probability-requires
-is-diagonal-probability-requires c κs = tt
-
-both-requires : tie.Need-both-requires
-both-requires c κs = tt
-
-is-above-zero-requires : tie.Need-is-above-zero-requires
-is-above-zero-requires c κs = tt
-
-number-of-requires : tie.Need-number-of-requires
-number-of-requires c κs = tt
-
 returns : tie.Need-returns
 returns c =
     let nine = c .before .before .both .ensures ∙ (λ k. (c .before .before .before .before .is-probability .ensures k) && (c .before .before .before .is-diagonal-probability .ensures k)) in
     c .number-of .ensures ∙ (λ k. doorNumber (c .before .before .before .before .before .before .args .q) (c .before .before .before .before .before .is-largest-half-weight .ensures k) (nine k) (c .before .is-above-zero .ensures k))
 
 pub weights-refusal-spec : {M : Type 1} → statement M
-weights-refusal-spec =
-    tie.close
-    (tie.spec
-    is-largest-half-weight-requires
-    is-probability-requires
-    is-diagonal-probability-requires
-    both-requires
-    is-above-zero-requires
-    number-of-requires
-    returns)
+weights-refusal-spec = tie.close (tie.spec (λ c κs. tt) (λ c κs. tt) (λ c κs. tt) (λ c κs. tt) (λ c κs. tt) (λ c κs. tt) returns)

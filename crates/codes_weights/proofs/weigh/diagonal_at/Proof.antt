@@ -9,33 +9,6 @@ use borrow.Author.Needs.{needs}
 use Rattle.codes_weights.proofs.weigh.diagonal_at.Statement.{statement}
 use Rattle.codes_weights.proofs.weigh.diagonal_at.Tie as tie
 
-mul-wide : tie.Need-mul-wide
-mul-wide c = search needs
-
-shared-slice-read-wide : tie.Need-shared-slice-read-wide
-shared-slice-read-wide c = search needs
-
-wide-requires : tie.Need-wide-requires
-wide-requires c κs = tt
-
-load-requires : tie.Need-load-requires
-load-requires c κs = tt
-
-mul-wide-2 : tie.Need-mul-wide-2
-mul-wide-2 c = search needs
-
-shared-slice-read-wide-2 : tie.Need-shared-slice-read-wide-2
-shared-slice-read-wide-2 c = search needs
-
-wide-requires-2 : tie.Need-wide-requires-2
-wide-requires-2 c κs = tt
-
-load-requires-2 : tie.Need-load-requires-2
-load-requires-2 c κs = tt
-
-is-diagonal-requires : tie.Need-is-diagonal-requires
-is-diagonal-requires c κs = tt
-
 returns : tie.Need-returns
 unfolding diagonalAt
 returns c =
@@ -46,16 +19,4 @@ returns c =
     c .is-diagonal .ensures ∙ (λ k. isDiagonal (a k) (b k))
 
 pub diagonal-at-spec : {M : Type 1} → statement M
-diagonal-at-spec =
-    tie.close
-    (tie.spec
-    mul-wide
-    shared-slice-read-wide
-    wide-requires
-    load-requires
-    mul-wide-2
-    shared-slice-read-wide-2
-    wide-requires-2
-    load-requires-2
-    is-diagonal-requires
-    returns)
+diagonal-at-spec = tie.close (tie.spec (λ c. search needs) (λ c. search needs) (λ c κs. tt) (λ c κs. tt) (λ c. search needs) (λ c. search needs) (λ c κs. tt) (λ c κs. tt) (λ c κs. tt) returns)

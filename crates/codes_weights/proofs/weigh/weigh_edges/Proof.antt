@@ -45,9 +45,6 @@ diagonal-at-requires c κs =
     let r = c .before .before .before .before .before .before .before .before .before .pre in
     omega (arith, r .room-a, r .room-b)
 
-picked-requires : tie.Need-picked-requires Inv-loop μ-loop
-picked-requires c κs = tt
-
 store-weighed-requires : tie.Need-store-weighed-requires Inv-loop μ-loop
 store-weighed-requires c κs =
     let r = c .before .before .before .before .before .before .before .before .before .before .before .before .before .pre in
@@ -92,18 +89,4 @@ returns c =
     }
 
 pub weigh-edges-spec : {M : Type 1} → statement M
-weigh-edges-spec =
-    tie.close
-    (tie.spec
-    Inv-loop
-    μ-loop
-    loop-holds
-    diagonal-at-requires
-    picked-requires
-    store-weighed-requires
-    add-i
-    loop-less
-    loop-again
-    same-length
-    same-length-2
-    returns)
+weigh-edges-spec = tie.close (tie.spec Inv-loop μ-loop loop-holds diagonal-at-requires (λ c κs. tt) store-weighed-requires add-i loop-less loop-again same-length same-length-2 returns)

@@ -5,16 +5,10 @@ use Rattle.weights_recipe.specs.Rounding.{halfWeight}
 use Rattle.codes_weights.proofs.weigh.weighed.Statement.{statement}
 use Rattle.codes_weights.proofs.weigh.weighed.Tie as tie
 
-edge-weight-requires : tie.Need-edge-weight-requires
-edge-weight-requires c κs = tt
-
-half-weight-requires : tie.Need-half-weight-requires
-half-weight-requires c κs = tt
-
 returns : tie.Need-returns
 returns c =
     let s = c .before .before .args in
     λ k. record { p = s .p; half = (c .half-weight .ensures ∙ ap (λ (w : Float). halfWeight (s .max-half-weight) w (s .largest)) (c .before .edge-weight .ensures)) k }
 
 pub weighed-spec : {M : Type 1} → statement M
-weighed-spec = tie.close (tie.spec edge-weight-requires half-weight-requires returns)
+weighed-spec = tie.close (tie.spec (λ c κs. tt) (λ c κs. tt) returns)

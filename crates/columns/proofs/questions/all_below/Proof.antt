@@ -20,27 +20,15 @@ Inv-loop s n limit m i₀ below₀ i below = (i ≤ m) × (m ≡ min n (length s
 abbrev μ-loop : tie.MeasureT-loop
 μ-loop s n limit m i₀ below₀ i below = m - i
 
-lesser-requires : tie.Need-lesser-requires Inv-loop μ-loop
-lesser-requires c κs = tt
-
 loop-holds : tie.Need-loop-holds Inv-loop μ-loop
 unfolding all
 loop-holds c = (search needs, c .lesser .ensures, refl)
 
-mul-both : tie.Need-mul-both Inv-loop μ-loop
-mul-both c = search needs
-
 shared-slice-read-both : tie.Need-shared-slice-read-both Inv-loop μ-loop
 shared-slice-read-both c = omega (arith, c .before .before .loop .inv .1)
 
-both-requires : tie.Need-both-requires Inv-loop μ-loop
-both-requires c κs = tt
-
 add-i : tie.Need-add-i Inv-loop μ-loop
 add-i c = omega (arith, c .before .before .before .loop .inv .1)
-
-loop-less : tie.Need-loop-less Inv-loop μ-loop
-loop-less c = search needs
 
 loop-again : tie.Need-loop-again Inv-loop μ-loop
 loop-again c =
@@ -55,17 +43,4 @@ returns c =
     at .inv .2 ∙ sym (all-whole (passes (s .limit)) (s .s .now) 0 (s .n) (at .i) (omega (arith, at .inv .1)) (omega (arith, at .inv .1)))
 
 pub all-below-spec : {M : Type 1} → statement M
-all-below-spec =
-    tie.close
-    (tie.spec
-    Inv-loop
-    μ-loop
-    lesser-requires
-    loop-holds
-    mul-both
-    shared-slice-read-both
-    both-requires
-    add-i
-    loop-less
-    loop-again
-    returns)
+all-below-spec = tie.close (tie.spec Inv-loop μ-loop (λ c κs. tt) loop-holds (λ c. search needs) shared-slice-read-both (λ c κs. tt) add-i (λ c. search needs) loop-again returns)

@@ -5,11 +5,8 @@ use Rattle.columns.specs.Questions.{allBelow}
 use Rattle.columns.proofs.questions.each_below.Statement.{statement}
 use Rattle.columns.proofs.questions.each_below.Tie as tie
 
-all-below-requires : tie.Need-all-below-requires
-all-below-requires c κs = tt
-
 returns : tie.Need-returns
 returns c = let s = c .before .before .args in c .all-below .ensures ∙ ap (allBelow (s .limit)) (take-length (s .list .now))
 
 pub each-below-spec : {M : Type 1} → statement M
-each-below-spec = tie.close (tie.spec all-below-requires returns)
+each-below-spec = tie.close (tie.spec (λ c κs. tt) returns)

@@ -6,11 +6,8 @@ use Rattle.columns.specs.Limits.{weightLimit}
 use Rattle.columns.proofs.questions.each_weight_sound.Statement.{statement}
 use Rattle.columns.proofs.questions.each_weight_sound.Tie as tie
 
-weights-within-requires : tie.Need-weights-within-requires
-weights-within-requires c κs = tt
-
 returns : tie.Need-returns
 returns c = let s = c .before .before .args in c .weights-within .ensures ∙ ap (allWithin weightLimit) (take-length (s .list .now))
 
 pub each-weight-sound-spec : {M : Type 1} → statement M
-each-weight-sound-spec = tie.close (tie.spec weights-within-requires returns)
+each-weight-sound-spec = tie.close (tie.spec (λ c κs. tt) returns)

@@ -2,11 +2,8 @@
 use Rattle.columns.proofs.questions.vertex_count_sound.Statement.{statement}
 use Rattle.columns.proofs.questions.vertex_count_sound.Tie as tie
 
-both-requires : tie.Need-both-requires
-both-requires c κs = tt
-
 returns : tie.Need-returns
 returns c = c .both .ensures
 
 pub vertex-count-sound-spec : {M : Type 1} → statement M
-vertex-count-sound-spec = tie.close (tie.spec both-requires returns)
+vertex-count-sound-spec = tie.close (tie.spec (λ c κs. tt) returns)

@@ -8,12 +8,6 @@ use Rattle.columns.proofs.stores.load_f64.Tie as tie
 use Rattle.columns.specs.Places.{zeroFloat}
 use Rattle.columns.proofs.Columns.{getD-any}
 
-mul-result : tie.Need-mul-result
-mul-result c = search needs
-
-shared-slice-read-result : tie.Need-shared-slice-read-result
-shared-slice-read-result c = search needs
-
 returns : tie.Need-returns
 returns c = let s = c .before .before .args in getD-any (s .column .now) (s .at) nan zeroFloat (c .before .if1 .taken)
 
@@ -21,4 +15,4 @@ returns-2 : tie.Need-returns-2
 returns-2 c = let s = c .before .args in sym (List·getD-eq-default (s .column .now) zeroFloat (c .if1 .left))
 
 pub load-f64-spec : {M : Type 1} → statement M
-load-f64-spec = tie.close (tie.spec mul-result shared-slice-read-result returns returns-2)
+load-f64-spec = tie.close (tie.spec (λ c. search needs) (λ c. search needs) returns returns-2)

@@ -5,20 +5,8 @@ use borrow.Author.Needs.{needs}
 use Rattle.columns.proofs.stores.store_f64.Statement.{statement}
 use Rattle.columns.proofs.stores.store_f64.Tie as tie
 
-mul-column : tie.Need-mul-column
-mul-column c = search needs
-
-slice-write-column : tie.Need-slice-write-column
-slice-write-column c = search needs
-
-same-length : tie.Need-same-length
-same-length c = search needs
-
-returns : tie.Need-returns
-returns c = search needs
-
 returns-2 : tie.Need-returns-2
 returns-2 c = let s = c .before .args in sym (set-out (s .column .now) (s .at) (s .value) (c .if1 .left))
 
 pub store-f64-spec : {M : Type 1} → statement M
-store-f64-spec = tie.close (tie.spec mul-column slice-write-column same-length returns returns-2)
+store-f64-spec = tie.close (tie.spec (λ c. search needs) (λ c. search needs) (λ c. search needs) (λ c. search needs) returns-2)

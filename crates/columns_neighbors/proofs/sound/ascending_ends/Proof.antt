@@ -16,9 +16,6 @@ returns c = λ e. absurd (true≢false (sym e))
 returns-2 : tie.Need-returns-2
 returns-2 c = λ e. absurd (true≢false (sym e))
 
-all-below-requires : tie.Need-all-below-requires
-all-below-requires c κs = tt
-
 returns-3 : tie.Need-returns-3
 returns-3 c = λ e. absurd (true≢false (sym e))
 
@@ -36,6 +33,4 @@ returns-4 c = λ e.
     ascending-says (s .args .vertex-num) (s .args .edge-num) (s .args .a .now) (s .args .b .now) (s .pre .0) (s .pre .1) (omega arith) (omega arith) below (c .ascending .ensures e)
 
 pub ascending-ends-spec : {M : Type 1} → statement M
-ascending-ends-spec =
-    tie.close
-    (tie.spec returns returns-2 all-below-requires returns-3 ascending-requires returns-4)
+ascending-ends-spec = tie.close (tie.spec returns returns-2 (λ c κs. tt) returns-3 ascending-requires returns-4)

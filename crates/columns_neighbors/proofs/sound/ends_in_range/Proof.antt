@@ -5,40 +5,9 @@ use Rattle.columns_neighbors.specs.Sound.{endsInRange}
 use Rattle.columns_neighbors.proofs.sound.ends_in_range.Statement.{statement}
 use Rattle.columns_neighbors.proofs.sound.ends_in_range.Tie as tie
 
-at-most-requires : tie.Need-at-most-requires
-at-most-requires c κs = tt
-
-at-most-requires-2 : tie.Need-at-most-requires-2
-at-most-requires-2 c κs = tt
-
-all-below-requires : tie.Need-all-below-requires
-all-below-requires c κs = tt
-
-all-below-requires-2 : tie.Need-all-below-requires-2
-all-below-requires-2 c κs = tt
-
-both-requires : tie.Need-both-requires
-both-requires c κs = tt
-
-both-requires-2 : tie.Need-both-requires-2
-both-requires-2 c κs = tt
-
-both-requires-3 : tie.Need-both-requires-3
-both-requires-3 c κs = tt
-
 returns : tie.Need-returns
 unfolding endsInRange
 returns c = c .both3 .ensures ∙ (λ i. (c .before .before .before .before .before .before .at-most .ensures) i && (c .before .both2 .ensures ∙ (λ i. (c .before .before .before .before .before .at-most2 .ensures) i && (c .before .before .both .ensures ∙ (λ i. (c .before .before .before .before .all-below .ensures) i && (c .before .before .before .all-below2 .ensures) i)) i)) i)
 
 pub ends-in-range-spec : {M : Type 1} → statement M
-ends-in-range-spec =
-    tie.close
-    (tie.spec
-    at-most-requires
-    at-most-requires-2
-    all-below-requires
-    all-below-requires-2
-    both-requires
-    both-requires-2
-    both-requires-3
-    returns)
+ends-in-range-spec = tie.close (tie.spec (λ c κs. tt) (λ c κs. tt) (λ c κs. tt) (λ c κs. tt) (λ c κs. tt) (λ c κs. tt) (λ c κs. tt) returns)

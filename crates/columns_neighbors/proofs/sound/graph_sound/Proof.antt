@@ -8,14 +8,8 @@ use Rattle.columns_neighbors.proofs.Ends.{bad-vertices, bad-edges, bad-
 use Rattle.columns_neighbors.proofs.sound.graph_sound.Statement.{statement}
 use Rattle.columns_neighbors.proofs.sound.graph_sound.Tie as tie
 
-vertex-count-sound-requires : tie.Need-vertex-count-sound-requires
-vertex-count-sound-requires c κs = tt
-
 returns : tie.Need-returns
 returns c = let s = c .before .before .before .before .args in bad-vertices (s .vertex-num) (s .edge-num) (s .a .now) (s .b .now) (sym (c .before .vertex-count-sound .ensures) ∙ not-true _ (c .if1 .taken))
-
-edge-count-sound-requires : tie.Need-edge-count-sound-requires
-edge-count-sound-requires c κs = tt
 
 returns-2 : tie.Need-returns-2
 returns-2 c = let s = c .before .before .before .before .before .before .args in bad-edges (s .vertex-num) (s .edge-num) (s .a .now) (s .b .now) (sym (c .before .before .before .vertex-count-sound .ensures) ∙ not-false _ (c .before .before .if1 .left)) (sym (c .before .edge-count-sound .ensures) ∙ not-true _ (c .if2 .taken))
@@ -25,9 +19,6 @@ ascending-ends-requires c κs = (sym (c .before .before .before .vertex-count-so
 
 returns-3 : tie.Need-returns-3
 returns-3 c = sym (c .before .ascending-ends .ensures (c .if3 .taken))
-
-ends-in-range-requires : tie.Need-ends-in-range-requires
-ends-in-range-requires c κs = tt
 
 returns-4 : tie.Need-returns-4
 returns-4 c =
@@ -59,18 +50,4 @@ returns-6 c =
     c .pairs-apart .ensures ∙ all-but-pairs (s .vertex-num) (s .edge-num) (s .a .now) (s .b .now) (sym (c .before .before .before .before .before .before .before .before .before .before .vertex-count-sound .ensures) ∙ not-false _ (c .before .before .before .before .before .before .before .before .before .if1 .left)) (sym (c .before .before .before .before .before .before .before .before .edge-count-sound .ensures) ∙ not-false _ (c .before .before .before .before .before .before .before .if2 .left)) (sym (c .before .before .before .before .ends-in-range .ensures) ∙ not-false _ (c .before .before .before .if4 .left)) (sym (c .before .before .ends-differ .ensures) ∙ not-false _ (c .before .if5 .left))
 
 pub graph-sound-spec : {M : Type 1} → statement M
-graph-sound-spec =
-    tie.close
-    (tie.spec
-    vertex-count-sound-requires
-    returns
-    edge-count-sound-requires
-    returns-2
-    ascending-ends-requires
-    returns-3
-    ends-in-range-requires
-    returns-4
-    ends-differ-requires
-    returns-5
-    pairs-apart-requires
-    returns-6)
+graph-sound-spec = tie.close (tie.spec (λ c κs. tt) returns (λ c κs. tt) returns-2 ascending-ends-requires returns-3 (λ c κs. tt) returns-4 ends-differ-requires returns-5 pairs-apart-requires returns-6)

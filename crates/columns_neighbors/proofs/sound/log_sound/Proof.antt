@@ -5,19 +5,9 @@ use Rattle.columns_neighbors.specs.Sound.{logSound}
 use Rattle.columns_neighbors.proofs.sound.log_sound.Statement.{statement}
 use Rattle.columns_neighbors.proofs.sound.log_sound.Tie as tie
 
-all-below-requires : tie.Need-all-below-requires
-all-below-requires c κs = tt
-
-weights-sound-requires : tie.Need-weights-sound-requires
-weights-sound-requires c κs = tt
-
-both-requires : tie.Need-both-requires
-both-requires c κs = tt
-
 returns : tie.Need-returns
 unfolding logSound
 returns c = c .both .ensures ∙ (λ i. (c .before .before .all-below .ensures) i && (c .before .weights-sound .ensures) i)
 
 pub log-sound-spec : {M : Type 1} → statement M
-log-sound-spec =
-    tie.close (tie.spec all-below-requires weights-sound-requires both-requires returns)
+log-sound-spec = tie.close (tie.spec (λ c κs. tt) (λ c κs. tt) (λ c κs. tt) returns)

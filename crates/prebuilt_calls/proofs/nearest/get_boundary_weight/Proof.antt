@@ -48,15 +48,6 @@ number-then c =
     let s : tie.Start = c .before .before .before .before .before .before .before .before .before .before .before .before .before .before .before .before .before .before .before .before .before .before .before .before .before .before .before .before .before .before .before .before .before .before .before .before .before .before .before .before .before .before .before in
     sym (c .before .number .ensures ∙ c .before .before .before .before .before .before .before .before .before .before .before .before .before .before .before .before .before .before .before .all-edges .ensures .0 .answer .number-is) ∙ c .if1 .taken
 
-all-edges-requires : tie.Need-all-edges-requires
-all-edges-requires c κs = tt
-
-number-requires : tie.Need-number-requires
-number-requires c κs = tt
-
-cast-v : tie.Need-cast-v
-cast-v c = search needs
-
 slice-aggregate-boundary-answer : tie.Need-slice-aggregate-boundary-answer
 unfolding number-at engine-of scratch-at
 slice-aggregate-boundary-answer c =
@@ -183,33 +174,4 @@ returns-2 c =
     )
 
 pub get-boundary-weight-spec : {M : Type 1} → statement M
-get-boundary-weight-spec =
-    tie.close
-    (tie.spec
-    all-edges-requires
-    number-requires
-    cast-v
-    slice-aggregate-boundary-answer
-    slice-reshare-prefix-boundary-answer
-    slice-aggregate-boundary-answer-2
-    boundary-answer-requires
-    same-length
-    same-length-2
-    same-length-3
-    same-length-4
-    same-length-5
-    same-length-6
-    same-length-7
-    same-length-8
-    same-length-9
-    returns
-    same-length-10
-    same-length-11
-    same-length-12
-    same-length-13
-    same-length-14
-    same-length-15
-    same-length-16
-    same-length-17
-    same-length-18
-    returns-2)
+get-boundary-weight-spec = tie.close (tie.spec (λ c κs. tt) (λ c κs. tt) (λ c. search needs) slice-aggregate-boundary-answer slice-reshare-prefix-boundary-answer slice-aggregate-boundary-answer-2 boundary-answer-requires same-length same-length-2 same-length-3 same-length-4 same-length-5 same-length-6 same-length-7 same-length-8 same-length-9 returns same-length-10 same-length-11 same-length-12 same-length-13 same-length-14 same-length-15 same-length-16 same-length-17 same-length-18 returns-2)

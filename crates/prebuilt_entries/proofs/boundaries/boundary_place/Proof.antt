@@ -5,18 +5,11 @@ use borrow.Author.Needs.{needs}
 use Rattle.prebuilt_entries.proofs.boundaries.boundary_place.Statement.{statement}
 use Rattle.prebuilt_entries.proofs.boundaries.boundary_place.Tie as tie
 
-shared-slice-read-if1 : tie.Need-shared-slice-read-if1
-shared-slice-read-if1 c = search needs
-
 returns : tie.Need-returns
 returns c = let s = c .before .before .before in at-virtual (s .args .boundary .now) (s .args .least .now) (s .args .v) (c .if1 .taken)
-
-nearest-place-requires : tie.Need-nearest-place-requires
-nearest-place-requires c κs = search needs
 
 returns-2 : tie.Need-returns-2
 returns-2 c = let s = c .before .before .before .before in at-inner (s .args .boundary .now) (s .args .least .now) (s .args .v) (c .nearest-place .result) (c .before .if1 .left) (c .nearest-place .ensures)
 
 pub boundary-place-spec : {M : Type 1} → statement M
-boundary-place-spec =
-    tie.close (tie.spec shared-slice-read-if1 returns nearest-place-requires returns-2)
+boundary-place-spec = tie.close (tie.spec (λ c. search needs) returns (λ c κs. search needs) returns-2)

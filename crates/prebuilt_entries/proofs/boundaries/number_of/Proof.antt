@@ -8,9 +8,6 @@ use borrow.Author.Needs.{needs}
 use Rattle.prebuilt_entries.proofs.boundaries.number_of.Statement.{statement}
 use Rattle.prebuilt_entries.proofs.boundaries.number_of.Tie as tie
 
-cast-result : tie.Need-cast-result
-cast-result c = search needs
-
 returns : tie.Need-returns
 returns c = let s = c .before in sym (ap (λ b. cond b (s .args .place) 0) (lt-ltb (s .args .place) (s .args .n) (c .if1 .taken)))
 
@@ -18,4 +15,4 @@ returns-2 : tie.Need-returns-2
 returns-2 c = let s = c .before in sym (ap (λ b. cond b (s .args .place) 0) (le-ltb (s .args .place) (s .args .n) (omega arith)))
 
 pub number-of-spec : {M : Type 1} → statement M
-number-of-spec = tie.close (tie.spec cast-result returns returns-2)
+number-of-spec = tie.close (tie.spec (λ c. search needs) returns returns-2)

@@ -10,12 +10,6 @@ use borrow.Author.Needs.{needs}
 use Rattle.prebuilt_entries.proofs.boundaries.weight_at.Statement.{statement}
 use Rattle.prebuilt_entries.proofs.boundaries.weight_at.Tie as tie
 
-mul-result : tie.Need-mul-result
-mul-result c = search needs
-
-shared-slice-copy-out-result : tie.Need-shared-slice-copy-out-result
-shared-slice-copy-out-result c = search needs
-
 returns : tie.Need-returns
 returns c = let s = c .before .before in toZ-ofZ w32 (getD (s .args .least .now) (s .args .u) (pos 0)) (record { sfits = c .result .given }) ∙ getD-any (s .args .least .now) (s .args .u) (pos 0) (negsuc 0) (c .before .if1 .taken)
 
@@ -23,4 +17,4 @@ returns-2 : tie.Need-returns-2
 returns-2 c = let s = c .before in sym (List·getD-eq-default (s .args .least .now) (negsuc 0) {n = s .args .u} (omega arith))
 
 pub weight-at-spec : {M : Type 1} → statement M
-weight-at-spec = tie.close (tie.spec mul-result shared-slice-copy-out-result returns returns-2)
+weight-at-spec = tie.close (tie.spec (λ c. search needs) (λ c. search needs) returns returns-2)

@@ -23,15 +23,6 @@ use borrow.Author.Needs.{needs}
 use Rattle.prebuilt_entries.proofs.nearest.amount_at.Statement.{statement}
 use Rattle.prebuilt_entries.proofs.nearest.amount_at.Tie as tie
 
-mul-amount-of : tie.Need-mul-amount-of
-mul-amount-of c = search needs
-
-shared-slice-copy-out-amount-of : tie.Need-shared-slice-copy-out-amount-of
-shared-slice-copy-out-amount-of c = search needs
-
-amount-of-requires : tie.Need-amount-of-requires
-amount-of-requires c κs = tt
-
 returns : tie.Need-returns
 returns c = let s = c .before .before .before in c .amount-of .ensures ∙ ap amount (toZ-ofZ w32 (getD (s .args .least .now) (s .args .u) (pos 0)) (record { sfits = c .before .amount-of-arg .given }) ∙ getD-any (s .args .least .now) (s .args .u) (pos 0) (negsuc 0) (c .before .before .if1 .taken))
 
@@ -39,6 +30,4 @@ returns-2 : tie.Need-returns-2
 returns-2 c = let s = c .before in let h : length (s .args .least .now) ≤ s .args .u = omega (arith, c .if1 .left) in ap amount (sym (List·getD-eq-default (s .args .least .now) (negsuc 0) {n = s .args .u} h))
 
 pub amount-at-spec : {M : Type 1} → statement M
-amount-at-spec =
-    tie.close
-    (tie.spec mul-amount-of shared-slice-copy-out-amount-of amount-of-requires returns returns-2)
+amount-at-spec = tie.close (tie.spec (λ c. search needs) (λ c. search needs) (λ c κs. tt) returns returns-2)

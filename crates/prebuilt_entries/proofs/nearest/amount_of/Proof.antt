@@ -23,20 +23,11 @@ use borrow.Author.Needs.{needs}
 use Rattle.prebuilt_entries.proofs.nearest.amount_of.Statement.{statement}
 use Rattle.prebuilt_entries.proofs.nearest.amount_of.Tie as tie
 
-rank-of-requires : tie.Need-rank-of-requires
-rank-of-requires c κs = tt
-
 returns : tie.Need-returns
 returns c = let s = c .before .before in let e = toZ-ofZ w32 (s .args .x) (record { sfits = s .good .0 }) in amount-none (s .args .x) (sym (c .before .rank-of .ensures .0 ∙ ap rank e) ∙ c .if1 .taken)
-
-sub-result : tie.Need-sub-result
-sub-result c = search needs
-
-cast-result : tie.Need-cast-result
-cast-result c = search needs
 
 returns-2 : tie.Need-returns-2
 returns-2 c = let s = c .before .before in let e = toZ-ofZ w32 (s .args .x) (record { sfits = s .good .0 }) in amount-some (s .args .x) (c .before .rank-of .result) (c .before .rank-of .ensures .0 ∙ ap rank e) (c .if1 .left)
 
 pub amount-of-spec : {M : Type 1} → statement M
-amount-of-spec = tie.close (tie.spec rank-of-requires returns sub-result cast-result returns-2)
+amount-of-spec = tie.close (tie.spec (λ c κs. tt) returns (λ c. search needs) (λ c. search needs) returns-2)

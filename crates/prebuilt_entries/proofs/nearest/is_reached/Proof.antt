@@ -23,15 +23,6 @@ use borrow.Author.Needs.{needs}
 use Rattle.prebuilt_entries.proofs.nearest.is_reached.Statement.{statement}
 use Rattle.prebuilt_entries.proofs.nearest.is_reached.Tie as tie
 
-mul-rank-of : tie.Need-mul-rank-of
-mul-rank-of c = search needs
-
-shared-slice-copy-out-rank-of : tie.Need-shared-slice-copy-out-rank-of
-shared-slice-copy-out-rank-of c = search needs
-
-rank-of-requires : tie.Need-rank-of-requires
-rank-of-requires c κs = tt
-
 returns : tie.Need-returns
 returns c = let s = c .before .before .before in ap (λ k. not (eqb k 0)) (c .rank-of .ensures .0 ∙ ap rank (toZ-ofZ w32 (getD (s .args .least .now) (s .args .u) (pos 0)) (record { sfits = c .before .rank-of-arg .given }) ∙ getD-any (s .args .least .now) (s .args .u) (pos 0) (negsuc 0) (c .before .before .if1 .taken))) ∙ reached-by (weightIn (s .args .least .now) (s .args .u))
 
@@ -39,6 +30,4 @@ returns-2 : tie.Need-returns-2
 returns-2 c = let s = c .before in let h : length (s .args .least .now) ≤ s .args .u = omega (arith, c .if1 .left) in ap isReached (sym (List·getD-eq-default (s .args .least .now) (negsuc 0) {n = s .args .u} h))
 
 pub is-reached-spec : {M : Type 1} → statement M
-is-reached-spec =
-    tie.close
-    (tie.spec mul-rank-of shared-slice-copy-out-rank-of rank-of-requires returns returns-2)
+is-reached-spec = tie.close (tie.spec (λ c. search needs) (λ c. search needs) (λ c κs. tt) returns returns-2)

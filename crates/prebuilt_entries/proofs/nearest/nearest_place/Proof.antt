@@ -40,12 +40,6 @@ shared-slice-read-nearer c = let s = c .before .before .before .before in omega 
 nearer-requires : tie.Need-nearer-requires Inv-loop μ-loop
 nearer-requires c κs = omega (arith, c .before .loop-test .taken)
 
-add-u : tie.Need-add-u Inv-loop μ-loop
-add-u c = search needs
-
-loop-less : tie.Need-loop-less Inv-loop μ-loop
-loop-less c = search needs
-
 loop-again : tie.Need-loop-again Inv-loop μ-loop
 loop-again c = let s = c .before .before .before .before .before in let at = c .before .before .before .loop in (omega (arith, c .before .before .loop-test .taken), c .nearer .ensures (s .args .boundary .now) refl (at .inv .1))
 
@@ -57,15 +51,4 @@ returns c =
     at .inv .1 ∙ ap (λ k. orElse (length (s .args .least .now)) (nearestIn (s .args .boundary .now) (s .args .least .now) k)) e
 
 pub nearest-place-spec : {M : Type 1} → statement M
-nearest-place-spec =
-    tie.close
-    (tie.spec
-    Inv-loop
-    μ-loop
-    loop-holds
-    shared-slice-read-nearer
-    nearer-requires
-    add-u
-    loop-less
-    loop-again
-    returns)
+nearest-place-spec = tie.close (tie.spec Inv-loop μ-loop loop-holds shared-slice-read-nearer nearer-requires (λ c. search needs) (λ c. search needs) loop-again returns)

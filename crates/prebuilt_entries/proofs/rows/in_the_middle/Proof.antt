@@ -14,26 +14,11 @@ use borrow.Author.Needs.{needs}
 use Rattle.prebuilt_entries.proofs.rows.in_the_middle.Statement.{statement}
 use Rattle.prebuilt_entries.proofs.rows.in_the_middle.Tie as tie
 
-rank-of-requires : tie.Need-rank-of-requires
-rank-of-requires c κs = tt
-
-rank-of-requires-2 : tie.Need-rank-of-requires-2
-rank-of-requires-2 c κs = tt
-
-rank-of-requires-3 : tie.Need-rank-of-requires-3
-rank-of-requires-3 c κs = tt
-
 returns : tie.Need-returns
 returns c = let s = c .before .before .before .before in own-none (s .args .own) (s .args .peer) (s .args .x) (sym (c .before .before .before .rank-of .ensures .0 ∙ ap rank (toZ-ofZ w32 (s .args .own) (record { sfits = s .good .0 }))) ∙ c .if1 .taken)
 
 returns-2 : tie.Need-returns-2
 returns-2 c = let s = c .before .before .before .before .before in peer-none (s .args .own) (s .args .peer) (s .args .x) (sym (c .before .before .before .rank-of2 .ensures .0 ∙ ap rank (toZ-ofZ w32 (s .args .peer) (record { sfits = s .good .1 .0 }))) ∙ c .if2 .taken)
-
-add-result : tie.Need-add-result
-add-result c = search needs
-
-add-result-2 : tie.Need-add-result-2
-add-result-2 c = search needs
 
 returns-3 : tie.Need-returns-3
 returns-3 c =
@@ -44,14 +29,4 @@ returns-3 c =
     (λ i. ltb (a i + b i) (k i + 1)) ∙ by-ranks (s .args .own) (s .args .peer) (s .args .x) (λ e. c .before .if1 .left (a ∙ e)) (λ e. c .if2 .left (b ∙ e))
 
 pub in-the-middle-spec : {M : Type 1} → statement M
-in-the-middle-spec =
-    tie.close
-    (tie.spec
-    rank-of-requires
-    rank-of-requires-2
-    rank-of-requires-3
-    returns
-    returns-2
-    add-result
-    add-result-2
-    returns-3)
+in-the-middle-spec = tie.close (tie.spec (λ c κs. tt) (λ c κs. tt) (λ c κs. tt) returns returns-2 (λ c. search needs) (λ c. search needs) returns-3)

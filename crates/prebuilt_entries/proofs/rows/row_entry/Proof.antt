@@ -15,9 +15,6 @@ use Rattle.prebuilt_entries.proofs.rows.row_entry.Tie as tie
 returns : tie.Need-returns
 returns c = let s = c .before .args in ap (λ k. cond k (negsuc 0) (cond (inTheMiddle (s .own) (s .peer) (s .x)) (negsuc 0) (s .x))) (sym (c .if1 .taken))
 
-in-the-middle-requires : tie.Need-in-the-middle-requires
-in-the-middle-requires c κs = tt
-
 returns-2 : tie.Need-returns-2
 returns-2 c =
     let s = c .before .before .before in
@@ -37,4 +34,4 @@ returns-3 c =
     x ∙ (λ i. cond (sym (c .before .before .if1 .left) i) (negsuc 0) (cond (sym (m ∙ c .if2 .left) i) (negsuc 0) (s .args .x)))
 
 pub row-entry-spec : {M : Type 1} → statement M
-row-entry-spec = tie.close (tie.spec returns in-the-middle-requires returns-2 returns-3)
+row-entry-spec = tie.close (tie.spec returns (λ c κs. tt) returns-2 returns-3)

@@ -36,44 +36,17 @@ loop-holds c = (search needs, refl, refl)
 shared-slice-read-is-hidden : tie.Need-shared-slice-read-is-hidden Inv-loop μ-loop
 shared-slice-read-is-hidden c = c .before .before .before .before .pre .2
 
-shared-slice-read-is-hidden-2 : tie.Need-shared-slice-read-is-hidden-2 Inv-loop μ-loop
-shared-slice-read-is-hidden-2 c = search needs
-
-is-hidden-requires : tie.Need-is-hidden-requires Inv-loop μ-loop
-is-hidden-requires c κs = tt
-
-mul-row-entry : tie.Need-mul-row-entry Inv-loop μ-loop
-mul-row-entry c = search needs
-
 shared-slice-copy-out-row-entry : tie.Need-shared-slice-copy-out-row-entry Inv-loop μ-loop
 shared-slice-copy-out-row-entry c = let s = c .before .before .before .before .before .before in omega (arith, s .pre .0, s .pre .2)
-
-mul-row-entry-2 : tie.Need-mul-row-entry-2 Inv-loop μ-loop
-mul-row-entry-2 c = search needs
 
 shared-slice-copy-out-row-entry-2 : tie.Need-shared-slice-copy-out-row-entry-2 Inv-loop μ-loop
 shared-slice-copy-out-row-entry-2 c = let s = c .before .before .before .before .before .before .before in omega (arith, s .pre .0, c .before .before .before .before .loop-test .taken)
 
-mul-row-entry-3 : tie.Need-mul-row-entry-3 Inv-loop μ-loop
-mul-row-entry-3 c = search needs
-
 slice-copy-out-row-entry : tie.Need-slice-copy-out-row-entry Inv-loop μ-loop
 slice-copy-out-row-entry c = let s = c .before .before .before .before .before .before .before .before in let at = c .before .before .before .before .before .before .loop in omega (arith, s .pre .1, at .inv .1, c .before .before .before .before .before .loop-test .taken)
 
-row-entry-requires : tie.Need-row-entry-requires Inv-loop μ-loop
-row-entry-requires c κs = tt
-
-mul-t23 : tie.Need-mul-t23 Inv-loop μ-loop
-mul-t23 c = search needs
-
 slice-set-from-out : tie.Need-slice-set-from-out Inv-loop μ-loop
 slice-set-from-out c = let s = c .before .before .before .before .before .before .before .before .before .before in let at = c .before .before .before .before .before .before .before .before .loop in omega (arith, s .pre .1, at .inv .1, c .before .before .before .before .before .before .before .loop-test .taken)
-
-add-u : tie.Need-add-u Inv-loop μ-loop
-add-u c = search needs
-
-loop-less : tie.Need-loop-less Inv-loop μ-loop
-loop-less c = search needs
 
 loop-again : tie.Need-loop-again Inv-loop μ-loop
 loop-again c =
@@ -110,26 +83,4 @@ returns c =
     at .inv .2 ∙ ap (λ k. sets (s .args .out .now) 0 (each k (rowEntry (s .args .boundary .now) (s .args .nearest .now) (s .args .v) (s .args .out .now)))) e
 
 pub write-row-spec : {M : Type 1} → statement M
-write-row-spec =
-    tie.close
-    (tie.spec
-    Inv-loop
-    μ-loop
-    loop-holds
-    shared-slice-read-is-hidden
-    shared-slice-read-is-hidden-2
-    is-hidden-requires
-    mul-row-entry
-    shared-slice-copy-out-row-entry
-    mul-row-entry-2
-    shared-slice-copy-out-row-entry-2
-    mul-row-entry-3
-    slice-copy-out-row-entry
-    row-entry-requires
-    mul-t23
-    slice-set-from-out
-    add-u
-    loop-less
-    loop-again
-    same-length
-    returns)
+write-row-spec = tie.close (tie.spec Inv-loop μ-loop loop-holds shared-slice-read-is-hidden (λ c. search needs) (λ c κs. tt) (λ c. search needs) shared-slice-copy-out-row-entry (λ c. search needs) shared-slice-copy-out-row-entry-2 (λ c. search needs) slice-copy-out-row-entry (λ c κs. tt) (λ c. search needs) slice-set-from-out (λ c. search needs) (λ c. search needs) loop-again same-length returns)

@@ -29,26 +29,11 @@ loop-holds : tie.Need-loop-holds Inv-loop μ-loop
 unfolding joined
 loop-holds c = (search needs, refl, refl, refl)
 
-mul-wide : tie.Need-mul-wide Inv-loop μ-loop
-mul-wide c = search needs
-
-shared-slice-read-wide : tie.Need-shared-slice-read-wide Inv-loop μ-loop
-shared-slice-read-wide c = search needs
-
-wide-requires : tie.Need-wide-requires Inv-loop μ-loop
-wide-requires c κs = tt
-
-mul-wide-2 : tie.Need-mul-wide-2 Inv-loop μ-loop
-mul-wide-2 c = search needs
-
 shared-slice-read-wide-2 : tie.Need-shared-slice-read-wide-2 Inv-loop μ-loop
 shared-slice-read-wide-2 c =
     let s = c .before .before .before .before .before .before .before .before .before .before in
     let l = c .before .before .before .before .loop in
     omega (arith, c .before .wide .ensures .0, s .pre .0 .1, order-below (s .args .order .now) (s .pre .0 .0) (l .k) (omega arith))
-
-wide-requires-2 : tie.Need-wide-requires-2 Inv-loop μ-loop
-wide-requires-2 c κs = tt
 
 mul-copy-run : tie.Need-mul-copy-run Inv-loop μ-loop
 mul-copy-run c = record { fits = omega (arith, c .before .before .wide .ensures .1) }
@@ -84,12 +69,6 @@ add-at c =
     let ct : c .before .before .before .before .before .wide2 .result ≡ getD (a .lengths .now) (getD o (l .k) 0) 0 = c .before .before .before .before .before .wide2 .ensures .0 ∙ ap (λ (x : ℕ). getD (a .lengths .now) x 0) (c .before .before .before .before .before .before .before .wide .ensures .0) in
     record { fits = omega (arith, ct, l .inv .1, list-room o (a .lengths .now) (a .from .now) (s .pre .0 .0) (s .pre .1 .1 .0) (l .k) h, s .pre .1 .1 .1) }
 
-add-k : tie.Need-add-k Inv-loop μ-loop
-add-k c = search needs
-
-loop-less : tie.Need-loop-less Inv-loop μ-loop
-loop-less c = search needs
-
 loop-again : tie.Need-loop-again Inv-loop μ-loop
 loop-again c =
     let s = c .before .before .before .before .before .before .before .before .before .before .before .before .before .before .before .before in
@@ -119,24 +98,4 @@ returns c =
     lists-end (a .order .now) (a .lengths .now) (a .from .now) (s .pre .0 .0) (s .pre .1 .1 .0) (l .k) (a .to .now) (omega arith) (s .pre .1 .1 .1) (l .inv .2)
 
 pub gather-lists-spec : {M : Type 1} → statement M
-gather-lists-spec =
-    tie.close
-    (tie.spec
-    Inv-loop
-    μ-loop
-    loop-holds
-    mul-wide
-    shared-slice-read-wide
-    wide-requires
-    mul-wide-2
-    shared-slice-read-wide-2
-    wide-requires-2
-    mul-copy-run
-    shared-slice-read-copy-run
-    copy-run-requires
-    add-at
-    add-k
-    loop-less
-    loop-again
-    same-length
-    returns)
+gather-lists-spec = tie.close (tie.spec Inv-loop μ-loop loop-holds (λ c. search needs) (λ c. search needs) (λ c κs. tt) (λ c. search needs) shared-slice-read-wide-2 (λ c κs. tt) mul-copy-run shared-slice-read-copy-run copy-run-requires add-at (λ c. search needs) (λ c. search needs) loop-again same-length returns)

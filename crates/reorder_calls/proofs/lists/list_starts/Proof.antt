@@ -29,27 +29,12 @@ mul-starts c = let s = c .before .before .before .before in let l = c .before .l
 slice-write-starts : tie.Need-slice-write-starts Inv-loop μ-loop
 slice-write-starts c = let s = c .before .before .before .before in let l = c .before .loop in omega (arith, l .inv .3, s .pre .1)
 
-mul-wide : tie.Need-mul-wide Inv-loop μ-loop
-mul-wide c = search needs
-
-shared-slice-read-wide : tie.Need-shared-slice-read-wide Inv-loop μ-loop
-shared-slice-read-wide c = search needs
-
-wide-requires : tie.Need-wide-requires Inv-loop μ-loop
-wide-requires c κs = tt
-
 add-sum : tie.Need-add-sum Inv-loop μ-loop
 add-sum c =
     let s = c .before .before .before .before .before .before in
     let a = s .args in
     let l = c .before .before .before .loop in
     record { fits = omega (arith, c .wide .ensures .0, l .inv .1, s .pre .2, sum-more (l .i) (a .lengths .now), sum-ascends (l .i + 1) (a .n) (a .lengths .now) (omega (arith, c .before .before .loop-test .taken))) }
-
-add-i : tie.Need-add-i Inv-loop μ-loop
-add-i c = search needs
-
-loop-less : tie.Need-loop-less Inv-loop μ-loop
-loop-less c = search needs
 
 loop-again : tie.Need-loop-again Inv-loop μ-loop
 loop-again c =
@@ -73,20 +58,4 @@ returns c =
     (l .inv .1 ∙ ap (λ (k : ℕ). sumTo k (s .args .lengths .now)) e, λ u h. l .inv .2 u (omega arith))
 
 pub list-starts-spec : {M : Type 1} → statement M
-list-starts-spec =
-    tie.close
-    (tie.spec
-    Inv-loop
-    μ-loop
-    loop-holds
-    mul-starts
-    slice-write-starts
-    mul-wide
-    shared-slice-read-wide
-    wide-requires
-    add-sum
-    add-i
-    loop-less
-    loop-again
-    same-length
-    returns)
+list-starts-spec = tie.close (tie.spec Inv-loop μ-loop loop-holds mul-starts slice-write-starts (λ c. search needs) (λ c. search needs) (λ c κs. tt) add-sum (λ c. search needs) (λ c. search needs) loop-again same-length returns)

@@ -18,12 +18,6 @@ use Rattle.columns_stores.proofs.copy_u32.Reads as copy-u32-reads
 use Rattle.reorder_calls.proofs.lists.gather_lists.Reads as gather-lists-reads
 use Rattle.reorder_calls.proofs.lists.list_starts.Reads as list-starts-reads
 
-list-starts-requires : tie.Need-list-starts-requires
-list-starts-requires c κs = search needs
-
-copy-u32-requires : tie.Need-copy-u32-requires
-copy-u32-requires c κs = tt
-
 gather-lists-requires : tie.Need-gather-lists-requires
 gather-lists-requires c κs =
     let s = c .before .before .before .before .before .before .before .before .before .before .before .before .before .before .before .before .before in
@@ -52,13 +46,4 @@ returns c =
     )
 
 pub move-lists-in-spec : {M : Type 1} → statement M
-move-lists-in-spec =
-    tie.close
-    (tie.spec
-    list-starts-requires
-    copy-u32-requires
-    gather-lists-requires
-    same-length
-    same-length-2
-    same-length-3
-    returns)
+move-lists-in-spec = tie.close (tie.spec (λ c κs. search needs) (λ c κs. tt) gather-lists-requires same-length same-length-2 same-length-3 returns)

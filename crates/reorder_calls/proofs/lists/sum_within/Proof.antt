@@ -22,9 +22,6 @@ Inv-loop lengths n limit m sum₀ i₀ sum i = (i ≤ m) × (m ≡ min n (length
 abbrev μ-loop : tie.MeasureT-loop
 μ-loop lengths n limit m sum₀ i₀ sum i = m - i
 
-lesser-requires : tie.Need-lesser-requires Inv-loop μ-loop
-lesser-requires c κs = tt
-
 loop-holds : tie.Need-loop-holds Inv-loop μ-loop
 unfolding sumTo
 loop-holds c = (search needs, c .lesser .ensures, refl, search needs)
@@ -35,27 +32,12 @@ mul-wide c = let l = c .before .loop in record { fits = omega (arith, l .inv .1)
 shared-slice-read-wide : tie.Need-shared-slice-read-wide Inv-loop μ-loop
 shared-slice-read-wide c = let l = c .before .before .loop in omega (arith, l .inv .1)
 
-wide-requires : tie.Need-wide-requires Inv-loop μ-loop
-wide-requires c κs = tt
-
-sub-if1 : tie.Need-sub-if1 Inv-loop μ-loop
-sub-if1 c = search needs
-
 returns : tie.Need-returns Inv-loop μ-loop
 returns c =
     let a = c .before .before .before .before .before .before .before .args in
     let l = c .before .before .before .before .loop in
     sym (lt-leb (sumTo (a .n) (a .lengths .now)) (a .limit)
     (omega (arith, c .before .wide .ensures .0, l .inv .1, l .inv .2, l .inv .3, sum-more (l .i) (a .lengths .now), sum-ascends (l .i + 1) (a .n) (a .lengths .now) (omega (arith, l .inv .1)))))
-
-add-sum : tie.Need-add-sum Inv-loop μ-loop
-add-sum c = search needs
-
-add-i : tie.Need-add-i Inv-loop μ-loop
-add-i c = search needs
-
-loop-less : tie.Need-loop-less Inv-loop μ-loop
-loop-less c = search needs
 
 loop-again : tie.Need-loop-again Inv-loop μ-loop
 loop-again c =
@@ -70,20 +52,4 @@ returns-2 c =
     sym (le-leb (sumTo (a .n) (a .lengths .now)) (a .limit) (omega (arith, l .inv .2, l .inv .3, sum-end (a .n) (l .i) (a .lengths .now) (omega (arith, l .inv .1)) (omega (arith, l .inv .1)))))
 
 pub sum-within-spec : {M : Type 1} → statement M
-sum-within-spec =
-    tie.close
-    (tie.spec
-    Inv-loop
-    μ-loop
-    lesser-requires
-    loop-holds
-    mul-wide
-    shared-slice-read-wide
-    wide-requires
-    sub-if1
-    returns
-    add-sum
-    add-i
-    loop-less
-    loop-again
-    returns-2)
+sum-within-spec = tie.close (tie.spec Inv-loop μ-loop (λ c κs. tt) loop-holds mul-wide shared-slice-read-wide (λ c κs. tt) (λ c. search needs) returns (λ c. search needs) (λ c. search needs) (λ c. search needs) loop-again returns-2)

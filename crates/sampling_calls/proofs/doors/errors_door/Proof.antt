@@ -15,60 +15,9 @@ use Rattle.sampling_calls.proofs.doors.code_sound.Reads as code-sound-r
 use Rattle.sampling_calls.proofs.doors.graph_long.Reads as graph-long-reads
 use Rattle.sampling_calls.proofs.doors.syndrome_long.Reads as syndrome-long-reads
 
-graph-long-requires : tie.Need-graph-long-requires
-graph-long-requires c κs = tt
-
-syndrome-long-requires : tie.Need-syndrome-long-requires
-syndrome-long-requires c κs = tt
-
-code-sound-requires : tie.Need-code-sound-requires
-code-sound-requires c κs = tt
-
-marks-sound-requires : tie.Need-marks-sound-requires
-marks-sound-requires c κs = tt
-
-marks-sound-requires-2 : tie.Need-marks-sound-requires-2
-marks-sound-requires-2 c κs = tt
-
-each-below-requires : tie.Need-each-below-requires
-each-below-requires c κs = tt
-
-both-requires : tie.Need-both-requires
-both-requires c κs = tt
-
-both-requires-2 : tie.Need-both-requires-2
-both-requires-2 c κs = tt
-
-both-requires-3 : tie.Need-both-requires-3
-both-requires-3 c κs = tt
-
-asked-requires : tie.Need-asked-requires
-asked-requires c κs = tt
-
-asked-requires-2 : tie.Need-asked-requires-2
-asked-requires-2 c κs = tt
-
-asked-requires-3 : tie.Need-asked-requires-3
-asked-requires-3 c κs = tt
-
 returns : tie.Need-returns
 unfolding errorsDoor
 returns c = c .asked3 .ensures ∙ (λ i. ask ((c .before .before .before .before .before .both .ensures ∙ (λ i. (c .before .before .before .before .before .before .before .before .before .before .before .graph-long .ensures) i && (c .before .before .before .before .before .before .before .before .before .before .syndrome-long .ensures) i)) i) 6 ((c .before .asked2 .ensures ∙ (λ i. ask ((c .before .before .before .both3 .ensures ∙ (λ i. (c .before .before .before .before .before .before .before .before .before .code-sound .ensures) i && (c .before .before .before .before .both2 .ensures ∙ (λ i. (c .before .before .before .before .before .before .before .before .marks-sound .ensures) i && (c .before .before .before .before .before .before .before .marks-sound2 .ensures) i)) i)) i) 7 ((c .before .before .asked .ensures ∙ (λ i. ask ((c .before .before .before .before .before .before .each-below .ensures) i) 13 0)) i))) i))
 
 pub errors-door-spec : {M : Type 1} → statement M
-errors-door-spec =
-    tie.close
-    (tie.spec
-    graph-long-requires
-    syndrome-long-requires
-    code-sound-requires
-    marks-sound-requires
-    marks-sound-requires-2
-    each-below-requires
-    both-requires
-    both-requires-2
-    both-requires-3
-    asked-requires
-    asked-requires-2
-    asked-requires-3
-    returns)
+errors-door-spec = tie.close (tie.spec (λ c κs. tt) (λ c κs. tt) (λ c κs. tt) (λ c κs. tt) (λ c κs. tt) (λ c κs. tt) (λ c κs. tt) (λ c κs. tt) (λ c κs. tt) (λ c κs. tt) (λ c κs. tt) (λ c κs. tt) returns)

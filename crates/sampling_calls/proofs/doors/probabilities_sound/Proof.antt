@@ -10,20 +10,9 @@ use Rattle.columns.proofs.questions.both.Reads as both-reads
 use Rattle.weights_questions.proofs.are_erasure_probabilities.Reads as are-erasure-probabilities-reads
 use Rattle.weights_questions.proofs.are_probabilities.Reads as are-probabilities-reads
 
-are-probabilities-requires : tie.Need-are-probabilities-requires
-are-probabilities-requires c κs = tt
-
-are-erasure-probabilities-requires : tie.Need-are-erasure-probabilities-requires
-are-erasure-probabilities-requires c κs = tt
-
-both-requires : tie.Need-both-requires
-both-requires c κs = tt
-
 returns : tie.Need-returns
 unfolding probabilitiesSound
 returns c = c .both .ensures ∙ (λ i. (c .before .before .are-probabilities .ensures) i && (c .before .are-erasure-probabilities .ensures) i)
 
 pub probabilities-sound-spec : {M : Type 1} → statement M
-probabilities-sound-spec =
-    tie.close
-    (tie.spec are-probabilities-requires are-erasure-probabilities-requires both-requires returns)
+probabilities-sound-spec = tie.close (tie.spec (λ c κs. tt) (λ c κs. tt) (λ c κs. tt) returns)

@@ -14,44 +14,9 @@ use Rattle.columns.proofs.questions.each_below.Reads as each-below-reads
 use Rattle.sampling_calls.proofs.doors.code_sound.Reads as code-sound-reads
 use Rattle.sampling_calls.proofs.doors.graph_long.Reads as graph-long-reads
 
-graph-long-requires : tie.Need-graph-long-requires
-graph-long-requires c κs = tt
-
-at-most-requires : tie.Need-at-most-requires
-at-most-requires c κs = tt
-
-code-sound-requires : tie.Need-code-sound-requires
-code-sound-requires c κs = tt
-
-each-below-requires : tie.Need-each-below-requires
-each-below-requires c κs = tt
-
-both-requires : tie.Need-both-requires
-both-requires c κs = tt
-
-asked-requires : tie.Need-asked-requires
-asked-requires c κs = tt
-
-asked-requires-2 : tie.Need-asked-requires-2
-asked-requires-2 c κs = tt
-
-asked-requires-3 : tie.Need-asked-requires-3
-asked-requires-3 c κs = tt
-
 returns : tie.Need-returns
 unfolding syndromeDoor
 returns c = c .asked3 .ensures ∙ (λ i. ask ((c .before .before .before .both .ensures ∙ (λ i. (c .before .before .before .before .before .before .before .graph-long .ensures) i && (c .before .before .before .before .before .before .at-most .ensures) i)) i) 6 ((c .before .asked2 .ensures ∙ (λ i. ask ((c .before .before .before .before .before .code-sound .ensures) i) 7 ((c .before .before .asked .ensures ∙ (λ i. ask ((c .before .before .before .before .each-below .ensures) i) 13 0)) i))) i))
 
 pub syndrome-door-spec : {M : Type 1} → statement M
-syndrome-door-spec =
-    tie.close
-    (tie.spec
-    graph-long-requires
-    at-most-requires
-    code-sound-requires
-    each-below-requires
-    both-requires
-    asked-requires
-    asked-requires-2
-    asked-requires-3
-    returns)
+syndrome-door-spec = tie.close (tie.spec (λ c κs. tt) (λ c κs. tt) (λ c κs. tt) (λ c κs. tt) (λ c κs. tt) (λ c κs. tt) (λ c κs. tt) (λ c κs. tt) returns)

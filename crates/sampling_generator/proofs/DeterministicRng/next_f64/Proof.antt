@@ -6,12 +6,6 @@ use Rattle.sampling_generator.specs.Random.{drawOf}
 use Rattle.sampling_generator.proofs.DeterministicRng.next_f64.Statement.{statement}
 use Rattle.sampling_generator.proofs.DeterministicRng.next_f64.Tie as tie
 
-next-u64-requires : tie.Need-next-u64-requires
-next-u64-requires c κs = tt
-
-nearest-u64-to-f64-requires : tie.Need-nearest-u64-to-f64-requires
-nearest-u64-to-f64-requires c κs = tt
-
 returns : tie.Need-returns
 unfolding drawOf
 returns c =
@@ -19,4 +13,4 @@ returns c =
     (ap (λ (x : Float). div binary64 x (ofBits binary64 0x4330000000000000)) (c .nearest-u64-to-f64 .ensures ∙ ap (λ (w : ℕ). ofInt binary64 (pos (w / 4096))) (next .ensures .0)), next .ensures .1)
 
 pub next-f64-spec : {M : Type 1} → statement M
-next-f64-spec = tie.close (tie.spec next-u64-requires nearest-u64-to-f64-requires returns)
+next-f64-spec = tie.close (tie.spec (λ c κs. tt) (λ c κs. tt) returns)

@@ -13,24 +13,6 @@ use borrow.Author.Needs.{needs}
 use Rattle.sanity_calls.proofs.fill.fill_vertices.Statement.{statement}
 use Rattle.sanity_calls.proofs.fill.fill_vertices.Tie as tie
 
-fill-door-requires : tie.Need-fill-door-requires
-fill-door-requires c κs = tt
-
-fill-f64-requires : tie.Need-fill-f64-requires
-fill-f64-requires c κs = tt
-
-fill-f64-requires-2 : tie.Need-fill-f64-requires-2
-fill-f64-requires-2 c κs = tt
-
-fill-f64-requires-3 : tie.Need-fill-f64-requires-3
-fill-f64-requires-3 c κs = tt
-
-fill-u8-requires : tie.Need-fill-u8-requires
-fill-u8-requires c κs = tt
-
-fill-u8-requires-2 : tie.Need-fill-u8-requires-2
-fill-u8-requires-2 c κs = tt
-
 write-lists-requires : tie.Need-write-lists-requires
 write-lists-requires c κs =
     let s = c .before .before .before .before .before .before .before .before .before .before .before .before .before .before .before .before .before .before .before .before .before .before .before .before .before .before .before .before .before .before .before .before .before .before .before .before .before .before .before .before .args in
@@ -88,30 +70,6 @@ returns c =
       numbers-left = w .1 ∙ sym (after-accepted q (lists a b e v) (s .neighbor-numbers .now) z);
     }
 
-done-of-requires : tie.Need-done-of-requires
-done-of-requires c κs = tt
-
-same-length-8 : tie.Need-same-length-8
-same-length-8 c = search needs
-
-same-length-9 : tie.Need-same-length-9
-same-length-9 c = search needs
-
-same-length-10 : tie.Need-same-length-10
-same-length-10 c = search needs
-
-same-length-11 : tie.Need-same-length-11
-same-length-11 c = search needs
-
-same-length-12 : tie.Need-same-length-12
-same-length-12 c = search needs
-
-same-length-13 : tie.Need-same-length-13
-same-length-13 c = search needs
-
-same-length-14 : tie.Need-same-length-14
-same-length-14 c = search needs
-
 returns-2 : tie.Need-returns-2
 returns-2 c =
     let s = c .before .before .before .before .before .before .before .before .before .before .before .before .before .before .before .before .before .before .before .args in
@@ -135,30 +93,4 @@ returns-2 c =
     }
 
 pub fill-vertices-spec : {M : Type 1} → statement M
-fill-vertices-spec =
-    tie.close
-    (tie.spec
-    fill-door-requires
-    fill-f64-requires
-    fill-f64-requires-2
-    fill-f64-requires-3
-    fill-u8-requires
-    fill-u8-requires-2
-    write-lists-requires
-    same-length
-    same-length-2
-    same-length-3
-    same-length-4
-    same-length-5
-    same-length-6
-    same-length-7
-    returns
-    done-of-requires
-    same-length-8
-    same-length-9
-    same-length-10
-    same-length-11
-    same-length-12
-    same-length-13
-    same-length-14
-    returns-2)
+fill-vertices-spec = tie.close (tie.spec (λ c κs. tt) (λ c κs. tt) (λ c κs. tt) (λ c κs. tt) (λ c κs. tt) (λ c κs. tt) write-lists-requires same-length same-length-2 same-length-3 same-length-4 same-length-5 same-length-6 same-length-7 returns (λ c κs. tt) (λ c. search needs) (λ c. search needs) (λ c. search needs) (λ c. search needs) (λ c. search needs) (λ c. search needs) (λ c. search needs) returns-2)

@@ -4,9 +4,6 @@ use borrow.Author.Needs.{needs}
 use Rattle.sanity_calls.proofs.fill.write_lists.Statement.{statement}
 use Rattle.sanity_calls.proofs.fill.write_lists.Tie as tie
 
-slice-aggregate-fill-lists : tie.Need-slice-aggregate-fill-lists
-slice-aggregate-fill-lists c = search needs
-
 fill-lists-requires : tie.Need-fill-lists-requires
 fill-lists-requires c κs =
     let p = c .before .before .before .before .before .before .before .pre in
@@ -18,10 +15,5 @@ same-length c = c .before .before .before .before .list-lengths .given
 same-length-2 : tie.Need-same-length-2
 same-length-2 c = c .before .before .neighbor-numbers .given
 
-returns : tie.Need-returns
-returns c = search needs
-
 pub write-lists-spec : {M : Type 1} → statement M
-write-lists-spec =
-    tie.close
-    (tie.spec slice-aggregate-fill-lists fill-lists-requires same-length same-length-2 returns)
+write-lists-spec = tie.close (tie.spec (λ c. search needs) fill-lists-requires same-length same-length-2 (λ c. search needs))

@@ -16,20 +16,11 @@ Inv-loop lengths n room m left₀ i₀ left i = (i ≤ m) × (m ≡ min n (lengt
 abbrev μ-loop : tie.MeasureT-loop
 μ-loop lengths n room m left₀ i₀ left i = m - i
 
-lesser-requires : tie.Need-lesser-requires Inv-loop μ-loop
-lesser-requires c κs = tt
-
 loop-holds : tie.Need-loop-holds Inv-loop μ-loop
 loop-holds c = (omega arith, c .lesser .ensures, omega (arith, total-none (c .before .before .args .lengths .now)))
 
-mul-wide : tie.Need-mul-wide Inv-loop μ-loop
-mul-wide c = search needs
-
 shared-slice-read-wide : tie.Need-shared-slice-read-wide Inv-loop μ-loop
 shared-slice-read-wide c = omega (arith, c .before .before .loop .inv .1)
-
-wide-requires : tie.Need-wide-requires Inv-loop μ-loop
-wide-requires c κs = tt
 
 returns : tie.Need-returns Inv-loop μ-loop
 returns c =
@@ -39,9 +30,6 @@ returns c =
 
 add-i : tie.Need-add-i Inv-loop μ-loop
 add-i c = omega (arith, c .before .before .before .before .loop .inv .1)
-
-loop-less : tie.Need-loop-less Inv-loop μ-loop
-loop-less c = search needs
 
 loop-again : tie.Need-loop-again Inv-loop μ-loop
 loop-again c =
@@ -56,18 +44,4 @@ returns-2 c =
     sym (le-leb (total (take (s .n) (s .lengths .now))) (s .room) (omega (arith, l .inv .2, total-end (s .lengths .now) (s .n) (l .i) (omega (arith, l .inv .1)) (omega (arith, l .inv .1)))))
 
 pub lists-fit-spec : {M : Type 1} → statement M
-lists-fit-spec =
-    tie.close
-    (tie.spec
-    Inv-loop
-    μ-loop
-    lesser-requires
-    loop-holds
-    mul-wide
-    shared-slice-read-wide
-    wide-requires
-    returns
-    add-i
-    loop-less
-    loop-again
-    returns-2)
+lists-fit-spec = tie.close (tie.spec Inv-loop μ-loop (λ c κs. tt) loop-holds (λ c. search needs) shared-slice-read-wide (λ c κs. tt) returns add-i (λ c. search needs) loop-again returns-2)

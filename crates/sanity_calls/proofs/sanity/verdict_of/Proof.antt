@@ -16,27 +16,10 @@ returns-2 c =
     let s = c .before .before .before .before .before .before .args in
     no-edge (s .vertex-num) (s .edge-num) (s .ends-a .now) (s .ends-b .now) (s .list-lengths .now) (s .neighbor-numbers .now) (c .before .if1 .left) (c .if2 .taken)
 
-duplicates-requires : tie.Need-duplicates-requires
-duplicates-requires c κs = search needs
-
-vertices-checked-requires : tie.Need-vertices-checked-requires
-vertices-checked-requires c κs = search needs
-
-or-else-requires : tie.Need-or-else-requires
-or-else-requires c κs = tt
-
 returns-3 : tie.Need-returns-3
 returns-3 c =
     let s = c .before .before .before .before .before .before .before .before .before .args in
     c .or-else .ensures ∙ (λ i. orElse (c .before .before .duplicates .ensures i) (c .before .vertices-checked .ensures i)) ∙ scanned (s .vertex-num) (s .edge-num) (s .ends-a .now) (s .ends-b .now) (s .list-lengths .now) (s .neighbor-numbers .now) (c .before .before .before .before .if1 .left) (c .before .before .before .if2 .left)
 
 pub verdict-of-spec : {M : Type 1} → statement M
-verdict-of-spec =
-    tie.close
-    (tie.spec
-    returns
-    returns-2
-    duplicates-requires
-    vertices-checked-requires
-    or-else-requires
-    returns-3)
+verdict-of-spec = tie.close (tie.spec returns returns-2 (λ c κs. search needs) (λ c κs. search needs) (λ c κs. tt) returns-3)

@@ -38,9 +38,6 @@ add-is-hex-digit c = omega arith
 shared-slice-read-is-hex-digit : tie.Need-shared-slice-read-is-hex-digit Inv-loop μ-loop
 shared-slice-read-is-hex-digit c = omega arith
 
-is-hex-digit-requires : tie.Need-is-hex-digit-requires Inv-loop μ-loop
-is-hex-digit-requires c κs = tt
-
 returns : tie.Need-returns Inv-loop μ-loop
 returns c =
     let s = c .before .before .before .before .before .before .args in
@@ -68,17 +65,4 @@ returns-2 c =
     sym (ap (λ (k : ℕ). all isHexDigit (take k (drop (s .at) (s .text .now)))) (sixteen (l .i) (omega arith) (omega arith)) ∙ l .inv .1)
 
 pub are-hex-spec : {M : Type 1} → statement M
-are-hex-spec =
-    tie.close
-    (tie.spec
-    Inv-loop
-    μ-loop
-    loop-holds
-    add-is-hex-digit
-    shared-slice-read-is-hex-digit
-    is-hex-digit-requires
-    returns
-    add-i
-    loop-less
-    loop-again
-    returns-2)
+are-hex-spec = tie.close (tie.spec Inv-loop μ-loop loop-holds add-is-hex-digit shared-slice-read-is-hex-digit (λ c κs. tt) returns add-i loop-less loop-again returns-2)

@@ -16,27 +16,6 @@ use borrow.Author.Needs.{needs}
 use Rattle.text_input.proofs.fields.decimal_sound.Statement.{statement}
 use Rattle.text_input.proofs.fields.decimal_sound.Tie as tie
 
-both-requires : tie.Need-both-requires
-both-requires c κs = tt
-
-byte-at-requires : tie.Need-byte-at-requires
-byte-at-requires c κs = tt
-
-no-leading-zero-requires : tie.Need-no-leading-zero-requires
-no-leading-zero-requires c κs = tt
-
-add-byte-at : tie.Need-add-byte-at
-add-byte-at c = search needs
-
-byte-at-requires-2 : tie.Need-byte-at-requires-2
-byte-at-requires-2 c κs = tt
-
-both-requires-2 : tie.Need-both-requires-2
-both-requires-2 c κs = tt
-
-both-requires-3 : tie.Need-both-requires-3
-both-requires-3 c κs = tt
-
 returns : tie.Need-returns
 unfolding decimalSound
 returns c =
@@ -52,14 +31,4 @@ returns c =
     c .both3 .ensures ∙ (λ k. few k && rest k)
 
 pub decimal-sound-spec : {M : Type 1} → statement M
-decimal-sound-spec =
-    tie.close
-    (tie.spec
-    both-requires
-    byte-at-requires
-    no-leading-zero-requires
-    add-byte-at
-    byte-at-requires-2
-    both-requires-2
-    both-requires-3
-    returns)
+decimal-sound-spec = tie.close (tie.spec (λ c κs. tt) (λ c κs. tt) (λ c κs. tt) (λ c. search needs) (λ c κs. tt) (λ c κs. tt) (λ c κs. tt) returns)

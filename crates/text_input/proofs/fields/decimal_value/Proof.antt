@@ -36,9 +36,6 @@ add-digit-of c = omega (arith, c .before .before .before .pre .1, length-drop (c
 shared-slice-read-digit-of : tie.Need-shared-slice-read-digit-of Inv-loop μ-loop
 shared-slice-read-digit-of c = omega (arith, c .before .before .before .before .pre .1, length-drop (c .before .before .before .before .args .at) (c .before .before .before .before .args .text .now))
 
-digit-of-requires : tie.Need-digit-of-requires Inv-loop μ-loop
-digit-of-requires c κs = tt
-
 add-v : tie.Need-add-v Inv-loop μ-loop
 add-v c = omega (arith, c .before .before .before .loop .inv .1, decimal-small (drop (c .before .before .before .before .before .args .at) (c .before .before .before .before .before .args .text .now)) ((c .before .before .before .loop .i) + 1) (omega (arith, c .before .before .before .before .before .pre .0, c .before .before .before .before .before .pre .2)) (omega (arith, c .before .before .before .before .before .pre .0, c .before .before .before .before .before .pre .2)), number-more 10 digitOf (drop (c .before .before .before .before .before .args .at) (c .before .before .before .before .before .args .text .now)) (c .before .before .before .loop .i) (omega (arith, c .before .before .before .before .before .pre .1, length-drop (c .before .before .before .before .before .args .at) (c .before .before .before .before .before .args .text .now))), c .digit-of .ensures, ap digitOf (getD-drop (c .before .before .before .before .before .args .at) (c .before .before .before .before .before .args .text .now) (c .before .before .before .loop .i) 0))
 
@@ -55,18 +52,4 @@ returns : tie.Need-returns Inv-loop μ-loop
 returns c = c .before .loop .inv .1 ∙ ap (λ (k : ℕ). number 10 digitOf 0 (take k (drop (c .before .before .before .args .at) (c .before .before .before .args .text .now)))) (same (c .before .loop .i) (c .before .before .before .args .n) (omega arith) (omega arith))
 
 pub decimal-value-spec : {M : Type 1} → statement M
-decimal-value-spec =
-    tie.close
-    (tie.spec
-    Inv-loop
-    μ-loop
-    loop-holds
-    mul-v
-    add-digit-of
-    shared-slice-read-digit-of
-    digit-of-requires
-    add-v
-    add-i
-    loop-less
-    loop-again
-    returns)
+decimal-value-spec = tie.close (tie.spec Inv-loop μ-loop loop-holds mul-v add-digit-of shared-slice-read-digit-of (λ c κs. tt) add-v add-i loop-less loop-again returns)

@@ -33,9 +33,6 @@ add-is-digit c = omega arith
 shared-slice-read-is-digit : tie.Need-shared-slice-read-is-digit Inv-loop μ-loop
 shared-slice-read-is-digit c = omega arith
 
-is-digit-requires : tie.Need-is-digit-requires Inv-loop μ-loop
-is-digit-requires c κs = tt
-
 returns : tie.Need-returns Inv-loop μ-loop
 returns c = (seen-stop (c .before .before .before .before .before .before .args .text .now) (c .before .before .before .before .before .before .args .at) (c .before .before .before .before .loop .n) (c .before .before .before .loop-test .taken) (sym (c .before .is-digit .ensures) ∙ not-true _ (c .if1 .taken)) (c .before .before .before .before .loop .inv .1), omega arith)
 
@@ -55,18 +52,4 @@ returns-2 c =
     (e, omega (arith, e, digits-within (drop (s .at) (s .text .now)), length-drop (s .at) (s .text .now)))
 
 pub digits-at-spec : {M : Type 1} → statement M
-digits-at-spec =
-    tie.close
-    (tie.spec
-    Inv-loop
-    μ-loop
-    loop-holds
-    add-loop
-    add-is-digit
-    shared-slice-read-is-digit
-    is-digit-requires
-    returns
-    add-n
-    loop-less
-    loop-again
-    returns-2)
+digits-at-spec = tie.close (tie.spec Inv-loop μ-loop loop-holds add-loop add-is-digit shared-slice-read-is-digit (λ c κs. tt) returns add-n loop-less loop-again returns-2)

@@ -16,12 +16,6 @@ use borrow.Author.Needs.{needs}
 use Rattle.text_input.proofs.fields.hex_digit_of.Statement.{statement}
 use Rattle.text_input.proofs.fields.hex_digit_of.Tie as tie
 
-digit-of-requires : tie.Need-digit-of-requires
-digit-of-requires c κs = tt
-
-cast-result : tie.Need-cast-result
-cast-result c = search needs
-
 returns : tie.Need-returns
 returns c = c .digit-of .ensures ∙ sym (ap (λ (t : Bool). cond t (c .before .before .args .b - 0x30) (c .before .before .args .b - 0x57)) (le-leb (c .before .before .args .b) 0x39 (c .before .if1 .taken)))
 
@@ -30,12 +24,8 @@ returns-2 c =
     let e : c .before .before .args .b - 0x57 ≡ 0 = omega arith in
     sym (ap (λ (t : Bool). cond t (c .before .before .args .b - 0x30) (c .before .before .args .b - 0x57)) (lt-leb (c .before .before .args .b) 0x39 (omega arith)) ∙ e)
 
-cast-result-2 : tie.Need-cast-result-2
-cast-result-2 c = search needs
-
 returns-3 : tie.Need-returns-3
 returns-3 c = sym (ap (λ (t : Bool). cond t (c .before .before .args .b - 0x30) (c .before .before .args .b - 0x57)) (lt-leb (c .before .before .args .b) 0x39 (omega arith)))
 
 pub hex-digit-of-spec : {M : Type 1} → statement M
-hex-digit-of-spec =
-    tie.close (tie.spec digit-of-requires cast-result returns returns-2 cast-result-2 returns-3)
+hex-digit-of-spec = tie.close (tie.spec (λ c κs. tt) (λ c. search needs) returns returns-2 (λ c. search needs) returns-3)

@@ -14,27 +14,12 @@ use borrow.Author.Needs.{needs}
 use Rattle.text_input.proofs.fields.hex_sound.Statement.{statement}
 use Rattle.text_input.proofs.fields.hex_sound.Tie as tie
 
-add-if1 : tie.Need-add-if1
-add-if1 c = search needs
-
 returns : tie.Need-returns
 unfolding hexSound
 returns c =
     let s = c .before .before .args in
     let t : List ℕ = drop (s .at) (s .text .now) in
     sym (ap (λ (b : Bool). (b && all isHexDigit (take 16 t)) && eqb (getD t 16 0) comma) (lt-leb 16 (length t) (omega (arith, length-drop (s .at) (s .text .now)))))
-
-are-hex-requires : tie.Need-are-hex-requires
-are-hex-requires c κs = search needs
-
-add-byte-at : tie.Need-add-byte-at
-add-byte-at c = search needs
-
-byte-at-requires : tie.Need-byte-at-requires
-byte-at-requires c κs = tt
-
-both-requires : tie.Need-both-requires
-both-requires c κs = tt
 
 returns-2 : tie.Need-returns-2
 unfolding hexSound
@@ -46,13 +31,4 @@ returns-2 c =
     c .both .ensures ∙ (λ k. are k && eqb (last k) comma)
 
 pub hex-sound-spec : {M : Type 1} → statement M
-hex-sound-spec =
-    tie.close
-    (tie.spec
-    add-if1
-    returns
-    are-hex-requires
-    add-byte-at
-    byte-at-requires
-    both-requires
-    returns-2)
+hex-sound-spec = tie.close (tie.spec (λ c. search needs) returns (λ c κs. search needs) (λ c. search needs) (λ c κs. tt) (λ c κs. tt) returns-2)

@@ -36,9 +36,6 @@ add-hex-digit-of c = omega (arith, c .before .before .before .pre .0, length-dro
 shared-slice-read-hex-digit-of : tie.Need-shared-slice-read-hex-digit-of Inv-loop μ-loop
 shared-slice-read-hex-digit-of c = omega (arith, c .before .before .before .before .pre .0, length-drop (c .before .before .before .before .args .at) (c .before .before .before .before .args .text .now))
 
-hex-digit-of-requires : tie.Need-hex-digit-of-requires Inv-loop μ-loop
-hex-digit-of-requires c κs = tt
-
 add-v : tie.Need-add-v Inv-loop μ-loop
 add-v c = omega (arith, c .before .before .before .loop .inv .1, hex-small (drop (c .before .before .before .before .before .args .at) (c .before .before .before .before .before .args .text .now)) ((c .before .before .before .loop .i) + 1) (c .before .before .before .before .before .pre .1) (omega arith), number-more 16 hexDigitOf (drop (c .before .before .before .before .before .args .at) (c .before .before .before .before .before .args .text .now)) (c .before .before .before .loop .i) (omega (arith, c .before .before .before .before .before .pre .0, length-drop (c .before .before .before .before .before .args .at) (c .before .before .before .before .before .args .text .now))), c .hex-digit-of .ensures, ap hexDigitOf (getD-drop (c .before .before .before .before .before .args .at) (c .before .before .before .before .before .args .text .now) (c .before .before .before .loop .i) 0))
 
@@ -55,18 +52,4 @@ returns : tie.Need-returns Inv-loop μ-loop
 returns c = c .before .loop .inv .1 ∙ ap (λ (k : ℕ). number 16 hexDigitOf 0 (take k (drop (c .before .before .before .args .at) (c .before .before .before .args .text .now)))) (same (c .before .loop .i) 16 (omega arith) (omega arith))
 
 pub hex-value-spec : {M : Type 1} → statement M
-hex-value-spec =
-    tie.close
-    (tie.spec
-    Inv-loop
-    μ-loop
-    loop-holds
-    mul-v
-    add-hex-digit-of
-    shared-slice-read-hex-digit-of
-    hex-digit-of-requires
-    add-v
-    add-i
-    loop-less
-    loop-again
-    returns)
+hex-value-spec = tie.close (tie.spec Inv-loop μ-loop loop-holds mul-v add-hex-digit-of shared-slice-read-hex-digit-of (λ c κs. tt) add-v add-i loop-less loop-again returns)

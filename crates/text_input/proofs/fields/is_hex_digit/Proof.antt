@@ -15,17 +15,8 @@ use Rattle.text_input.proofs.Runs.{digits-within, seen-none, seen-next,
 use Rattle.text_input.proofs.fields.is_hex_digit.Statement.{statement}
 use Rattle.text_input.proofs.fields.is_hex_digit.Tie as tie
 
-is-digit-requires : tie.Need-is-digit-requires
-is-digit-requires c κs = tt
-
-both-requires : tie.Need-both-requires
-both-requires c κs = tt
-
-either-requires : tie.Need-either-requires
-either-requires c κs = tt
-
 returns : tie.Need-returns
 returns c = c .either .ensures ∙ (λ k. (c .before .before .is-digit .ensures k) || (c .before .both .ensures k))
 
 pub is-hex-digit-spec : {M : Type 1} → statement M
-is-hex-digit-spec = tie.close (tie.spec is-digit-requires both-requires either-requires returns)
+is-hex-digit-spec = tie.close (tie.spec (λ c κs. tt) (λ c κs. tt) (λ c κs. tt) returns)

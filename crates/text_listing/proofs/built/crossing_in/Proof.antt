@@ -4,15 +4,6 @@ use borrow.Author.Needs.{needs}
 use Rattle.text_listing.proofs.built.crossing_in.Statement.{statement}
 use Rattle.text_listing.proofs.built.crossing_in.Tie as tie
 
-slice-aggregate-crossing : tie.Need-slice-aggregate-crossing
-slice-aggregate-crossing c = search needs
-
-slice-aggregate-crossing-2 : tie.Need-slice-aggregate-crossing-2
-slice-aggregate-crossing-2 c = search needs
-
-crossing-requires : tie.Need-crossing-requires
-crossing-requires c κs = tt
-
 same-length : tie.Need-same-length
 same-length c = c .before .before .before .before .before .before .before .before .before .before .before .before .before .before .out-weight .given
 
@@ -43,18 +34,4 @@ returns c =
     replied (s .kind) (s .d) (s .rounds) (s .probability) (s .max-half-weight) (s .v) (s .e) (s .ends-a .now) (s .ends-b .now) (s .weights .now) (s .boundary .now) (c .before .before .before .before .before .before .before .before .before .before .before .before .before .before .before .before .before .before .before .before .before .before .before .before .before .before .before .before .before .before .before .before .before .before .before .before .before .pre .0) _ _ _ _ _ _ _ _ _ _ (c .before .before .before .before .before .before .before .before .before .before .before .before .before .before .before .crossing .result) (c .before .before .before .before .before .before .before .before .before .before .before .before .before .before .before .before .before .before .before .before .before .before .before .before .before .before .before .before .before .before .before .before .before .before .before .before .before .pre .1) (c .before .before .before .before .before .before .before .before .before .before .before .before .before .before .before .crossing .ensures .0 .answer)
 
 pub crossing-in-spec : {M : Type 1} → statement M
-crossing-in-spec =
-    tie.close
-    (tie.spec
-    slice-aggregate-crossing
-    slice-aggregate-crossing-2
-    crossing-requires
-    same-length
-    same-length-2
-    same-length-3
-    same-length-4
-    same-length-5
-    same-length-6
-    same-length-7
-    same-length-8
-    returns)
+crossing-in-spec = tie.close (tie.spec (λ c. search needs) (λ c. search needs) (λ c κs. tt) same-length same-length-2 same-length-3 same-length-4 same-length-5 same-length-6 same-length-7 same-length-8 returns)

@@ -4,18 +4,6 @@ use borrow.Author.Needs.{needs}
 use Rattle.text_listing.proofs.built.write_reply.Statement.{statement}
 use Rattle.text_listing.proofs.built.write_reply.Tie as tie
 
-enum-known-reply : tie.Need-enum-known-reply
-enum-known-reply c = search needs
-
-write-refusal-requires : tie.Need-write-refusal-requires
-write-refusal-requires c κs = tt
-
-enum-known-reply-2 : tie.Need-enum-known-reply-2
-enum-known-reply-2 c = search needs
-
-write-listing-requires : tie.Need-write-listing-requires
-write-listing-requires c κs = search needs
-
 same-length : tie.Need-same-length
 same-length c = c .before .text .given
 
@@ -33,14 +21,4 @@ returns-2 c =
     crossed-reply _ _ _ _ _ _ _ _ _ (s .reply) _ (c .before .before .write-listing .ensures) (let t = c .before .before .before .before .before .reply2 .given in let u = c .before .before .before .before .known-told2 .given in cc)
 
 pub write-reply-spec : {M : Type 1} → statement M
-write-reply-spec =
-    tie.close
-    (tie.spec
-    enum-known-reply
-    write-refusal-requires
-    enum-known-reply-2
-    write-listing-requires
-    same-length
-    returns
-    same-length-2
-    returns-2)
+write-reply-spec = tie.close (tie.spec (λ c. search needs) (λ c κs. tt) (λ c. search needs) (λ c κs. search needs) same-length returns same-length-2 returns-2)

@@ -36,12 +36,4 @@ returns c =
     listed-reply _ _ _ _ _ _ _ _ _ (c .before .before .before .before .before .crossing-of .result) _ _ (holds-weights _ _ _ _ _ _ _ _ _ _ _ h _ _ (c .before .before .before .before .before .before .before .before .before .store-weights .ensures)) (c .before .before .before .before .before .crossing-of .ensures) (c .before .before .write-reply .ensures)
 
 pub write-weighed-spec : {M : Type 1} → statement M
-write-weighed-spec =
-    tie.close
-    (tie.spec
-    store-weights-requires
-    crossing-of-requires
-    write-reply-requires
-    same-length
-    same-length-2
-    returns)
+write-weighed-spec = tie.close (tie.spec store-weights-requires crossing-of-requires write-reply-requires same-length same-length-2 returns)

@@ -13,32 +13,11 @@ use Rattle.weights_calls.proofs.known.find.Tie as tie
 held : (c : tie.Start) → T (fits binary64 (c .args .p))
 held c = subst T (sym (c .good .0 .1)) tt
 
-place-of-requires : tie.Need-place-of-requires
-place-of-requires c κs = tt
-
-mul-if1 : tie.Need-mul-if1
-mul-if1 c = search needs
-
-shared-slice-read-if1 : tie.Need-shared-slice-read-if1
-shared-slice-read-if1 c = search needs
-
 returns : tie.Need-returns
 returns c =
     let s = c .before .before .before .before in
     let k = c .before .before .place-of .result in
     λ h. sym (equal-weights (s .args .p) (getD (s .args .known-p .now) k nan) (held s) (c .before .shared-slice-known2 .given k) (c .if1 .taken))
-
-add-if2 : tie.Need-add-if2
-add-if2 c = search needs
-
-mul-if2 : tie.Need-mul-if2
-mul-if2 c = search needs
-
-shared-slice-read-if2 : tie.Need-shared-slice-read-if2
-shared-slice-read-if2 c = search needs
-
-add-result : tie.Need-add-result
-add-result c = search needs
 
 returns-2 : tie.Need-returns-2
 returns-2 c =
@@ -50,16 +29,4 @@ returns-3 : tie.Need-returns-3
 returns-3 c = λ h. absurd (omega arith)
 
 pub find-spec : {M : Type 1} → statement M
-find-spec =
-    tie.close
-    (tie.spec
-    place-of-requires
-    mul-if1
-    shared-slice-read-if1
-    returns
-    add-if2
-    mul-if2
-    shared-slice-read-if2
-    add-result
-    returns-2
-    returns-3)
+find-spec = tie.close (tie.spec (λ c κs. tt) (λ c. search needs) (λ c. search needs) returns (λ c. search needs) (λ c. search needs) (λ c. search needs) (λ c. search needs) returns-2 returns-3)

@@ -5,16 +5,10 @@ use Rattle.weights_recipe.specs.Rounding.{halfWeight}
 use Rattle.weights_calls.proofs.known.half_weight_of.Statement.{statement}
 use Rattle.weights_calls.proofs.known.half_weight_of.Tie as tie
 
-edge-weight-requires : tie.Need-edge-weight-requires
-edge-weight-requires c κs = tt
-
-half-weight-requires : tie.Need-half-weight-requires
-half-weight-requires c κs = tt
-
 returns : tie.Need-returns
 returns c =
     let s = c .before .before .args in
     c .half-weight .ensures ∙ ap (λ (w : Float). halfWeight (s .max-half-weight) w (s .largest)) (c .before .edge-weight .ensures)
 
 pub half-weight-of-spec : {M : Type 1} → statement M
-half-weight-of-spec = tie.close (tie.spec edge-weight-requires half-weight-requires returns)
+half-weight-of-spec = tie.close (tie.spec (λ c κs. tt) (λ c κs. tt) returns)

@@ -7,14 +7,5 @@ use Rattle.weights_calls.proofs.known.place_of.Tie as tie
 float-to-bits-bits : tie.Need-float-to-bits-bits
 float-to-bits-bits c = equal-no-nan _ _ (c .if1 .taken)
 
-mul-result : tie.Need-mul-result
-mul-result c = search needs
-
-returns : tie.Need-returns
-returns c = search needs
-
-returns-2 : tie.Need-returns-2
-returns-2 c = search needs
-
 pub place-of-spec : {M : Type 1} → statement M
-place-of-spec = tie.close (tie.spec float-to-bits-bits mul-result returns returns-2)
+place-of-spec = tie.close (tie.spec float-to-bits-bits (λ c. search needs) (λ c. search needs) (λ c. search needs))

@@ -31,12 +31,6 @@ loop-less c = omega arith
 loop-again : tie.Need-loop-again Inv-loop μ-loop
 loop-again c = (omega arith, turn (c .before .before .loop .k) (c .before .before .loop .q) (c .before .loop-test .taken) (c .if2 .left) ∙ c .before .before .loop .inv .1)
 
-sum-series-requires : tie.Need-sum-series-requires Inv-loop μ-loop
-sum-series-requires c κs = tt
-
-int-to-float-result : tie.Need-int-to-float-result Inv-loop μ-loop
-int-to-float-result c = search needs
-
 returns-2 : tie.Need-returns-2 Inv-loop μ-loop
 returns-2 c =
     let at-loop = c .before .before .before in
@@ -47,16 +41,4 @@ returns-2 c =
     last-line k q (c .before .sum-series .result) (c .before .sum-series .ensures) ∙ past-zero (at-loop .before .before .args .p) (ended k q) (at-loop .before .if1 .left) (is ∙ at-loop .loop .inv .1)
 
 pub edge-weight-spec : {M : Type 1} → statement M
-edge-weight-spec =
-    tie.close
-    (tie.spec
-    Inv-loop
-    μ-loop
-    returns
-    loop-holds
-    add-k
-    loop-less
-    loop-again
-    sum-series-requires
-    int-to-float-result
-    returns-2)
+edge-weight-spec = tie.close (tie.spec Inv-loop μ-loop returns loop-holds add-k loop-less loop-again (λ c κs. tt) (λ c. search needs) returns-2)

@@ -40,9 +40,6 @@ mul-h c = omega arith
 add-h : tie.Need-add-h Inv-loop μ-loop
 add-h c = omega arith
 
-int-to-float-h : tie.Need-int-to-float-h Inv-loop μ-loop
-int-to-float-h c = search needs
-
 loop-less : tie.Need-loop-less Inv-loop μ-loop
 loop-less c = omega arith
 
@@ -53,16 +50,4 @@ returns : tie.Need-returns Inv-loop μ-loop
 returns c = sym (end _ _ _ (c .loop-test .left)) ∙ c .before .loop .inv .1
 
 pub sum-series-spec : {M : Type 1} → statement M
-sum-series-spec =
-    tie.close
-    (tie.spec
-    Inv-loop
-    μ-loop
-    loop-holds
-    sub-n
-    mul-h
-    add-h
-    int-to-float-h
-    loop-less
-    loop-again
-    returns)
+sum-series-spec = tie.close (tie.spec Inv-loop μ-loop loop-holds sub-n mul-h add-h (λ c. search needs) loop-less loop-again returns)

@@ -23,9 +23,6 @@ no-more v max n e = omega (arith, greatest-within v max)
 int-to-float-greatest-reached : tie.Need-int-to-float-greatest-reached
 int-to-float-greatest-reached c = fits-float _ (omega arith)
 
-greatest-reached-requires : tie.Need-greatest-reached-requires
-greatest-reached-requires c κs = search needs
-
 cast-result : tie.Need-cast-result
 cast-result c = omega (arith, no-more _ (c .before .before .before .args .max-half-weight) _ (c .before .greatest-reached .ensures))
 
@@ -38,5 +35,4 @@ unfolding halfWeight scaled
 returns-2 c = self (c .before .greatest-reached .result) (c .if1 .left) ∙ ap atLeastOne (c .before .greatest-reached .ensures)
 
 pub half-weight-spec : {M : Type 1} → statement M
-half-weight-spec =
-    tie.close (tie.spec int-to-float-greatest-reached greatest-reached-requires cast-result returns returns-2)
+half-weight-spec = tie.close (tie.spec int-to-float-greatest-reached (λ c κs. search needs) cast-result returns returns-2)

@@ -10,18 +10,5 @@ truncating-f64-to-u64-requires : tie.Need-truncating-f64-to-u64-requires
 unfolding ofBits neg
 truncating-f64-to-u64-requires c κs = (subst T (sym (c .before .if1 .taken)) tt, subst T (sym (c .if2 .taken)) tt)
 
-returns : tie.Need-returns
-returns c = search needs
-
-returns-2 : tie.Need-returns-2
-returns-2 c = search needs
-
-returns-3 : tie.Need-returns-3
-returns-3 c = search needs
-
-returns-4 : tie.Need-returns-4
-returns-4 c = search needs
-
 pub near-spec : {M : Type 1} → statement M
-near-spec =
-    tie.close (tie.spec truncating-f64-to-u64-requires returns returns-2 returns-3 returns-4)
+near-spec = tie.close (tie.spec truncating-f64-to-u64-requires (λ c. search needs) (λ c. search needs) (λ c. search needs) (λ c. search needs))

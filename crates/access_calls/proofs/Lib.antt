@@ -3,3 +3,5 @@
 -- Theorems: what a getter lists after a setter.
 pub mod Doors
 pub mod Theorems
+-- Filling: what an accepted fill_vertices says.
+pub mod Filling

@@ -1,8 +1,10 @@
 // Getters and setters of a code's columns.
-pub use access_positions::get_positions;
+pub mod fill;
+
 pub use access_vertices::Truth;
 pub use access_vertices::is_defect;
 pub use access_vertices::is_virtual;
+pub use access_vertices::positions::get_positions;
 use access_weights::store_weights;
 use columns::Done;
 use columns::Weight;

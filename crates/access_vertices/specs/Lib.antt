@@ -1,2 +1,4 @@
 -- Marked: what is_virtual and is_defect answer.
 pub mod Marked
+-- Positions: what get_positions asks and leaves.
+pub mod Positions

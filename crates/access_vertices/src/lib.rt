@@ -1,4 +1,6 @@
 // Whether a vertex is virtual, or a defect.
+pub mod positions;
+
 use columns::VertexIndex;
 use columns::questions::asked;
 use columns::questions::at_most;

@@ -1,6 +1,6 @@
 ghost use Rattle.c_reports.specs.Reports.{Reported, ReportsDone};
 ghost use Rattle.c_codes.specs.Reports.{ReportsCounts, ReportsList, ReportsTruth};
-ghost use Rattle.access_positions.specs.Positions.{positions, GotPositions};
+ghost use Rattle.access_vertices.specs.Positions.{positions, GotPositions};
 ghost use Rattle.access_calls.specs.Calls.{code, initializer, GotInitializer, SetMarks, syndrome, SetSyndrome, GotMarks, GotSyndrome};
 ghost use Rattle.access_vertices.specs.Marked.{IsMarked};
 ghost use Rattle.columns.specs.Questions.{vertexCountSound, edgeCountSound, boundariesSound, marksSound};

@@ -1,5 +1,5 @@
 ghost use Rattle.c_reports.specs.Reports.{Reported, ReportsDone};
-ghost use Rattle.sanity_calls.specs.Fill.{vertices, FilledVertices};
+ghost use Rattle.access_calls.specs.Fill.{vertices, FilledVertices};
 use c_reports::done_number;
 
 // New vertices for the edges: at position 0, inner, without defect, with their neighbour lists.
@@ -22,7 +22,7 @@ pub extern "C" fn moldingcress_fill_vertices(
         (vertices (now («pos_i» .exit)) (now («pos_j» .exit)) (now («pos_t» .exit)) (now (boundary .exit)) (now (defect .exit)) (now («list_lengths» .exit)) (now («neighbor_numbers» .exit)))
         r) q ⌝ }
 {
-    done_number(sanity_calls::fill::fill_vertices(
+    done_number(access_calls::fill::fill_vertices(
         vertex_num,
         edge_num,
         ends_a,

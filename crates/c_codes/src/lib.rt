@@ -6,3 +6,4 @@ mod filling;
 pub mod reports;
 mod sanity;
 mod weighing;
+pub mod weighted;

@@ -3,7 +3,7 @@ ghost use Rattle.c_codes.specs.Reports.{ReportsWeighed};
 ghost use Rattle.columns_answers.specs.Said.{Answered};
 ghost use Rattle.columns.specs.Places.{zeroFloat};
 ghost use Rattle.weights_calls.specs.Answers.{said};
-ghost use Rattle.weights_setters.specs.Calls.{SetEach};
+ghost use Rattle.weights_calls.specs.Setters.{SetEach};
 ghost use Rattle.weights_calls.specs.Calls.{weightDoor, ComputedWeights};
 ghost use Rattle.weights_recipe.specs.Logarithm.{edgeWeight};
 ghost use Rattle.weights_recipe.specs.Probabilities.{isProbability, isErasureProbability};

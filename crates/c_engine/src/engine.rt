@@ -1,10 +1,10 @@
 ghost use Rattle.c_reports.specs.Reports.{Reported};
-ghost use Rattle.c_answers.specs.Engine.{ReportsEngine};
+ghost use Rattle.c_reports.specs.Engine.{ReportsEngine};
 ghost use Rattle.engine_columns.specs.Open.{OpenStep, graphColumns};
 ghost use Rattle.engine_columns.specs.Records.{engine, kept, counts};
 ghost use Rattle.engine_columns.specs.Step.{Step, loadErasures, loadWeights, reset};
-use c_answers::engine::EngineReport;
-use c_answers::engine::engine_report;
+use c_reports::engine::EngineReport;
+use c_reports::engine::engine_report;
 use columns::Weight;
 use engine_columns::EngineCounts;
 

@@ -1,4 +1,7 @@
 // Answers as numbers and structs of numbers, for C.
+pub mod engine;
+pub mod errors;
+
 use columns::Done;
 ghost use Rattle.c_reports.specs.Reports.{ReportsDone};
 

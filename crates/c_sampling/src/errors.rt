@@ -1,15 +1,15 @@
 ghost use Rattle.c_reports.specs.Reports.{Reported, ReportsDone};
-ghost use Rattle.c_answers.specs.Errors.{ReportsFound, ReportsSyndrome};
+ghost use Rattle.c_reports.specs.Errors.{ReportsFound, ReportsSyndrome};
 ghost use Rattle.sampling_calls.specs.Errors.{GeneratedErrors};
 ghost use Rattle.sampling_clear.specs.Clear.{ClearedErrors};
 ghost use Rattle.sampling_calls.specs.Records.{codeGraph, syndromeColumns};
 ghost use Rattle.sampling_calls.specs.Sampling.{GeneratedRandomErrors};
 ghost use Rattle.sampling_calls.specs.Syndrome.{FoundSyndrome};
-use c_answers::errors::found_report;
-use c_answers::errors::syndrome_report;
 use c_reports::OneCount;
 use c_reports::TwoCounts;
 use c_reports::done_number;
+use c_reports::errors::found_report;
+use c_reports::errors::syndrome_report;
 
 // Two draws of the seeded generator for every edge: its erasure, then its error; standing defects are cleared first. Lists the defects and the erasures.
 #[no_mangle]

@@ -1,10 +1,10 @@
 ghost use Rattle.c_reports.specs.Reports.{Reported, ReportsDone};
-ghost use Rattle.c_answers.specs.Errors.{ReportsTranslated};
+ghost use Rattle.c_reports.specs.Errors.{ReportsTranslated};
 ghost use Rattle.reorder_calls.specs.Columns.{codeColumns, ReorderedVertices};
 ghost use Rattle.reorder_calls.specs.Numbers.{BuiltOldToNew, TranslatedDefects};
-use c_answers::errors::LongCount;
-use c_answers::errors::translated_report;
 use c_reports::done_number;
+use c_reports::errors::LongCount;
+use c_reports::errors::translated_report;
 
 // Stores the new number of each old vertex.
 #[no_mangle]

@@ -3,3 +3,11 @@ pub mod Filled
 pub mod Outcome
 pub mod Cases
 pub mod Examples
+-- TwoWeights: the largest of weights that are one of two. Distances: differences of coordinates, by computation. Positions: where the vertices of a
+-- code are. Diagonals: which edges of kind 4 are diagonal. Largest: the largest weight of a code. WeightedOutcome: accepted and refused.
+pub mod TwoWeights
+pub mod Distances
+pub mod Positions
+pub mod Diagonals
+pub mod Largest
+pub mod WeightedOutcome

@@ -1,5 +1,6 @@
 // The calls that build codes.
 pub mod create;
+pub mod weighted;
 
 use codes_questions::Count;
 ghost use Rattle.codes_questions.specs.Answers.{CountsVertices, CountsEdges};

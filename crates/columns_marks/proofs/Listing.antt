@@ -1,7 +1,7 @@
 -- Laws of the numbers below a count for which a test holds, and of listing the bytes that are set. Assumes nothing.
 use mathlib.Core.Path.{_≡_, refl, sym, ap, _∙_, subst}
-use mathlib.Core.Bool.{Bool, true, false}
-use mathlib.Core.List.{List, [], _∷_, _++_}
+use mathlib.Core.Bool.{Bool, true, false, not}
+use mathlib.Core.List.{List, [], _∷_, _++_, append-nil}
 use Prim.Native.Nat.{ℕ, zero, suc, _+_, _-_, _≤_, _<_}
 use native.Mathlib.Nat.{zero-add}
 use native.Mathlib.Decide.{ℕ-discrete, decLt}
@@ -9,6 +9,8 @@ use native.Mathlib.Numerals.{add-one}
 use native.Mathlib.Omega.{arith}
 use lib.ListN.{length, getD, length-append, List·getD-append}
 use lib.Seq.{sets, getD-append-add}
+use lib.Dec.{eqb}
+use borrow.Author.Tests.{eqb-true, ne-eqb}
 use Rattle.columns.specs.Lists.{joined, when}
 use Rattle.columns.proofs.Columns.{sets-append}
 use Rattle.columns.proofs.Counting.{joined-more, joined-same}
@@ -19,7 +21,17 @@ pub when-few : {A : Type 0} (b : Bool) (x : A) → length (when b x) ≤ 1
 when-few true x = omega arith
 when-few false x = omega arith
 
+-- a byte of 0 or 1 is set exactly where it is 1
+pub set-is-one : (x : ℕ) → x ≤ 1 → isSet x ≡ eqb x 1
+set-is-one zero h = refl
+set-is-one (suc zero) h = refl
+set-is-one (suc (suc x)) h = absurd (omega arith)
+
 module _ (test : ℕ → Bool) where
+  pub chosen-none : chosen 0 test ≡ []
+  unfolding chosen joined
+  chosen-none = refl
+
   pub chosen-more : (n : ℕ) → chosen (n + 1) test ≡ chosen n test ++ when (test n) n
   unfolding chosen
   chosen-more n = joined-more n (λ k. when (test k) k)
@@ -50,6 +62,9 @@ module _ (test : ℕ → Bool) where
           let k : ℕ = i - length (chosen n test) in
           let i-is : i ≡ length (chosen n test) + k = omega arith in
           rw (i-is, getD-append-add (chosen n test) (when (test n) n) k 0) (new-at n (test n) refl k (omega (arith, length-append (chosen n test) (when (test n) n))))
+
+  pub chosen-below : (n : ℕ) (i : ℕ) → i < length (chosen n test) → getD (chosen n test) i 0 < n
+  chosen-below n i h = chosen-at n i h .below
 
   -- each number below n that passes is listed
   pub chosen-has : (n : ℕ) (k : ℕ) → k < n → test k ≡ true → (i : ℕ) × ((i < length (chosen n test)) × (getD (chosen n test) i 0 ≡ k))
@@ -117,13 +132,19 @@ module _ (column : List ℕ) where
   unfolding listed
   listed-more k = chosen-more (λ k. isSet (getD column k 0)) k
 
-  pub listed-push : (list₀ : List ℕ) (k : ℕ) {count count′ : ℕ} {ok : Bool} {list list′ : List ℕ} → ok ≡ isSet (getD column k 0) → count ≡ length (listed k column) → list ≡ sets list₀ 0 (listed k column)
-      → count′ ≡ count + length (when ok k) → list′ ≡ sets list count (when ok k)
-      → (count′ ≡ length (listed (k + 1) column)) × (list′ ≡ sets list₀ 0 (listed (k + 1) column))
-  listed-push list₀ k {count} {count′} {ok} {list} {list′} t c l c′ l′ =
+  -- one number more is stored, if its byte is set
+  pub listed-store : (k : ℕ) (l : List ℕ) {at : ℕ} {ok : Bool} {list list′ : List ℕ} → ok ≡ isSet (getD column k 0) → at ≡ length (listed k column) → list ≡ sets l 0 (listed k column)
+      → list′ ≡ sets list at (when ok k) → list′ ≡ sets l 0 (listed (k + 1) column)
+  listed-store k l t c e e′ =
       let b = isSet (getD column k 0) in
-      let xs = listed k column in (
-        c′ ∙ (λ i. c i + length (when (t i) k)) ∙ sym (length-append xs (when b k)) ∙ ap length (sym (listed-more k)),
-        l′ ∙ (λ i. sets (l i) (c i) (when (t i) k)) ∙ ap (λ (m : ℕ). sets (sets list₀ 0 xs) m (when b k)) (sym (zero-add (length xs)))
-            ∙ sym (sets-append list₀ 0 xs (when b k)) ∙ ap (sets list₀ 0) (sym (listed-more k)),
-      )
+      let xs = listed k column in
+      e′ ∙ (λ i. sets (e i) (c i) (when (t i) k)) ∙ ap (λ (m : ℕ). sets (sets l 0 xs) m (when b k)) (sym (zero-add (length xs)))
+      ∙ sym (sets-append l 0 xs (when b k)) ∙ ap (sets l 0) (sym (listed-more k))
+
+  pub listed-count : (k : ℕ) {at r : ℕ} {ok : Bool} → ok ≡ isSet (getD column k 0) → at ≡ length (listed k column) → r ≡ at + length (when ok k) → r ≡ length (listed (k + 1) column)
+  listed-count k t c e =
+      e ∙ (λ i. c i + length (when (t i) k)) ∙ sym (length-append (listed k column) (when (isSet (getD column k 0)) k)) ∙ ap length (sym (listed-more k))
+
+  -- a byte of 0 adds no number
+  pub listed-zero : (k : ℕ) → eqb (getD column k 0) 0 ≡ true → listed (k + 1) column ≡ listed k column
+  listed-zero k z = listed-more k ∙ ap (λ (b : Bool). listed k column ++ when (not b) k) z ∙ append-nil (listed k column)

@@ -1,8 +1,10 @@
 -- Bytes that are set, and lists of their numbers.
 use Prim.Native.Nat.{ℕ}
+use mathlib.Core.Path.{_≡_}
 use mathlib.Core.Bool.{Bool, false, not, _||_, cond}
 use mathlib.Core.List.{List, [], _∷_}
 use lib.ListN.{getD}
+use lib.Seq.{sets}
 use lib.Dec.{eqb}
 use Rattle.columns.specs.Lists.{each}
 use Rattle.columns_neighbors.specs.Lists.{chosen}
@@ -14,6 +16,10 @@ isSet byte = not (eqb byte 0)
 -- the numbers below n whose byte is set, ascending
 unfoldable pub listed : ℕ → List ℕ → List ℕ
 listed n column = chosen n (λ k. isSet (getD column k 0))
+
+-- the list goes on: where its first places hold the numbers below `from` whose byte is set, they hold those below `to` afterwards
+abbrev pub Continued : (column : List ℕ) (from to : ℕ) (list₀ list : List ℕ) → Type 0
+Continued column from to list₀ list = (l : List ℕ) → list₀ ≡ sets l 0 (listed from column) → list ≡ sets l 0 (listed to column)
 
 -- whether a list names the number k
 unfoldable pub names : List ℕ → ℕ → Bool

@@ -1,4 +1,5 @@
 // The prebuilt complete graph: the row of a vertex, with its least weights to the other vertices that are not virtual, and its nearest virtual vertex.
+pub mod boundaries;
 pub mod nearest;
 
 ghost use lib.ListN.{length};

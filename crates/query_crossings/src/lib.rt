@@ -50,7 +50,7 @@ fn run_crossing(
         (fromLeft (graphOf (length (now (status .entry))) (now («ends_a» .entry)) (now («ends_b» .entry)) (now (boundary .entry))) (weighs (now (weights .entry))))
         (now (numbers .entry)) (now (numbers .exit)) (now («list_ends» .exit)) (now (status .exit)) (now (weight .exit)) (now (previous .exit)) (now (node .exit)) (now (leaf .exit)) ⌝ }
 {
-    query_sources::begin_left(status, boundary);
+    query_search::sources::begin_left(status, boundary);
     search(
         ends_a,
         ends_b,

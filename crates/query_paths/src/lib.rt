@@ -86,7 +86,7 @@ fn run_path(
     ensures { λ _. ⌜ ((m : List ℕ) → now («out_vertices» .exit) ≡ verticesAfter (path (graphOf (length (now (status .entry))) (now («ends_a» .entry)) (now («ends_b» .entry)) m) (weighs (now (weights .entry))) a b) (now («out_vertices» .entry))) ⌝ }
     ensures { λ _. ⌜ ((m : List ℕ) → now («out_steps» .exit) ≡ stepsAfter (path (graphOf (length (now (status .entry))) (now («ends_a» .entry)) (now («ends_b» .entry)) m) (weighs (now (weights .entry))) a b) (now («out_steps» .entry))) ⌝ }
 {
-    query_sources::begin_at(status, a);
+    query_search::sources::begin_at(status, a);
     search(
         ends_a,
         ends_b,

@@ -5,3 +5,5 @@ pub mod Sources
 pub mod Asked
 pub mod Ranges
 pub mod Scratch
+-- Beginning: the state before the first turn.
+pub mod Beginning

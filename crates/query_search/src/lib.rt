@@ -1,4 +1,6 @@
 // What all queries of the engine graph share: the search, and the columns of a table.
+pub mod sources;
+
 ghost use mathlib.Core.Path.{_≡_};
 ghost use mathlib.Core.Bool.{cond};
 ghost use mathlib.Core.List.{List};
@@ -43,7 +45,7 @@ pub fn search(
         list_ends,
         status.len(),
     );
-    query_sources::begin(status, weight, previous, node, leaf);
+    sources::begin(status, weight, previous, node, leaf);
     query_settling::settle(
         ends_a,
         ends_b,

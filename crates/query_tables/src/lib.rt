@@ -78,7 +78,7 @@ fn run_table(
     ensures { λ _. ⌜ ((m : List ℕ) → now («out_weight» .exit) ≡ sets (now («out_weight» .entry)) 0 (table (graphOf (length (now (status .entry))) (now («ends_a» .entry)) (now («ends_b» .entry)) m) (weighs (now (weights .entry))) source (endOf (length (now (status .entry))) stop) .weights)) ⌝ }
     ensures { λ _. ⌜ ((m : List ℕ) → now («out_previous» .exit) ≡ sets (now («out_previous» .entry)) 0 (table (graphOf (length (now (status .entry))) (now («ends_a» .entry)) (now («ends_b» .entry)) m) (weighs (now (weights .entry))) source (endOf (length (now (status .entry))) stop) .previous)) ⌝ }
 {
-    query_sources::begin_at(status, source);
+    query_search::sources::begin_at(status, source);
     search(
         ends_a,
         ends_b,

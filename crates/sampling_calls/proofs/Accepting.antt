@@ -26,7 +26,7 @@ use Rattle.sampling_calls.specs.declared.SyndromeAnswer.the-variants as 
 use Rattle.sampling_calls.specs.declared.ListAnswer.{ListAnswer}
 use Rattle.sampling_calls.specs.declared.ListAnswer.the-variants as list
 use Rattle.sampling_calls.specs.Records.{CodeGraph, graphLong, codeSound, SyndromeColumns, syndromeLong}
-use Rattle.columns_marked.specs.Marked.{marked}
+use Rattle.columns_marks.specs.Marks.{isSet, listed}
 use Rattle.sampling_flips.specs.Flip.{flipEach}
 use Rattle.columns_answers.proofs.Said.{accepts-of, refuses-of}
 use Rattle.sampling_calls.specs.Errors.{SyndromeLeft, errorsDoor}
@@ -34,7 +34,7 @@ use Rattle.sampling_calls.specs.Syndrome.{endsIn, isDefectOf, syndromeOf
 use Rattle.sampling_flips.specs.Steps.{Fits}
 use Rattle.sampling_flips.proofs.Flipping.{length-flipEach, flipEach-front, flipEach-virtual}
 use Rattle.sampling_calls.proofs.Inner.{flipEach-inner}
-use Rattle.columns_marked.proofs.Marks.{chosen-same}
+use Rattle.columns_marks.proofs.Listing.{set-is-one, chosen-same}
 
 -- ---- questions 6 and 7
 
@@ -121,14 +121,14 @@ module _ {A : Type 0} where
   over-take n xs h = ap (λ (k : ℕ). take n xs ++ drop k xs) (length-take-le n xs h) ∙ take-append-drop n xs
 
 -- only the first n bytes are looked at
-pub marked-over : (n : ℕ) (vs column : List ℕ) → length vs ≡ n → marked n (over vs column) ≡ marked n vs
-unfolding marked
-marked-over n vs column e =
-    chosen-same n _ _ (λ k h. ap (λ (x : ℕ). eqb x 1) (over-in vs column 0 k (omega arith)))
+pub listed-over : (n : ℕ) (vs column : List ℕ) → length vs ≡ n → listed n (over vs column) ≡ listed n vs
+unfolding listed
+listed-over n vs column e =
+    chosen-same n _ _ (λ k h. ap isSet (over-in vs column 0 k (omega arith)))
 
-pub marked-take : (n : ℕ) (xs : List ℕ) → marked n (take n xs) ≡ marked n xs
-unfolding marked
-marked-take n xs = chosen-same n _ _ (λ k h. ap (λ (x : ℕ). eqb x 1) (getD-take n xs k 0 h))
+pub listed-take : (n : ℕ) (xs : List ℕ) → listed n (take n xs) ≡ listed n xs
+unfolding listed
+listed-take n xs = chosen-same n _ _ (λ k h. ap isSet (getD-take n xs k 0 h))
 
 -- flips in the first v places of a column leave the others
 pub flipEach-over : (v e : ℕ) (a b m ks xs d : List ℕ) → length xs ≡ v → InRange a e v → InRange b e v → ((i : ℕ) → i < length ks → getD ks i 0 < e)
@@ -150,27 +150,27 @@ module _ (number v e : ℕ) (defects erasures : List ℕ) (before : SyndromeColu
         answers = refuses-of e f;
         defect-is = sym (after-refused number defects (before .defect) g);
         erasure-is = sym (after-refused number erasures (before .erasure) g);
-        defects-listed = sym (after-refused number (marked v defects) (before .defectList) g);
-        erasures-listed = sym (after-refused number (marked _ erasures) (before .erasureList) g);
+        defects-listed = sym (after-refused number (listed v defects) (before .defectList) g);
+        erasures-listed = sym (after-refused number (listed _ erasures) (before .erasureList) g);
       }
 
   pub left-accepted : (last : SyndromeColumns) {d s : ℕ} → number ≡ 0
       → length defects ≡ v → length erasures ≡ e
       → last .defect ≡ over defects (before .defect) → last .erasure ≡ over erasures (before .erasure)
-      → d ≡ length (marked v (last .defect)) → last .defectList ≡ over (marked v (last .defect)) (before .defectList)
-      → s ≡ length (marked e (last .erasure)) → last .erasureList ≡ over (marked e (last .erasure)) (before .erasureList)
+      → d ≡ length (listed v (last .defect)) → last .defectList ≡ over (listed v (last .defect)) (before .defectList)
+      → s ≡ length (listed e (last .erasure)) → last .erasureList ≡ over (listed e (last .erasure)) (before .erasureList)
       → SyndromeLeft number v e defects erasures before (syndrome.Counts d s) last
   left-accepted last {d} {s} z ld ls pd ps nd xd ns xs =
-      let md : marked v (last .defect) ≡ marked v defects = ap (marked v) pd ∙ marked-over v defects (before .defect) ld in
-      let ms : marked e (last .erasure) ≡ marked e erasures = ap (marked e) ps ∙ marked-over e erasures (before .erasure) ls in
-      let cd : d ≡ length (marked v defects) = nd ∙ ap length md in
-      let cs : s ≡ length (marked e erasures) = ns ∙ ap length ms in
+      let md : listed v (last .defect) ≡ listed v defects = ap (listed v) pd ∙ listed-over v defects (before .defect) ld in
+      let ms : listed e (last .erasure) ≡ listed e erasures = ap (listed e) ps ∙ listed-over e erasures (before .erasure) ls in
+      let cd : d ≡ length (listed v defects) = nd ∙ ap length md in
+      let cs : s ≡ length (listed e erasures) = ns ∙ ap length ms in
       record {
         answers = rw (cd, cs) (accepts-of z);
         defect-is = pd ∙ sym (after-accepted number defects (before .defect) z);
         erasure-is = ps ∙ sym (after-accepted number erasures (before .erasure) z);
-        defects-listed = xd ∙ ap (λ (l : List ℕ). over l (before .defectList)) md ∙ sym (after-accepted number (marked v defects) (before .defectList) z);
-        erasures-listed = xs ∙ ap (λ (l : List ℕ). over l (before .erasureList)) ms ∙ sym (after-accepted number (marked e erasures) (before .erasureList) z);
+        defects-listed = xd ∙ ap (λ (l : List ℕ). over l (before .defectList)) md ∙ sym (after-accepted number (listed v defects) (before .defectList) z);
+        erasures-listed = xs ∙ ap (λ (l : List ℕ). over l (before .erasureList)) ms ∙ sym (after-accepted number (listed e erasures) (before .erasureList) z);
       }
 
 -- ---- syndrome_of
@@ -197,22 +197,22 @@ syndrome-met g ks defectList z =
 
 -- the defect bytes of errors over no defects are those of the syndrome
 syndrome-bytes : (g : CodeGraph) (ks d : List ℕ) (u : ℕ) → u < length d → getD d u 0 ≡ 0
-    → eqb (getD (flipEach (g .endsA) (g .endsB) (g .boundary) ks d) u 0) 1 ≡ isDefectOf g ks u
+    → isSet (getD (flipEach (g .endsA) (g .endsB) (g .boundary) ks d) u 0) ≡ isDefectOf g ks u
 unfolding isDefectOf
 syndrome-bytes g ks d u h z = elim (ℕ-discrete (getD (g .boundary) u 0) 0) [
   | yes e ↦
       let n = flipEach-inner (g .endsA) (g .endsB) (g .boundary) u e ks d h (omega arith) in
-      ap (λ (x : ℕ). eqb x 1) (n ∙ ap (λ (x : ℕ). (x + endsIn (g .endsA) (g .endsB) ks u) % 2) z ∙ ap (λ (x : ℕ). x % 2) (zero-add _))
+      ap isSet (n ∙ ap (λ (x : ℕ). (x + endsIn (g .endsA) (g .endsB) ks u) % 2) z ∙ ap (λ (x : ℕ). x % 2) (zero-add _)) ∙ set-is-one (endsIn (g .endsA) (g .endsB) ks u % 2) (omega arith)
       ∙ ap (λ (t : Bool). t && eqb (endsIn (g .endsA) (g .endsB) ks u % 2) 1) (sym (eq-eqb (getD (g .boundary) u 0) 0 e))
   | no e ↦
-      ap (λ (x : ℕ). eqb x 1) (flipEach-virtual (g .endsA) (g .endsB) (g .boundary) u e ks d h ∙ z)
+      ap isSet (flipEach-virtual (g .endsA) (g .endsB) (g .boundary) u e ks d h ∙ z)
       ∙ ap (λ (t : Bool). t && eqb (endsIn (g .endsA) (g .endsB) ks u % 2) 1) (sym (ne-eqb (getD (g .boundary) u 0) 0 e))
 ]
 
-pub marked-syndrome : (g : CodeGraph) (ks d : List ℕ) → g .vertices ≤ length d → ((u : ℕ) → u < g .vertices → getD d u 0 ≡ 0)
-    → marked (g .vertices) (flipEach (g .endsA) (g .endsB) (g .boundary) ks d) ≡ syndromeOf g ks
-unfolding marked syndromeOf
-marked-syndrome g ks d l z = chosen-same (g .vertices) _ _ (λ u h. syndrome-bytes g ks d u (omega arith) (z u h))
+pub listed-syndrome : (g : CodeGraph) (ks d : List ℕ) → g .vertices ≤ length d → ((u : ℕ) → u < g .vertices → getD d u 0 ≡ 0)
+    → listed (g .vertices) (flipEach (g .endsA) (g .endsB) (g .boundary) ks d) ≡ syndromeOf g ks
+unfolding listed syndromeOf
+listed-syndrome g ks d l z = chosen-same (g .vertices) _ _ (λ u h. syndrome-bytes g ks d u (omega arith) (z u h))
 
 module _ (g : CodeGraph) (ks defectList : List ℕ) where
   pub syndrome-refused : {n : ℕ} → n ≡ syndromeDoor g ks defectList → (n ≡ 0 → ⊥) → FoundSyndrome g ks defectList (list.Refused n) defectList

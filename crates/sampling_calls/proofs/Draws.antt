@@ -22,7 +22,7 @@ use Rattle.sampling_edges.specs.Draws.{isErased, hasError, sampledErasures, sam
 use Rattle.sampling_edges.specs.Steps.{Sampled}
 use Rattle.sampling_calls.specs.Sampling.{sampledDefects, probabilitiesSound, samplingDoor}
 use Rattle.sampling_flips.proofs.Flipping.{length-flipEach}
-use Rattle.columns_marked.proofs.Marks.{chosen-below}
+use Rattle.columns_marks.proofs.Listing.{chosen-below}
 use Rattle.sampling_calls.proofs.Accepting.{GraphLong, graph-long-of, SyndromeLong, syndrome-long-of, CodeSound, code-sound-of, flipEach-over}
 
 pub record SamplingMet (g : CodeGraph) (p pe : List Float) (s : SyndromeColumns) : Type 0 where

@@ -29,7 +29,7 @@ use Rattle.sampling_calls.specs.Prefix.{SameBefore, SameMarksBefore}
 use Rattle.sampling_calls.specs.Syndrome.{hit, endsIn, isDefectOf, syndromeOf}
 use Rattle.sampling_flips.proofs.Flipping.{length-flipEach, flipEach-virtual}
 use Rattle.sampling_calls.proofs.Inner.{flipEach-inner}
-use Rattle.columns_marked.proofs.Marks.{length-when, chosen-below, chosen-same}
+use Rattle.columns_marks.proofs.Listing.{when-few, chosen-below, chosen-same}
 use Rattle.sampling_calls.proofs.Draws.{length-sampledErasures}
 
 pub accepted-number : {q v e : ℕ} {ds es : List ℕ} {before last : SyndromeColumns} {r : SyndromeAnswer} → SyndromeLeft q v e ds es before r last → said r .number ≡ 0 → q ≡ 0
@@ -116,7 +116,7 @@ ascends test zero i j h l = absurd (omega arith)
 ascends test (suc n) i j h l =
     let xs = chosen n test in
     let ys = when (test n) n in
-    let few = length-when (test n) n in
+    let few = when-few (test n) n in
     let total = length-append xs ys in
     let i-in : i < length xs = omega arith in
     let at-i = List·getD-append xs ys 0 i i-in in

@@ -8,7 +8,7 @@ use Rattle.columns.specs.Lists.{after}
 use Rattle.columns.specs.Questions.{ask, allBelow, marksSound}
 use Rattle.sampling_calls.specs.declared.SyndromeAnswer.{SyndromeAnswer}
 use Rattle.sampling_calls.specs.Records.{CodeGraph, graphLong, codeSound, SyndromeColumns, syndromeLong}
-use Rattle.columns_marked.specs.Marked.{marked}
+use Rattle.columns_marks.specs.Marks.{listed}
 use Rattle.sampling_flips.specs.Flip.{flipEach}
 use Rattle.columns_answers.specs.Said.{Answered}
 use Rattle.sampling_calls.specs.Answers.{said}
@@ -16,11 +16,11 @@ use Rattle.sampling_calls.specs.Answers.{said}
 -- what a call that generates errors answers and leaves: `number` is the question's, 0 where all are met;
 -- then the defect and erasure bytes are those given, and both lists name the bytes 1, ascending
 pub record SyndromeLeft (number v e : ℕ) (defects erasures : List ℕ) (before : SyndromeColumns) (answer : SyndromeAnswer) (last : SyndromeColumns) : Type 0 where
-  pub answers : Answered (said answer) number (length (marked v defects), length (marked e erasures)) (0, 0)
+  pub answers : Answered (said answer) number (length (listed v defects), length (listed e erasures)) (0, 0)
   pub defect-is : last .defect ≡ after number defects (before .defect)
   pub erasure-is : last .erasure ≡ after number erasures (before .erasure)
-  pub defects-listed : last .defectList ≡ after number (marked v defects) (before .defectList)
-  pub erasures-listed : last .erasureList ≡ after number (marked e erasures) (before .erasureList)
+  pub defects-listed : last .defectList ≡ after number (listed v defects) (before .defectList)
+  pub erasures-listed : last .erasureList ≡ after number (listed e erasures) (before .erasureList)
 
 -- ---- generate_errors
 

@@ -10,7 +10,7 @@ ghost use Rattle.sampling_calls.specs.Errors.{GeneratedErrors};
 ghost use Rattle.sampling_calls.specs.Sampling.{GeneratedRandomErrors};
 ghost use Rattle.sampling_calls.specs.Syndrome.{syndromeOf, FoundSyndrome};
 ghost use Rattle.sampling_flips.specs.Steps.{Fits};
-use columns_marked::list_marked;
+use columns_marks::list_set;
 use columns_stores::fill_u8;
 use doors::errors_door;
 use doors::sampling_door;
@@ -80,8 +80,8 @@ pub fn generate_random_errors(
             defect,
             erasure,
         );
-        let defects = list_marked(defect, vertex_num, defect_list);
-        let erasures = list_marked(erasure, edge_num, erasure_list);
+        let defects = list_set(defect, vertex_num, defect_list);
+        let erasures = list_set(erasure, edge_num, erasure_list);
         return SyndromeAnswer::Counts { defects, erasures };
     }
     SyndromeAnswer::Refused(number)
@@ -119,8 +119,8 @@ pub fn generate_errors(
     );
     if number == 0 {
         flip_all(vertex_num, edge_num, ends_a, ends_b, boundary, list, defect);
-        let defects = list_marked(defect, vertex_num, defect_list);
-        let erasures = list_marked(erasure, edge_num, erasure_list);
+        let defects = list_set(defect, vertex_num, defect_list);
+        let erasures = list_set(erasure, edge_num, erasure_list);
         return SyndromeAnswer::Counts { defects, erasures };
     }
     SyndromeAnswer::Refused(number)
@@ -144,7 +144,7 @@ fn collect_defects(
     ensures { λ _. ⌜ now («defect_list» .exit) ≡ over (syndromeOf (codeGraph «vertex_num» «edge_num» (now («ends_a» .entry)) (now («ends_b» .entry)) (now (boundary .entry))) (now (list .entry))) (now («defect_list» .entry)) ⌝ }
 {
     flip_all(vertex_num, edge_num, ends_a, ends_b, boundary, list, bytes);
-    list_marked(bytes, vertex_num, defect_list)
+    list_set(bytes, vertex_num, defect_list)
 }
 
 // The defects of errors on the listed edges.

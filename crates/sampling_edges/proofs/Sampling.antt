@@ -17,7 +17,7 @@ use Rattle.sampling_generator.specs.declared.DeterministicRng.{DeterministicRng
 use Rattle.sampling_generator.specs.Random.{wordOf, nextOf, drawOf}
 use Rattle.sampling_flips.specs.Flip.{flipEach}
 use Rattle.sampling_flips.proofs.Flipping.{flipEach-append}
-use Rattle.columns_marked.proofs.Marks.{chosen-none, chosen-more}
+use Rattle.columns_marks.proofs.Listing.{chosen-none, chosen-more}
 use Rattle.sampling_edges.specs.declared.SampledEdge.{SampledEdge}
 use Rattle.sampling_edges.specs.Draws.{advanced, drawNumber, isErased, errorProbability, hasError, sampledErasures, sampledErrors}
 use Rattle.sampling_edges.specs.Steps.{EdgeSampled, Sampled}

@@ -1,5 +1,4 @@
 -- Laws that the proofs of this crate cite, and the theorem that other crates need.
--- Filling: what an accepted fill_vertices says. Verdicts: the verdict from its parts. Theorems: verdict 0 for a sound graph with its own lists.
-pub mod Filling
+-- Verdicts: the verdict from its parts. Theorems: verdict 0 for a sound graph with its own lists.
 pub mod Verdicts
 pub mod Theorems

@@ -1,5 +1,4 @@
 // The vertices of a graph: filled in from its edges, and checked.
-pub mod fill;
 pub mod sanity;
 
 pub use sanity_verdicts::Verdict;

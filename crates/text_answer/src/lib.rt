@@ -1,8 +1,8 @@
 // What `codelist` prints for an input.
 use text_input::LineRead;
 use text_input::read_line;
-use text_lines::write_refusal;
 use text_listing::write_code;
+use text_numbers::lines::write_refusal;
 ghost use mathlib.Core.Path.{_≡_};
 ghost use Prim.Native.Nat.{_≤_};
 ghost use lib.ListN.{length};

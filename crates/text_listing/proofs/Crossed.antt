@@ -55,7 +55,7 @@ module _ (kind d rounds : ℕ) (p : _) (max v e : ℕ) (a b w m : List ℕ) (s :
 
   long-w : e ≤ length w
   unfolding weightsOf Rattle.access_weights.specs.Weights.weights
-  long-w = omega (arith, ap length (s .in-w), length-take e w, Rattle.columns.proofs.Counting.length-each (edgeNum kind d rounds) (λ k. 2 * getD (Rattle.weights_calls.specs.Calls.halfWeights max (Rattle.codes_new.specs.Probabilities.probabilities kind d rounds p (Rattle.codes_new.specs.Probabilities.diagonalOf kind p))) k 0), s .edges)
+  long-w = omega (arith, ap length (s .in-w), length-take e w, Rattle.columns.proofs.Counting.length-each (edgeNum kind d rounds) (λ k. 2 * getD (Rattle.weights_calls.specs.Calls.halfWeights max (Rattle.codes_calls.specs.Probabilities.probabilities kind d rounds p (Rattle.codes_calls.specs.Probabilities.diagonalOf kind p))) k 0), s .edges)
 
   pub lengths : (e ≤ length a) × (e ≤ length b) × (e ≤ length w) × (v ≤ length m)
   lengths = (long-a, long-b, long-w, long-m)

@@ -32,9 +32,9 @@ use Rattle.codes_calls.specs.Columns.{CodeColumns, edgeRoom, vertexRoom}
 use Rattle.columns_answers.proofs.Said.{refused-of}
 use Rattle.codes_calls.specs.CreateCode.{newColumns}
 use Rattle.codes_calls.proofs.Cases.{code-case}
-use Rattle.codes_new.specs.Probabilities.{probabilities, diagonalOf}
-use Rattle.codes_new.specs.NewCode.{newRefusalIn, weightedColumns, NewCode}
-use Rattle.codes_new.proofs.Outcome.{sized}
+use Rattle.codes_calls.specs.Probabilities.{probabilities, diagonalOf}
+use Rattle.codes_calls.specs.NewCode.{newRefusalIn, weightedColumns, NewCode}
+use Rattle.codes_calls.proofs.WeightedOutcome.{sized}
 use Rattle.text_numbers.specs.Text.{refusalLine}
 use Rattle.text_listing.specs.Listing.{listRefusal, weightsOf, listingOf, codeText}
 use Rattle.text_listing.specs.Steps.{HoldsCode, HoldsWeights}

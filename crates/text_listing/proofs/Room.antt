@@ -20,8 +20,8 @@ use Rattle.weights_recipe.specs.Probabilities.{isProbability}
 use Rattle.weights_diagonal.specs.Diagonal.{isDiagonalProbability}
 use Rattle.weights_calls.specs.Calls.{edgeWeights, someAbove, isLargestHalfWeight}
 use Rattle.codes_calls.specs.Columns.{CodeColumns, longEnough, edgeRoom, vertexRoom, shortest}
-use Rattle.codes_new.specs.Probabilities.{probabilities, diagonalOf}
-use Rattle.codes_new.specs.NewCode.{newRefusal}
+use Rattle.codes_calls.specs.Probabilities.{probabilities, diagonalOf}
+use Rattle.codes_calls.specs.NewCode.{newRefusal}
 use Rattle.text_listing.specs.Listing.{listRefusal}
 
 -- ---- the columns

@@ -23,7 +23,7 @@ use Rattle.query_crossing_answer.proofs.Cases.{crossed-case, refused-case}
 use Rattle.codes_calls.specs.declared.Created.{Created}
 use Rattle.codes_calls.specs.declared.Created.the-variants as made
 use Rattle.codes_calls.specs.Columns.{CodeColumns}
-use Rattle.codes_new.specs.NewCode.{NewCode}
+use Rattle.codes_calls.specs.NewCode.{NewCode}
 use Rattle.text_listing.specs.Listing.{weightsOf, crossingOf, withCrossing, listingOf, codeText}
 use Rattle.text_listing.specs.Steps.{HoldsCode, HoldsWeights, Replied, replyText, MadeHolds, madeText}
 use Rattle.text_listing.proofs.Room.{CodeRoom}

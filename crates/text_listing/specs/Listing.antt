@@ -17,7 +17,7 @@ use Rattle.engine_walks.specs.Answers.{crossing}
 use Rattle.weights_recipe.specs.Probabilities.{isProbability}
 use Rattle.weights_diagonal.specs.Diagonal.{isDiagonalProbability}
 use Rattle.weights_calls.specs.Calls.{edgeWeights, someAbove, isLargestHalfWeight, halfWeights}
-use Rattle.codes_new.specs.Probabilities.{probabilities, diagonalOf}
+use Rattle.codes_calls.specs.Probabilities.{probabilities, diagonalOf}
 use Rattle.text_numbers.specs.Text.{refusalLine, listing}
 
 -- ---- the questions after the first

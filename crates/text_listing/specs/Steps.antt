@@ -19,7 +19,7 @@ use Rattle.query_crossing_answer.specs.Crossing.{isJoined, weightFound, said}
 use Rattle.columns_answers.specs.Said.{Answered}
 use Rattle.text_numbers.specs.Text.{refusalLine, listing}
 use Rattle.text_listing.specs.Listing.{weightsOf, crossingOf, listingOf}
-use Rattle.codes_new.specs.Probabilities.{probabilities, diagonalOf}
+use Rattle.codes_calls.specs.Probabilities.{probabilities, diagonalOf}
 
 -- scratch for 1,024 vertices and 6,144 edges
 pub record ScratchRoom (out numbers ends status weight previous node leaf : ℕ) : Type 0 where

@@ -10,8 +10,8 @@ use columns::Weight;
 use engine_columns::EngineCounts;
 use query_crossing_answer::CrossingReply;
 use query_crossings::crossing;
-use text_lines::write_listing;
-use text_lines::write_refusal;
+use text_numbers::lines::write_listing;
+use text_numbers::lines::write_refusal;
 
 // The crossing of a built code under these weights; the columns from `out_weight` on are scratch here.
 fn crossing_in(

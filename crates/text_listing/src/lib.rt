@@ -3,9 +3,9 @@ mod built;
 
 use built::write_built;
 use codes_calls::Created;
-use codes_new::new;
+use codes_calls::weighted::new;
 use columns::Weight;
-use text_lines::write_refusal;
+use text_numbers::lines::write_refusal;
 ghost use Rattle.text_numbers.specs.Steps.{Put};
 ghost use Rattle.text_listing.specs.Listing.{codeText};
 ghost use Rattle.text_listing.specs.Claims.{EveryCodeCrosses};

@@ -1,4 +1,6 @@
 // Bytes and decimal numbers of a text. A text column that is too short keeps as much of it as it has places for.
+pub mod lines;
+
 ghost use mathlib.Core.Path.{_≡_};
 ghost use mathlib.Core.List.{[], _∷_};
 ghost use lib.ListN.{set};

@@ -3,3 +3,5 @@
 pub mod Answers
 pub mod Calls
 pub mod Steps
+-- Setters: each call's number, answer and column afterwards.
+pub mod Setters

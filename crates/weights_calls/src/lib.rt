@@ -1,5 +1,6 @@
 // Weights: document 01's section "Weights" with questions 6 to 10.
 mod known;
+pub mod setters;
 
 use columns::Done;
 use columns::EDGE_LIMIT;
@@ -14,11 +15,11 @@ use known::PLACES;
 use known::half_weight_of;
 use known::known_half_weight;
 use known::known_weight;
+pub use setters::set_erasure_probability;
+pub use setters::set_probability;
 use weights_questions::are_probabilities;
 use weights_questions::is_probability;
 use weights_recipe::logarithm::edge_weight;
-pub use weights_setters::set_erasure_probability;
-pub use weights_setters::set_probability;
 ghost use mathlib.Core.Path.{_≡_};
 ghost use mathlib.Core.Bool.{Bool};
 ghost use mathlib.Core.List.{map};

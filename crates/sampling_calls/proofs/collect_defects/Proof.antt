@@ -6,23 +6,23 @@ use native.Mathlib.Omega.{arith}
 use lib.ListN.{length, getD}
 use Rattle.columns.specs.Lists.{over}
 use Rattle.sampling_calls.specs.Records.{CodeGraph, codeGraph}
-use Rattle.columns_marked.specs.Marked.{marked}
+use Rattle.columns_marks.specs.Marks.{listed}
 use Rattle.sampling_calls.specs.Syndrome.{syndromeOf}
 use Rattle.sampling_flips.proofs.Flipping.{length-flipEach}
-use Rattle.sampling_calls.proofs.Accepting.{marked-syndrome}
+use Rattle.sampling_calls.proofs.Accepting.{listed-syndrome}
 use borrow.Author.Needs.{needs}
 use Rattle.sampling_calls.proofs.collect_defects.Statement.{statement}
 use Rattle.sampling_calls.proofs.collect_defects.Tie as tie
 use Rattle.sampling_calls.proofs.collect_defects.Reads as reads
 use Rattle.sampling_calls.proofs.collect_defects.Lts as lts
 use Rattle.sampling_flips.proofs.flip_all.Reads as flip-all-reads
-use Rattle.columns_marked.proofs.list_marked.Reads as list-marked-reads
+use Rattle.columns_marks.proofs.list_set.Reads as list-set-reads
 
-list-marked-requires : tie.Need-list-marked-requires
-list-marked-requires c κs =
+list-set-requires : tie.Need-list-set-requires
+list-set-requires c κs =
     let s = c .before .before .before .before .before .before .before .before .before .before .before .before in
     let l = simp length-flipEach at (ap length (c .before .before .before .before .flip-all .ensures)) in
-    (omega (arith, l, s .pre .0 .long-defect), s .pre .1 .1 .0, s .pre .1 .1 .1)
+    (omega (arith, l, s .pre .0 .long-defect), s .pre .1 .1 .0)
 
 same-length : tie.Need-same-length
 same-length c = c .before .before .before .before .before .before .bytes .given
@@ -35,8 +35,8 @@ returns c =
     let s = c .before .before .before .before .before .before .before .before .before .before .before .before .before .before .before in
     let a = s .args in
     let g : CodeGraph = codeGraph (a .vertex-num) (a .edge-num) (a .ends-a .now) (a .ends-b .now) (a .boundary .now) in
-    let e = ap (marked (a .vertex-num)) (c .before .before .before .before .before .before .before .flip-all .ensures) ∙ marked-syndrome g (a .list .now) (a .bytes .now) (s .pre .0 .long-defect) (λ u h. s .pre .1 .0 .1 u) in
-    (c .before .before .list-marked .ensures .0 ∙ ap length e, c .before .before .list-marked .ensures .1 ∙ ap (λ (l : List ℕ). over l (a .defect-list .now)) e)
+    let e = ap (listed (a .vertex-num)) (c .before .before .before .before .before .before .before .flip-all .ensures) ∙ listed-syndrome g (a .list .now) (a .bytes .now) (s .pre .0 .long-defect) (λ u h. s .pre .1 .0 .1 u) in
+    (c .before .before .list-set .ensures .0 ∙ ap length e, c .before .before .list-set .ensures .1 ∙ ap (λ (l : List ℕ). over l (a .defect-list .now)) e)
 
 pub collect-defects-spec : {M : Type 1} → statement M
-collect-defects-spec = tie.close (tie.spec (λ c κs. search needs) list-marked-requires same-length same-length-2 returns)
+collect-defects-spec = tie.close (tie.spec (λ c κs. search needs) list-set-requires same-length same-length-2 returns)

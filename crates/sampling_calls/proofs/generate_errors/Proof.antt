@@ -18,7 +18,7 @@ use Rattle.sampling_calls.proofs.generate_errors.Reads as reads
 use Rattle.sampling_calls.proofs.generate_errors.Lts as lts
 use Rattle.sampling_calls.proofs.doors.errors_door.Reads as errors-door-reads
 use Rattle.sampling_flips.proofs.flip_all.Reads as flip-all-reads
-use Rattle.columns_marked.proofs.list_marked.Reads as list-marked-reads
+use Rattle.columns_marks.proofs.list_set.Reads as list-set-reads
 
 flip-all-requires : tie.Need-flip-all-requires
 flip-all-requires c κs =
@@ -28,22 +28,22 @@ flip-all-requires c κs =
     let k : ErrorsMet g (a .list .now) s = errors-met g (a .list .now) s (sym (c .before .before .errors-door .ensures) ∙ c .before .if1 .taken) in
     (fits-of g (a .defect .now) (k .long) (k .sound) (k .lists .long-defect), k .named)
 
-list-marked-requires : tie.Need-list-marked-requires
-list-marked-requires c κs =
+list-set-requires : tie.Need-list-set-requires
+list-set-requires c κs =
     let a = c .before .before .before .before .before .before .before .before .before .before .before .before .before .before .before .before .before .before .before .args in
     let g : CodeGraph = codeGraph (a .vertex-num) (a .edge-num) (a .ends-a .now) (a .ends-b .now) (a .boundary .now) in
     let s : SyndromeColumns = syndromeColumns (a .defect .now) (a .erasure .now) (a .defect-list .now) (a .erasure-list .now) in
     let k : ErrorsMet g (a .list .now) s = errors-met g (a .list .now) s (sym (c .before .before .before .before .before .before .before .errors-door .ensures) ∙ c .before .before .before .before .before .before .if1 .taken) in
     let l = simp length-flipEach at (ap length (c .before .before .before .before .flip-all .ensures)) in
-    (omega (arith, l, k .lists .long-defect), omega (arith, k .lists .long-defects), omega (arith, k .sound .graph .few-vertices))
+    (omega (arith, l, k .lists .long-defect), omega (arith, k .lists .long-defects))
 
-list-marked-requires-2 : tie.Need-list-marked-requires-2
-list-marked-requires-2 c κs =
+list-set-requires-2 : tie.Need-list-set-requires-2
+list-set-requires-2 c κs =
     let a = c .before .before .before .before .before .before .before .before .before .before .before .before .before .before .before .before .before .before .before .before .before .before .before .args in
     let g : CodeGraph = codeGraph (a .vertex-num) (a .edge-num) (a .ends-a .now) (a .ends-b .now) (a .boundary .now) in
     let s : SyndromeColumns = syndromeColumns (a .defect .now) (a .erasure .now) (a .defect-list .now) (a .erasure-list .now) in
     let k : ErrorsMet g (a .list .now) s = errors-met g (a .list .now) s (sym (c .before .before .before .before .before .before .before .before .before .before .before .errors-door .ensures) ∙ c .before .before .before .before .before .before .before .before .before .before .if1 .taken) in
-    (omega (arith, k .lists .long-erasure), omega (arith, k .lists .long-erasures), omega (arith, k .sound .graph .few-edges))
+    (omega (arith, k .lists .long-erasure), omega (arith, k .lists .long-erasures))
 
 same-length : tie.Need-same-length
 same-length c = c .before .before .before .before .before .before .before .before .before .before .defect .given
@@ -62,8 +62,8 @@ returns c =
     let z : errorsDoor g (a .list .now) s ≡ 0 = sym (c .before .before .before .before .before .before .before .before .before .before .before .before .before .before .errors-door .ensures) ∙ c .before .before .before .before .before .before .before .before .before .before .before .before .before .if1 .taken in
     let k : ErrorsMet g (a .list .now) s = errors-met g (a .list .now) s z in
     let f : Fits (a .vertex-num) (a .edge-num) (a .ends-a .now) (a .ends-b .now) (a .boundary .now) (a .defect .now) = fits-of g (a .defect .now) (k .long) (k .sound) (k .lists .long-defect) in
-    let x = c .before .before .before .before .before .before .list-marked .ensures in
-    let y = c .before .before .list-marked2 .ensures in
+    let x = c .before .before .before .before .before .before .list-set .ensures in
+    let y = c .before .before .list-set2 .ensures in
     left-accepted (errorsDoor g (a .list .now) s) (a .vertex-num) (a .edge-num)
     (flipEach (a .ends-a .now) (a .ends-b .now) (a .boundary .now) (a .list .now) (take (a .vertex-num) (a .defect .now))) (take (a .edge-num) (a .erasure .now)) s _ z
     (length-flipEach (a .ends-a .now) (a .ends-b .now) (a .boundary .now) (a .list .now) (take (a .vertex-num) (a .defect .now)) ∙ length-take-le (a .vertex-num) (a .defect .now) (k .lists .long-defect))
@@ -84,4 +84,4 @@ returns-2 c =
     (c .before .errors-door .ensures) (c .if1 .left)
 
 pub generate-errors-spec : {M : Type 1} → statement M
-generate-errors-spec = tie.close (tie.spec (λ c κs. tt) flip-all-requires list-marked-requires list-marked-requires-2 same-length same-length-2 same-length-3 returns (λ c. search needs) (λ c. search needs) (λ c. search needs) returns-2)
+generate-errors-spec = tie.close (tie.spec (λ c κs. tt) flip-all-requires list-set-requires list-set-requires-2 same-length same-length-2 same-length-3 returns (λ c. search needs) (λ c. search needs) (λ c. search needs) returns-2)

@@ -1,2 +1,0 @@
--- Long: what an accepted get_positions says of its columns.
-pub mod Long

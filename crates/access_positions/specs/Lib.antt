@@ -1,2 +1,0 @@
--- Positions: what get_positions asks and leaves.
-pub mod Positions

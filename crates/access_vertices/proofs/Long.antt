@@ -1,0 +1,14 @@
+-- What an accepted get_positions says of its columns. Assumes nothing.
+use mathlib.Core.Path.{_≡_}
+use mathlib.Core.Bool.{_&&_}
+use Prim.Native.Nat.{ℕ, _≤_}
+use lib.ListN.{length}
+use Rattle.columns.proofs.Tests.{and-both}
+use Rattle.columns_room.proofs.Doors.{met, three-long}
+use Rattle.access_vertices.specs.Positions.{Positions, positionsLong, positionsDoor}
+
+pub positions-long : (v : ℕ) (from to : Positions) → positionsDoor v from to ≡ 0
+    → ((v ≤ length (from .i)) × (v ≤ length (from .j)) × (v ≤ length (from .t))) × ((v ≤ length (to .i)) × (v ≤ length (to .j)) × (v ≤ length (to .t)))
+positions-long v from to z =
+    let (p, q) = and-both (positionsLong v from) (positionsLong v to) (met (positionsLong v from && positionsLong v to) 5 _ z) in
+    (three-long v _ _ _ p, three-long v _ _ _ q)

@@ -1,0 +1,56 @@
+-- `access_vertices::positions::get_positions` meets its contract. Assumes nothing.
+use mathlib.Core.Path.{_≡_, refl, sym, ap, _∙_}
+use lib.ListN.{take}
+use Rattle.columns.specs.Answers.{done}
+use Rattle.columns_answers.proofs.Said.{accepts-of}
+use Rattle.columns_answers.proofs.Done.{said-of}
+use Rattle.columns.proofs.Columns.{copy-after, after-refused}
+use Rattle.access_vertices.specs.Positions.{positions, positionsDoor}
+use Rattle.access_vertices.proofs.Long.{positions-long}
+use borrow.Author.Needs.{needs}
+use Rattle.access_vertices.proofs.positions.get_positions.Statement.{statement}
+use Rattle.access_vertices.proofs.positions.get_positions.Tie as tie
+
+same-length : tie.Need-same-length
+same-length c = c .before .before .before .before .before .before .before .before .before .to-i .given
+
+same-length-2 : tie.Need-same-length-2
+same-length-2 c = c .before .before .before .before .before .to-j .given
+
+same-length-3 : tie.Need-same-length-3
+same-length-3 c = c .before .to-t .given
+
+returns : tie.Need-returns
+returns c =
+    let s = c .before .before .before .before .before .before .before .before .before .before .before .before .before .before .before .before .before .before .before .before .before .before .before .args in
+    let from = positions (s .pos-i .now) (s .pos-j .now) (s .pos-t .now) in
+    let to = positions (s .to-i .now) (s .to-j .now) (s .to-t .now) in
+    let v = s .vertex-num in
+    let q = positionsDoor v from to in
+    let z : q ≡ 0 = sym (c .before .before .before .before .before .before .before .before .before .before .before .before .before .positions-door .ensures) ∙ c .before .before .before .before .before .before .before .before .before .before .before .before .if1 .taken in
+    let l = positions-long v from to z in
+    record {
+      answers = accepts-of z;
+      i-left = c .before .before .before .before .before .before .before .before .before .before .copy-f64 .ensures ∙ copy-after v q (to .i) (from .i) z (l .0 .0) (l .1 .0);
+      j-left = c .before .before .before .before .before .before .copy-f642 .ensures ∙ copy-after v q (to .j) (from .j) z (l .0 .1) (l .1 .1);
+      t-left = c .before .before .copy-f643 .ensures ∙ copy-after v q (to .t) (from .t) z (l .0 .2) (l .1 .2);
+    }
+
+returns-2 : tie.Need-returns-2
+returns-2 c =
+    let s = c .before .before .before .before .before .before .before .before .before .before .before .before .args in
+    let from = positions (s .pos-i .now) (s .pos-j .now) (s .pos-t .now) in
+    let to = positions (s .to-i .now) (s .to-j .now) (s .to-t .now) in
+    let v = s .vertex-num in
+    let q = positionsDoor v from to in
+    let d = c .before .before .positions-door .ensures in
+    let f : q ≡ 0 → ⊥ = λ e. c .before .if1 .left (d ∙ e) in
+    record {
+      answers = said-of _ _ (c .done-of .ensures ∙ ap done d);
+      i-left = sym (after-refused q (take v (from .i)) (to .i) f);
+      j-left = sym (after-refused q (take v (from .j)) (to .j) f);
+      t-left = sym (after-refused q (take v (from .t)) (to .t) f);
+    }
+
+pub get-positions-spec : {M : Type 1} → statement M
+get-positions-spec = tie.close (tie.spec (λ c κs. tt) (λ c κs. tt) (λ c κs. tt) (λ c κs. tt) same-length same-length-2 same-length-3 returns (λ c κs. tt) (λ c. search needs) (λ c. search needs) (λ c. search needs) returns-2)

@@ -1,0 +1,58 @@
+// The positions of a code's vertices.
+use columns::Done;
+use columns::done_of;
+use columns::questions::asked;
+use columns::questions::both;
+use columns::questions::vertex_count_sound;
+use columns_room::three_long;
+use columns_stores::copy_f64;
+ghost use mathlib.Core.Path.{_≡_};
+ghost use Rattle.access_vertices.specs.Positions.{positions, positionsDoor, GotPositions};
+
+// The first question of get_positions that is not met, or 0.
+fn positions_door(
+    vertex_num: u32,
+    pos_i: &[f64],
+    pos_j: &[f64],
+    pos_t: &[f64],
+    to_i: &[f64],
+    to_j: &[f64],
+    to_t: &[f64],
+) -> u32
+    ensures { λ r. ⌜ r ≡ positionsDoor «vertex_num»
+        (positions (now («pos_i» .entry)) (now («pos_j» .entry)) (now («pos_t» .entry)))
+        (positions (now («to_i» .entry)) (now («to_j» .entry)) (now («to_t» .entry))) ⌝ }
+{
+    let n = vertex_num as usize;
+    let from = three_long(n, pos_i.len(), pos_j.len(), pos_t.len());
+    let to = three_long(n, to_i.len(), to_j.len(), to_t.len());
+    let sound = vertex_count_sound(vertex_num);
+    asked(both(from, to), 6, asked(sound, 7, 0))
+}
+
+// Copies the position of every vertex.
+pub fn get_positions(
+    vertex_num: u32,
+    pos_i: &[f64],
+    pos_j: &[f64],
+    pos_t: &[f64],
+    to_i: &mut [f64],
+    to_j: &mut [f64],
+    to_t: &mut [f64],
+) -> Done
+    ensures { λ r. ⌜ GotPositions «vertex_num»
+        (positions (now («pos_i» .entry)) (now («pos_j» .entry)) (now («pos_t» .entry)))
+        (positions (now («to_i» .entry)) (now («to_j» .entry)) (now («to_t» .entry)))
+        (positions (now («to_i» .exit)) (now («to_j» .exit)) (now («to_t» .exit)))
+        r ⌝ }
+{
+    let number = positions_door(vertex_num, pos_i, pos_j, pos_t, to_i, to_j, to_t);
+    if number == 0 {
+        let n = vertex_num as usize;
+        copy_f64(to_i, pos_i, n);
+        copy_f64(to_j, pos_j, n);
+        copy_f64(to_t, pos_t, n);
+        return Done::Accepted;
+    }
+    done_of(number)
+}

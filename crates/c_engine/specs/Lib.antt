@@ -1,0 +1,2 @@
+pub mod QueryReports
+pub mod PrebuiltReports

@@ -1,0 +1,23 @@
+-- What is handed to C for an answer of the engine, and an end from numbers.
+use Prim.Native.Nat.{ℕ, zero, suc}
+use mathlib.Core.Path.{_≡_}
+use Rattle.engine_columns.specs.declared.EngineAnswer.{EngineAnswer}
+use Rattle.engine_columns.specs.Records.{said}
+use Rattle.query_tables.specs.declared.End.{End}
+use Rattle.query_tables.specs.declared.End.the-variants.{None, At}
+use Rattle.c_reports.specs.declared.engine.EngineReport.{EngineReport}
+
+pub record ReportsEngine (a : EngineAnswer) (r : EngineReport) : Type 0 where
+  pub number : r .number ≡ said a .number
+  pub vertices : r .vertices ≡ said a .values .vertices
+  pub edges : r .edges ≡ said a .values .edges
+  pub entries : r .entries ≡ said a .values .entries
+
+-- ---- arguments that are enums: whether there is one, any number but 0 for yes, and the value
+
+abbrev pub noEnd : End
+noEnd = None
+
+abbrev pub endOf : ℕ → ℕ → End
+endOf zero v = None
+endOf (suc n) v = At (record { 0 = v })

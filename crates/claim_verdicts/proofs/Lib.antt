@@ -1,2 +1,0 @@
--- Verdicts: the columns of a built code get verdict 0.
-pub mod Verdicts

@@ -1,2 +1,0 @@
--- Claims: the verdict of `sanity_check` on built codes.
-pub mod Claims

@@ -1,0 +1,182 @@
+-- Document 01's starred examples, by computation. Assumes nothing.
+use mathlib.Core.Path.{_≡_, refl, sym, ap, _∙_}
+use mathlib.Core.Bool.{true, _&&_}
+use mathlib.Core.List.{List, [], _∷_, map}
+use mathlib.Core.Option.{Option, some}
+use Prim.Native.Nat.{ℕ, zero, suc, _^_, _≤_}
+use native.Mathlib.Omega.{arith}
+use lib.ListN.{length, getD, take, replicate, getD-replicate, length-replicate}
+use lib.Dec.{leb}
+use lib.Ieee.{Float, toBits, ofBits, lt, eq}
+use borrow.Author.Tests.{leb-true, le-leb}
+use lib.Seq.{take-all}
+use Rattle.columns.specs.Lists.{each, joined, layered}
+use Rattle.columns.specs.Places.{zeroFloat}
+use Rattle.columns.specs.Questions.{ask, all, every}
+use Rattle.columns.proofs.Tests.{and-both, both-and}
+use Rattle.codes_writers.specs.Edges.{straightEdges, straightRows, firsts, seconds, boundaries}
+use Rattle.codes_planar.specs.Planar.{rowEdges, planarRow, planarLayer, planarGap, planarBoundary, flatVertex}
+use Rattle.codes_circuit.specs.Circuit.{circuitCell, circuitRow, circuitGap}
+use Rattle.codes_rotated.specs.Rotated.{rotatedPlace, rotatedEdge, rotatedRow, rotatedLayer, rotatedGap, rotatedBoundary, rotatedVertex}
+use Rattle.codes_layers.specs.Codes.{rows, width, layerEdges, gapEdges, edgesOf, vertexOf, layerVertices, verticesOf}
+use Rattle.codes_layers.specs.Counts.{layerVertexNum, vertexNum, layerEdgeNum, gapEdgeNum, edgeNum}
+use Rattle.codes_layers.specs.Accepts.{kindKnown, distanceSound, roundsSound, codeRefusal}
+use Rattle.weights_calls.specs.Calls.{isLargestHalfWeight, halfWeights, largestWeight, computeDoor, someAbove, edgeWeights}
+use Rattle.weights_recipe.specs.Probabilities.{isProbability}
+use Rattle.columns.specs.Limits.{edgeLimit}
+use Rattle.codes_questions.specs.declared.Count.the-variants.{Counted, Refused}
+use Rattle.columns_answers.proofs.Said.{accepts-of, refuses-of}
+use Rattle.codes_questions.specs.Answers.{CountsVertices}
+use Rattle.weights_recipe.specs.Rounding.{halfWeight}
+use Rattle.weights_calls.proofs.Theorems.{zero-among}
+use Rattle.columns_pairs.specs.Pairs.{endsDiffer, pairsApart}
+use Rattle.columns_neighbors.specs.Sound.{endsInRange, graphSound, logSound}
+use Rattle.engine_columns.specs.Door.{columnsLong, longEnough, columnsSound, sound}
+use Rattle.engine_walks.specs.Settling as S
+use Rattle.engine_walks.specs.Settling.{firstLeast, start, changes, byStatus, offer, relaxEdge, relax, stopped, next, settle}
+use Rattle.engine_walks.specs.Answers.{readBack, stepInto, pathIn, path, fromLeft, nearestRight, crossing}
+use Rattle.engine_walks.specs.Graph.{Graph}
+use Rattle.weights_recipe.specs.Logarithm.{edgeWeight}
+use Rattle.engine_columns.specs.Records.{Engine, engine, counts}
+use Rattle.engine_columns.specs.Step.{Call, loadErasures, loadWeights, reset}
+use Rattle.engine_columns.specs.Open.{GraphColumns, graphColumns}
+use Rattle.engine_tally.specs.Tally.{Tally, Fed, tallyOf, tallyAfter}
+use Rattle.query_questions.specs.Queries as Q
+use Rattle.query_paths.specs.GetPath.{pathDoor, pathNumber}
+use Rattle.claims.specs.Listed.{graphIn, weightsIn}
+use Rattle.claims.specs.Starred.{StarredExamples, listing, fed, crossingAfter, listingEngine}
+
+same-map : (n : ℕ) (f : Float → ℕ) (x : Float) → f x ≡ 1 → map f (replicate n x) ≡ replicate n 1
+same-map zero f x e = refl
+same-map (suc n) f x e = λ i. e i ∷ same-map n f x e i
+
+zeros : (max n : ℕ) → isLargestHalfWeight max ≡ true → halfWeights max (replicate n zeroFloat) ≡ replicate n 1
+zeros max zero h = refl
+zeros max (suc n) h =
+    let (a, b) = and-both (leb 1 max) (leb max 250000) h in
+    same-map (suc n) (λ p. halfWeight max (edgeWeight p) (largestWeight (replicate (suc n) zeroFloat))) zeroFloat
+    (zero-among max (replicate (suc n) zeroFloat) 0 (omega (arith, leb-true max 250000 b)) (omega (arith, length-replicate (suc n) zeroFloat)) (getD-replicate (suc n) 0 zeroFloat zeroFloat (omega arith)) (edgeWeight zeroFloat))
+
+-- question 9 is met by each p, question 10 by the first weight, which is +infinity
+all-zero : (n : ℕ) → all isProbability (replicate n zeroFloat) ≡ true
+unfolding all isProbability toBits ofBits
+all-zero zero = refl
+all-zero (suc n) = all-zero n
+
+some-infinite : (n : ℕ) → someAbove (edgeWeights (replicate (suc n) zeroFloat)) ≡ true
+unfolding someAbove edgeWeight lt ofBits eq
+some-infinite n = refl
+
+zeros-asked : (max n : ℕ) (column : List ℕ) → isLargestHalfWeight max ≡ true → 1 ≤ n → n ≤ edgeLimit → n ≤ length column → computeDoor n (replicate n zeroFloat) column max ≡ 0
+zeros-asked max zero column h one few long = absurd (omega arith)
+zeros-asked max (suc n) column h one few long =
+    let ps = replicate (suc n) zeroFloat in
+    let t : take (suc n) ps ≡ ps = take-all (suc n) ps (omega (arith, length-replicate (suc n) zeroFloat)) in
+    let room : (leb (suc n) (length ps) && leb (suc n) (length column)) ≡ true = both-and (le-leb (suc n) (length ps) (omega (arith, length-replicate (suc n) zeroFloat))) (le-leb (suc n) (length column) long) in
+    λ i. ask (room i) 6 (ask (le-leb (suc n) edgeLimit few i) 7 (ask (h i) 8 (ask ((ap (all isProbability) t ∙ all-zero (suc n)) i) 9 (ask ((ap (λ xs. someAbove (edgeWeights xs)) t ∙ some-infinite n) i) 10 0))))
+
+-- an even distance is refused for every kind
+even : (kind rounds : ℕ) → kindKnown kind ≡ true → CountsVertices kind 4 rounds (Refused 3)
+unfolding codeRefusal distanceSound
+even kind rounds h = refuses-of (rw h) (λ e. absurd (omega arith))
+
+-- ---- the listing's graph, written out
+
+abbrev graph : Graph
+graph = record { vertices = 4; endsA = 0 ∷ 1 ∷ 0 ∷ []; endsB = 1 ∷ 2 ∷ 3 ∷ []; boundary = 0 ∷ 0 ∷ 2 ∷ 1 ∷ [] }
+
+abbrev weigh : List ℕ → ℕ → ℕ
+weigh ws k = getD ws k 0
+
+ends-a : firsts (edgesOf 1 3 0) ≡ 0 ∷ 1 ∷ 0 ∷ []
+unfolding edgesOf layered each joined rows width layerEdges gapEdges straightRows straightEdges rowEdges planarLayer planarRow planarGap
+ends-a = refl
+
+ends-b : seconds (edgesOf 1 3 0) ≡ 1 ∷ 2 ∷ 3 ∷ []
+unfolding edgesOf layered each joined rows width layerEdges gapEdges straightRows straightEdges rowEdges planarLayer planarRow planarGap
+ends-b = refl
+
+bytes : boundaries (verticesOf 1 3 0) ≡ 0 ∷ 0 ∷ 2 ∷ 1 ∷ []
+unfolding verticesOf layered each joined rows width layerVertices vertexOf flatVertex planarBoundary
+bytes = refl
+
+columns : listing ≡ graphColumns (0 ∷ 1 ∷ 0 ∷ []) (1 ∷ 2 ∷ 3 ∷ []) (1000 ∷ 1000 ∷ 1000 ∷ []) (0 ∷ 0 ∷ 2 ∷ 1 ∷ [])
+columns = λ i. graphColumns (ends-a i) (ends-b i) (1000 ∷ 1000 ∷ 1000 ∷ []) (bytes i)
+
+abbrev written : GraphColumns
+written = graphColumns (0 ∷ 1 ∷ 0 ∷ []) (1 ∷ 2 ∷ 3 ∷ []) (1000 ∷ 1000 ∷ 1000 ∷ []) (0 ∷ 0 ∷ 2 ∷ 1 ∷ [])
+
+abbrev crossingOf : List Fed → GraphColumns → Option ℕ
+crossingOf fs c = crossing (graphIn (tallyAfter fs (tallyOf 4 3 c))) (weightsIn (tallyAfter fs (tallyOf 4 3 c)))
+
+-- the crossing weight from the tally's graph and weights, written out
+by-parts : (t : Tally) (ws : List ℕ) (w : ℕ) → graphIn t ≡ graph → t .weights ≡ ws → crossing graph (weigh ws) ≡ some w → crossing (graphIn t) (weightsIn t) ≡ some w
+by-parts t ws w p q r = (λ i. crossing (p i) (weigh (q i))) ∙ r
+
+crossing-2000 : crossing graph (weigh (1000 ∷ 0 ∷ 1000 ∷ [])) ≡ some 2000
+unfolding each firstLeast start changes byStatus offer relaxEdge relax S.take stopped next settle fromLeft nearestRight crossing
+crossing-2000 = refl
+
+crossing-3000 : crossing graph (weigh (1000 ∷ 1000 ∷ 1000 ∷ [])) ≡ some 3000
+unfolding each firstLeast start changes byStatus offer relaxEdge relax S.take stopped next settle fromLeft nearestRight crossing
+crossing-3000 = refl
+
+crossing-3 : crossing graph (weigh (1 ∷ 1 ∷ 1 ∷ [])) ≡ some 3
+unfolding each firstLeast start changes byStatus offer relaxEdge relax S.take stopped next settle fromLeft nearestRight crossing
+crossing-3 = refl
+
+erased-2000 : crossingAfter (fed (loadErasures (1 ∷ [])) ∷ []) ≡ some 2000
+unfolding all
+erased-2000 = ap (crossingOf (fed (loadErasures (1 ∷ [])) ∷ [])) columns ∙ by-parts (tallyAfter (fed (loadErasures (1 ∷ [])) ∷ []) (tallyOf 4 3 written)) (1000 ∷ 0 ∷ 1000 ∷ []) 2000 refl refl crossing-2000
+
+reset-3000 : crossingAfter (fed (loadErasures (1 ∷ [])) ∷ fed reset ∷ []) ≡ some 3000
+unfolding all
+reset-3000 = ap (crossingOf (fed (loadErasures (1 ∷ [])) ∷ fed reset ∷ [])) columns ∙ by-parts (tallyAfter (fed (loadErasures (1 ∷ [])) ∷ fed reset ∷ []) (tallyOf 4 3 written)) (1000 ∷ 1000 ∷ 1000 ∷ []) 3000 refl refl crossing-3000
+
+ones-3 : crossingAfter (fed (loadWeights (0 ∷ 1 ∷ 2 ∷ []) (1 ∷ 1 ∷ 1 ∷ [])) ∷ []) ≡ some 3
+unfolding all
+ones-3 = ap (crossingOf (fed (loadWeights (0 ∷ 1 ∷ 2 ∷ []) (1 ∷ 1 ∷ 1 ∷ [])) ∷ [])) columns ∙ by-parts (tallyAfter (fed (loadWeights (0 ∷ 1 ∷ 2 ∷ []) (1 ∷ 1 ∷ 1 ∷ [])) ∷ []) (tallyOf 4 3 written)) (1 ∷ 1 ∷ 1 ∷ []) 3 refl refl crossing-3
+
+-- ---- the door of a path from 2 to 2
+
+abbrev engineOf : GraphColumns → Engine
+engineOf c = engine (counts 4 3 0) (c .endsA) (c .endsB) (c .weights) (c .boundary) (0 ∷ 0 ∷ 0 ∷ []) (0 ∷ 0 ∷ 0 ∷ [])
+
+door-0 : pathDoor (engineOf written) true 3 2 4 4 ≡ 0
+unfolding all every endsDiffer pairsApart endsInRange graphSound logSound columnsLong longEnough columnsSound sound
+door-0 = refl
+
+asked-0 : pathDoor listingEngine true 3 2 4 4 ≡ 0
+asked-0 = (λ i. pathDoor (engineOf (columns i)) true 3 2 4 4) ∙ door-0
+
+door-16 : pathDoor (engineOf written) true 2 2 4 4 ≡ 16
+unfolding all every endsDiffer pairsApart endsInRange graphSound logSound columnsLong longEnough columnsSound sound
+door-16 = refl
+
+sixteen : pathNumber (pathDoor listingEngine true 2 2 4 4) (path (Q.graphIn listingEngine) (Q.weightsIn listingEngine) 2 2) ≡ 16
+sixteen = (λ i. pathNumber (pathDoor (engineOf (columns i)) true 2 2 4 4) (path (Q.graphIn listingEngine) (Q.weightsIn listingEngine) 2 2))
+    ∙ (λ i. pathNumber (door-16 i) (path (Q.graphIn listingEngine) (Q.weightsIn listingEngine) 2 2))
+
+pub starred : StarredExamples
+unfolding edgesOf layered each joined rows width layerEdges gapEdges rotatedLayer rotatedRow rotatedEdge rotatedPlace rotatedGap straightRows straightEdges rowEdges planarLayer planarRow planarGap circuitGap circuitRow circuitCell verticesOf layerVertices vertexOf rotatedVertex rotatedBoundary layerVertexNum layerEdgeNum gapEdgeNum kindKnown distanceSound roundsSound codeRefusal all every endsDiffer pairsApart endsInRange graphSound logSound columnsLong longEnough columnsSound sound firstLeast start changes byStatus offer relaxEdge relax S.take stopped next settle readBack stepInto pathIn path fromLeft nearestRight crossing
+starred = record {
+  kind-5-edges = refl;
+  kind-5-boundary = refl;
+  kind-4-vertices = accepts-of refl;
+  kind-4-edges = accepts-of refl;
+  kind-6-vertices = accepts-of refl;
+  kind-6-edges = accepts-of refl;
+  kind-2-d-63 = accepts-of refl;
+  kind-2-d-65 = refuses-of refl (λ e. absurd (omega arith));
+  kind-3-rounds-340 = accepts-of refl;
+  kind-3-rounds-341 = refuses-of refl (λ e. absurd (omega arith));
+  d-4 = even;
+  path-3-2 = refl;
+  path-3-2-asked = asked-0;
+  edge-1-erased = erased-2000;
+  then-reset = reset-3000;
+  every-weight-1 = ones-3;
+  every-p-0 = zeros;
+  every-p-0-asked = zeros-asked;
+  path-2-2 = sixteen;
+}

@@ -1,0 +1,16 @@
+-- Agreeing: what the engine's columns and the tally have in common, for a crossing. Runs: every list of calls. Built: codes. Proved: the demand.
+pub mod Agreeing
+pub mod Runs
+pub mod Built
+pub mod Proved
+pub mod Computed
+-- Verdicts: the columns of a built code get verdict 0.
+pub mod Verdicts
+-- Scans: the Rust's loop over the peers, and the nearest virtual vertex. PrebuiltScanned: the claim.
+mod Scans
+mod PrebuiltScanned
+-- Questions: a query's number is 0 exactly where its questions are met. Tables, Paths, Crossings: what an answer and the columns say, read off what a caller learns.
+pub mod Questions
+pub mod Tables
+pub mod Paths
+pub mod Crossings

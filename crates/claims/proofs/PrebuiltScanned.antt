@@ -1,0 +1,122 @@
+-- An accepted `fill_boundaries` and an accepted `fill_row` over its column. Assumes nothing.
+use mathlib.Core.Path.{_≡_, sym, ap, _∙_, subst}
+use mathlib.Core.Logic.{_⊎_, inl, inr}
+use mathlib.Core.Bool.{Bool, true, false, cond, _||_}
+use mathlib.Core.List.{List}
+use mathlib.Core.Option.{none}
+use Prim.Native.Nat.{ℕ, _<_}
+use native.Mathlib.Omega.{arith}
+use lib.ListN.{length, getD}
+use lib.Dec.{eqb}
+use lib.IntN.{ℤ, pos, negsuc}
+use Rattle.columns.specs.Lists.{each, after}
+use Rattle.columns_answers.proofs.Said.{zero-of}
+use Rattle.columns.specs.declared.Done.the-variants.{Accepted}
+use Rattle.columns.proofs.Columns.{after-accepted, over-in}
+use Rattle.columns.proofs.Counting.{length-each, getD-each}
+use Rattle.engine_columns.specs.Records.{Engine}
+use Rattle.engine_walks.specs.Graph.{Graph, LeastWeight}
+use Rattle.engine_walks.specs.Answers.{weightIn, table}
+use Rattle.engine_walks.specs.Claims.{Row}
+use Rattle.engine_walks.proofs.TableAndPath.{table-is-least}
+use Rattle.query_questions.specs.Queries.{graphIn, weightsIn}
+use Rattle.query_search.proofs.Ranges.{in-range}
+use Rattle.prebuilt_entries.specs.Entries.{inTheMiddle, rowEntry, entryBy}
+use Rattle.prebuilt_calls.specs.Rows.{RowStep, row, rowDoor}
+use Rattle.prebuilt_calls.proofs.Entries.{row-asked}
+use Rattle.prebuilt_calls.specs.Boundaries as ours
+use Rattle.claims.specs.Prebuilt.{virtual, boundaryWeight, edgeWeight, edgeEntry, weightEntry, vertexEntry}
+use Rattle.claims.specs.PrebuiltCalled.{BoundariesFilled, RowFilled}
+use Rattle.claims.specs.PrebuiltCalled as called
+use Rattle.claims.specs.PrebuiltRows.{PrebuiltRows}
+use Rattle.claims.proofs.Scans.{weight-column, vertex-column, entry-is}
+
+module _ {A : Type 0} where
+  -- a place of a column that an accepted call has filled
+  at-place : (q n : ℕ) (f : ℕ → A) (column₀ column : List A) (d : A) → q ≡ 0 → column ≡ after q (each n f) column₀ → (v : ℕ) → v < n → getD column v d ≡ f v
+  at-place q n f column₀ column d z e v h =
+      ap (λ l. getD l v d) (e ∙ after-accepted q (each n f) column₀ z) ∙ over-in (each n f) column₀ d v (omega (arith, length-each n f, h)) ∙ getD-each n f d v h
+
+module _ (e : Engine) (scratch : Bool) (least before : ℕ) (weights₀ : List ℤ) (vertices₀ : List ℕ) (weights : List ℤ) (vertices : List ℕ)
+    (s : ours.BoundariesStep e scratch least before Accepted weights₀ vertices₀ weights vertices) where
+  abbrev door : ℕ
+  door = ours.boundariesDoor e scratch (length weights₀) (length vertices₀) least before
+
+  met : door ≡ 0
+  met = zero-of (s .answer)
+
+  weight-at : (v : ℕ) → v < e .counts .vertices → weightIn weights v ≡ weightEntry (boundaryWeight (graphIn e) (weightsIn e) v)
+  weight-at v h =
+      at-place door (e .counts .vertices) (ours.boundaryWeight (graphIn e) (weightsIn e)) weights₀ weights (negsuc 0) met (s .weights-left) v h ∙ weight-column (graphIn e) (weightsIn e) v
+
+  vertex-at : (v : ℕ) → v < e .counts .vertices → getD vertices v 0 ≡ vertexEntry (boundaryWeight (graphIn e) (weightsIn e) v)
+  vertex-at v h =
+      at-place door (e .counts .vertices) (ours.boundaryVertex (graphIn e) (weightsIn e)) vertices₀ vertices 0 met (s .vertices-left) v h ∙ vertex-column (graphIn e) (weightsIn e) v
+
+pub weight-of : (e : Engine) (weights : List ℤ) (vertices : List ℕ) → BoundariesFilled e weights vertices → (v : ℕ) → v < e .counts .vertices
+    → weightIn weights v ≡ weightEntry (boundaryWeight (graphIn e) (weightsIn e) v)
+weight-of e weights vertices (called.BoundariesFilled.filled κs a s l) v h = weight-at e _ _ _ _ _ weights vertices (l .0) v h
+
+pub vertex-of : (e : Engine) (weights : List ℤ) (vertices : List ℕ) → BoundariesFilled e weights vertices → (v : ℕ) → v < e .counts .vertices
+    → getD vertices v 0 ≡ vertexEntry (boundaryWeight (graphIn e) (weightsIn e) v)
+vertex-of e weights vertices (called.BoundariesFilled.filled κs a s l) v h = vertex-at e _ _ _ _ _ weights vertices (l .0) v h
+
+module _ (e : Engine) (scratch : Bool) (v : ℕ) (near : List ℤ) (before : ℕ) (out₀ out : List ℤ) (s : RowStep e scratch v near before Accepted out₀ out)
+    (b : (v : ℕ) → v < e .counts .vertices → weightIn near v ≡ weightEntry (boundaryWeight (graphIn e) (weightsIn e) v)) where
+  abbrev number : ℕ
+  number = rowDoor e scratch v (length near) (length out₀) before
+
+  none-asked : number ≡ 0
+  none-asked = zero-of (s .answer)
+
+  row-at : (u : ℕ) → u < e .counts .vertices → weightIn out u ≡ edgeEntry (edgeWeight (graphIn e) (weightsIn e) v u)
+  row-at u h =
+      let g = graphIn e in
+      let w = weightsIn e in
+      let q = row-asked e scratch v (length near) (length out₀) before none-asked in
+      let own = b v (q .v-in) in
+      let other = b u h in
+      at-place number (e .counts .vertices) (rowEntry (g .boundary) near v (table g w v none .weights)) out₀ out (negsuc 0) none-asked (s .out-left) u h
+      ∙ (λ i. entryBy (virtual g v || (virtual g u || eqb u v)) (own i) (other i) (weightIn (table g w v none .weights) u))
+      ∙ entry-is g w v u h
+
+pub row-of : (e : Engine) (v : ℕ) (near out : List ℤ) → RowFilled e v near out
+    → ((v : ℕ) → v < e .counts .vertices → weightIn near v ≡ weightEntry (boundaryWeight (graphIn e) (weightsIn e) v))
+    → (u : ℕ) → u < e .counts .vertices → weightIn out u ≡ edgeEntry (edgeWeight (graphIn e) (weightsIn e) v u)
+row-of e v near out (called.RowFilled.filled κs a s l) b u h = row-at e _ v near _ _ out (l .0) b u h
+
+-- ---- least weights
+
+kept : (hidden middle : Bool) (z : ℤ) (k : ℕ) → cond hidden (negsuc 0) (cond middle (negsuc 0) z) ≡ pos k → z ≡ pos k
+kept true middle z k e = absurd (let q : _≡_ {A = ℕ} 0 1 = cc in omega arith)
+kept false true z k e = absurd (let q : _≡_ {A = ℕ} 0 1 = cc in omega arith)
+kept false false z k e = e
+
+least-in : (g : Graph) (w : ℕ → ℕ) (v u k : ℕ) → Row g w v (table g w v none) u → weightIn (table g w v none .weights) u ≡ pos k → LeastWeight g w (λ x. x ≡ v) u k
+least-in g w v u k (inl r) e = let q : r .0 ≡ k = (let s = r .1 in cc) in subst (LeastWeight g w (λ x. x ≡ v) u) q (r .2)
+least-in g w v u k (inr r) e = absurd (let q : _≡_ {A = ℕ} 0 1 = (let s = r .0 in cc) in omega arith)
+
+module _ (e : Engine) (scratch : Bool) (v : ℕ) (near : List ℤ) (before : ℕ) (out₀ out : List ℤ) (s : RowStep e scratch v near before Accepted out₀ out) where
+  abbrev question : ℕ
+  question = rowDoor e scratch v (length near) (length out₀) before
+
+  least-at : (u k : ℕ) → u < e .counts .vertices → weightIn out u ≡ pos k → LeastWeight (graphIn e) (weightsIn e) (λ x. x ≡ v) u k
+  least-at u k h p =
+      let g = graphIn e in
+      let w = weightsIn e in
+      let z : question ≡ 0 = zero-of (s .answer) in
+      let q = row-asked e scratch v (length near) (length out₀) before z in
+      let x = at-place question (e .counts .vertices) (rowEntry (g .boundary) near v (table g w v none .weights)) out₀ out (negsuc 0) z (s .out-left) u h in
+      let y = kept (virtual g v || (virtual g u || eqb u v)) (inTheMiddle (weightIn near v) (weightIn near u) (weightIn (table g w v none .weights) u)) (weightIn (table g w v none .weights) u) k (sym x ∙ p) in
+      least-in g w v u k (table-is-least g w v none (in-range e (q .long) (q .sound)) (q .v-in) .rows u h) y
+
+least-of : (e : Engine) (v : ℕ) (near out : List ℤ) → RowFilled e v near out → (u k : ℕ) → u < e .counts .vertices → weightIn out u ≡ pos k
+    → LeastWeight (graphIn e) (weightsIn e) (λ x. x ≡ v) u k
+least-of e v near out (called.RowFilled.filled κs a s l) u k h p = least-at e _ v near _ _ out (l .0) u k h p
+
+pub prebuilt-rows : PrebuiltRows
+prebuilt-rows = record {
+  boundaries = λ e weights vertices f v h. (weight-of e weights vertices f v h, vertex-of e weights vertices f v h);
+  rows = λ e weights vertices f v out r u h. row-of e v weights out r (weight-of e weights vertices f) u h;
+  least = λ e v weights out r u k h p. least-of e v weights out r u k h p;
+}

@@ -1,0 +1,166 @@
+-- Demand 3. Assumes nothing.
+use mathlib.Core.Path.{_≡_, refl, sym, ap, _∙_, subst}
+use mathlib.Core.Logic.{_↔_}
+use mathlib.Core.List.{List, [], _∷_}
+use mathlib.Core.Option.{Option, some, none}
+use Prim.Native.Nat.{ℕ, _≤_, _<_}
+use native.Mathlib.Omega.{arith}
+use lib.ListN.{length, getD}
+use lib.IntN.{ℤ, pos, negsuc}
+use Rattle.columns.specs.Lists.{over}
+use Rattle.engine_columns.specs.Records.{Engine}
+use Rattle.engine_tally.specs.Tally.{Tally, lengthsOf}
+use Rattle.engine_tally.proofs.Agreement.{Agrees}
+use Rattle.engine_tally.proofs.LastNamed.{weighs-last-named}
+use Rattle.engine_walks.specs.Graph.{Graph, edges, InRange, LeftJoinsRight}
+use Rattle.engine_walks.specs.Answers.{crossing, leastFromLeft, weightIn}
+use Rattle.engine_walks.specs.Claims.{CrossingAnswer, IsCrossing, LeftWeight, Alike, NotGreater, reached, unreached, signed}
+use Rattle.engine_walks.proofs.LeastCrossing.{crossing-is-least}
+use Rattle.engine_walks.proofs.TwoGraphs.{weights-compare}
+use Rattle.query_crossing_answer.specs.declared.CrossingReply.{CrossingReply}
+use Rattle.query_crossing_answer.specs.declared.CrossingReply.the-variants.{Crossed, Refused}
+use Rattle.query_crossing_answer.specs.Crossing.{replyNumber, replyWeight, CrossingStep}
+use Rattle.claims.specs.Listed.{graphIn, weightsIn, crossingNumber, modifying, numbers}
+use Rattle.claims.specs.Demand3.{History, CrossingThen, TwoLists, tallyFirst, tallyLast, graphLeft, weightsLeft, refusedBefore, Demand3}
+use Rattle.claims.proofs.Agreeing.{scratchFits, range, edges-are, weight-at, crossing-number, accepted-of, accepted-when, column-at, graph-kept}
+use Rattle.claims.proofs.Runs.{FreshGraph, fresh-of, crossing-of, runs}
+use Rattle.claims.proofs.Built.{BuiltGraph, built-of, handed-on, built-distance}
+
+abbrev valueOf : Option ℕ → ℕ
+valueOf none = 0
+valueOf (some k) = k
+
+module _ (h : History) where
+  fresh : FreshGraph (h .vertices) (h .edges) (h .handed) (h .fresh)
+  fresh = fresh-of (h .vertices) (h .edges) (h .handed) (h .fresh) (h .opened)
+
+  run : (h .answers ≡ numbers (h .calls) (tallyFirst h)) × Agrees (tallyLast h) (h .left)
+  run = runs (h .fresh) (h .calls) (h .answers) (h .left) (tallyFirst h) (fresh .agrees) (h .called)
+
+  agrees : Agrees (tallyLast h) (h .left)
+  agrees = run .1
+
+  edges-kept : tallyLast h .counts .edges ≡ h .edges
+  edges-kept = graph-kept (modifying (h .calls)) (tallyFirst h) .1
+
+  graph-first : graphLeft h ≡ graphIn (tallyFirst h)
+  graph-first = graph-kept (modifying (h .calls)) (tallyFirst h) .0
+
+  vertices-kept : tallyLast h .counts .vertices ≡ h .vertices
+  vertices-kept = ap (λ (g : Graph). g .vertices) graph-first
+
+  in-range : InRange (graphLeft h)
+  in-range = range (tallyLast h) (h .left) agrees
+
+  edges-left : edges (graphLeft h) ≡ h .edges
+  edges-left = edges-are (tallyLast h) (h .left) agrees ∙ edges-kept
+
+  tally-weighs : (k : ℕ) → k < h .edges → weightsLeft h k ≡ getD (h .left .weights) k 0
+  tally-weighs k l = weight-at (tallyLast h) (h .left) agrees k (omega (arith, edges-kept, l))
+
+  abbrev found : Option ℕ
+  found = crossing (graphLeft h) (weightsLeft h)
+
+  least : CrossingAnswer (graphLeft h) (weightsLeft h) found
+  least = crossing-is-least (graphLeft h) (weightsLeft h) in-range .0
+
+  module _ (c : CrossingThen h) where
+    step : CrossingStep (h .left) (scratchFits (h .left) (c .own)) (c .reply) (c .column₀) (c .column) × (length (c .column₀) ≡ c .own .weights)
+    step = crossing-of (h .left) (c .own) (c .reply) (c .column₀) (c .column) (c .called)
+
+    number : replyNumber (c .reply) ≡ crossingNumber (lengthsOf (h .left)) (c .own) (tallyLast h)
+    number = crossing-number (tallyLast h) (h .left) agrees (c .own) (c .reply) (c .column₀) (c .column) (step .0) (step .1)
+
+    abbrev Reports : Type 0
+    Reports = (W : ℕ) × (found ≡ some W) × (c .reply ≡ Crossed W) × (c .column ≡ over (leastFromLeft (graphLeft h) (weightsLeft h)) (c .column₀))
+
+    reports : replyNumber (c .reply) ≡ 0 → Reports
+    reports = accepted-of (tallyLast h) (h .left) agrees (c .own) (c .reply) (c .column₀) (c .column) (step .0) (step .1)
+
+    accepted : refusedBefore h c ≡ 0 → (W : ℕ) → found ≡ some W → replyNumber (c .reply) ≡ 0
+    accepted = accepted-when (tallyLast h) (h .left) agrees (c .own) (c .reply) (c .column₀) (c .column) (step .0) (step .1)
+
+    at : replyNumber (c .reply) ≡ 0 → (v : ℕ) → v < h .vertices → weightIn (c .column) v ≡ weightIn (leastFromLeft (graphLeft h) (weightsLeft h)) v
+    at z v l = column-at (tallyLast h) (h .left) agrees (c .own) (c .reply) (c .column₀) (c .column) (step .0) (step .1) v (omega (arith, vertices-kept, l)) (reports z .3)
+
+    is-crossing : replyNumber (c .reply) ≡ 0 → IsCrossing (graphLeft h) (weightsLeft h) (replyWeight (c .reply))
+    is-crossing z =
+        let (W, f, r, q) = reports z in
+        subst (IsCrossing (graphLeft h) (weightsLeft h)) (sym (ap replyWeight r)) (subst (CrossingAnswer (graphLeft h) (weightsLeft h)) f least)
+
+    joined : refusedBefore h c ≡ 0 → (replyNumber (c .reply) ≡ 0) ↔ LeftJoinsRight (graphLeft h)
+    joined b = (there, back)
+      where
+        there : replyNumber (c .reply) ≡ 0 → LeftJoinsRight (graphLeft h)
+        there z = let (x, y, s, l, r, w, q) = is-crossing z .walk .a-walk in (x, y, l, r, (s, w))
+
+        by : (o : Option ℕ) → found ≡ o → CrossingAnswer (graphLeft h) (weightsLeft h) o → LeftJoinsRight (graphLeft h) → replyNumber (c .reply) ≡ 0
+        by none q f (x, y, l, r, j) = absurd (f x y l r j)
+        by (some W) q f j = accepted b W q
+
+        back : LeftJoinsRight (graphLeft h) → replyNumber (c .reply) ≡ 0
+        back j = by found refl least j
+
+    distance : (kind d rounds : ℕ) → BuiltGraph kind d rounds (h .vertices) (h .edges) (h .handed .endsA) (h .handed .endsB) (h .handed .boundary)
+        → ((k : ℕ) → k < h .edges → weightsLeft h k ≡ 1) → refusedBefore h c ≡ 0 → c .reply ≡ Crossed d
+    distance kind d rounds b ones z =
+        let same = weights-compare (graphLeft h) (graphLeft h) (weightsLeft h) (λ k. 1) in-range
+        (record { same-vertices = refl; same-edges = refl; same-a = λ e l. refl; same-b = λ e l. refl; same-byte = λ v l. refl }) .1 in
+        let f : found ≡ some d = same (λ e l. ones e (omega (arith, edges-left, l))) .crossings
+        ∙ ap (λ (g : Graph). crossing g (λ k. 1)) graph-first
+        ∙ built-distance kind d rounds (h .vertices) (h .edges) (h .handed) b in
+        let (W, q, r, k) = reports (accepted z d f) in
+        r ∙ ap Crossed (same-some W d (sym q ∙ f))
+      where
+        same-some : (x y : ℕ) → some x ≡ some y → x ≡ y
+        same-some x y p = ap valueOf p
+
+-- ---- two lists
+
+not-above : {k k′ : ℕ} → NotGreater (pos k) (pos k′) → k ≤ k′
+not-above (reached l) = l
+
+module _ (h h′ : History) (c : CrossingThen h) (c′ : CrossingThen h′) (two : TwoLists h h′ c c′) where
+  inside : (v : ℕ) → v < h .vertices → v < h′ .vertices
+  inside v l = omega (arith, vertices-kept h, vertices-kept h′, two .alike .same-vertices, l)
+
+  equal-weights : ((k : ℕ) → k < h .edges → weightsLeft h k ≡ weightsLeft h′ k)
+      → (replyWeight (c .reply) ≡ replyWeight (c′ .reply)) × ((v : ℕ) → v < h .vertices → weightIn (c .column) v ≡ weightIn (c′ .column) v)
+  equal-weights same =
+      let q = weights-compare (graphLeft h) (graphLeft h′) (weightsLeft h) (weightsLeft h′) (in-range h) (two .alike) .1 (λ e l. same e (omega (arith, edges-left h, l))) in
+      let (W, f, r, k) = reports h c (two .accepted) in
+      let (W′, f′, r′, k′) = reports h′ c′ (two .accepted′) in (
+        ap replyWeight r ∙ ap valueOf (sym f ∙ q .crossings ∙ f′) ∙ sym (ap replyWeight r′),
+        λ v l. at h c (two .accepted) v l ∙ ap (λ (column : List ℤ). weightIn column v) (q .columns) ∙ sym (at h′ c′ (two .accepted′) v (inside v l)),
+      )
+
+  nowhere-greater : ((k : ℕ) → k < h .edges → weightsLeft h k ≤ weightsLeft h′ k)
+      → (replyWeight (c .reply) ≤ replyWeight (c′ .reply)) × ((v : ℕ) → v < h .vertices → NotGreater (weightIn (c .column) v) (weightIn (c′ .column) v))
+  nowhere-greater less =
+      let q = weights-compare (graphLeft h) (graphLeft h′) (weightsLeft h) (weightsLeft h′) (in-range h) (two .alike) .2 (λ e l. less e (omega (arith, edges-left h, l))) in
+      let (W, f, r, k) = reports h c (two .accepted) in
+      let (W′, f′, r′, k′) = reports h′ c′ (two .accepted′) in
+      let n : W ≤ W′ = not-above (subst (λ o. NotGreater (signed o) (pos W′)) f (subst (λ o. NotGreater (signed (crossing (graphLeft h) (weightsLeft h))) (signed o)) f′ (q .crossings))) in (
+        omega (arith, ap replyWeight r, ap replyWeight r′, n),
+        λ v l. subst (λ x. NotGreater x (weightIn (c′ .column) v)) (sym (at h c (two .accepted) v l))
+            (subst (λ x. NotGreater (weightIn (leastFromLeft (graphLeft h) (weightsLeft h)) v) x) (sym (at h′ c′ (two .accepted′) v (inside v l))) (q .columns v (omega (arith, vertices-kept h, l)))),
+      )
+
+-- the demand
+pub demand-3 : Demand3
+demand-3 = record {
+  each-call = λ h. run h .0;
+  crossing-then = number;
+  counts = λ h. agrees h .counts-are;
+  edge-weighs = λ h k l. sym (tally-weighs h k l) ∙ weighs-last-named (h .vertices) (h .edges) (h .handed) (fresh h .weights-long) (modifying (h .calls)) k l;
+  tally-weighs = tally-weighs;
+  joined = joined;
+  none-less = λ h c z. is-crossing h c z .every-set;
+  one-exactly = λ h c z. is-crossing h c z .a-set;
+  least-weights = λ h c z v l. subst (LeftWeight (graphLeft h) (weightsLeft h) v) (sym (at h c z v l))
+      (crossing-is-least (graphLeft h) (weightsLeft h) (in-range h) .2 v (omega (arith, vertices-kept h, l)));
+  equal-weights = equal-weights;
+  nowhere-greater = nowhere-greater;
+  distance = λ h c kind d rounds a b m built same-a same-b same-m.
+      distance h c kind d rounds (handed-on (built-of kind d rounds (h .vertices) (h .edges) a b m built) same-a same-b same-m);
+}

@@ -1,0 +1,66 @@
+-- Every list of calls of the real functions keeps columns and tally in agreement. Assumes nothing.
+use mathlib.Core.Path.{_≡_, refl, sym, subst}
+use mathlib.Core.List.{List, [], _∷_}
+use Prim.Native.Nat.{ℕ, _≤_, _<_}
+use lib.ListN.{length}
+use lib.IntN.{ℤ}
+use Rattle.columns_answers.proofs.Said.{values-of}
+use Rattle.engine_columns.specs.declared.EngineCounts.{EngineCounts}
+use Rattle.engine_columns.specs.declared.EngineAnswer.{EngineAnswer}
+use Rattle.engine_columns.specs.declared.EngineAnswer.the-variants.{Counts}
+use Rattle.engine_columns.specs.Records.{Engine, engine, counts}
+use Rattle.engine_columns.specs.Step.{Call, Step}
+use Rattle.engine_columns.specs.Open.{GraphColumns, graphColumns, openDoor, OpenStep}
+use Rattle.engine_tally.specs.Tally.{Tally, tallyOf, lengthsOf, tallyStep}
+use Rattle.engine_tally.proofs.Agreement.{Agrees, step-agrees, opened-agrees}
+use Rattle.engine_columns.proofs.Doors.{opens-of}
+use Rattle.query_crossing_answer.specs.declared.CrossingReply.{CrossingReply}
+use Rattle.query_crossing_answer.specs.Crossing.{CrossingStep}
+use Rattle.claims.specs.Listed.{OwnLengths, ListedCall, tallyAtEnd, numbers}
+use Rattle.claims.specs.Called.{OpenCalled, opened, Called, erased, weighed, undid, CrossingCalled, crossed, Calls, none, modified, crossing}
+use Rattle.claims.proofs.Agreeing.{scratchFits, crossing-number}
+
+-- what a call's contract says is the step
+pub step-of : (call : Call) (e : Engine) (r : EngineAnswer) (e₁ : Engine) → Called call e r e₁ → Step call e r e₁
+step-of call e r e₁ (erased κs a q s h) = h
+step-of call e r e₁ (weighed κs a q s h) = h
+step-of call e r e₁ (undid κs a q s h) = h
+
+pub crossing-of : (e : Engine) (o : OwnLengths) (r : CrossingReply) (column₀ column : List ℤ) → CrossingCalled e o r column₀ column
+    → CrossingStep e (scratchFits e o) r column₀ column × (length column₀ ≡ o .weights)
+crossing-of e o r column₀ column (crossed κs a q s h) = (h .0, refl)
+
+-- ---- open
+
+pub record FreshGraph (v e : ℕ) (handed : GraphColumns) (fresh : Engine) : Type 0 where
+  pub agrees : Agrees (tallyOf v e handed) fresh
+  pub weights-long : e ≤ length (handed .weights)
+
+open-says : (v e : ℕ) (handed lent left : GraphColumns) (c : EngineCounts) (le lw : List ℕ) → OpenStep v e handed lent (Counts c) left
+    → FreshGraph v e handed (engine c (left .endsA) (left .endsB) (left .weights) (left .boundary) le lw)
+open-says v e handed lent left c le lw h =
+    let d : openDoor v e handed lent ≡ 0 = sym (h .answer .number-is) in
+    let k : c ≡ counts v e 0 = values-of (h .answer) d in
+    record {
+      agrees = subst (λ (n : EngineCounts). Agrees (tallyOf v e handed) (engine n (left .endsA) (left .endsB) (left .weights) (left .boundary) le lw)) (sym k)
+          (opened-agrees v e handed lent left (Counts c) le lw h refl);
+      weights-long = opens-of v e handed lent d .from .weights;
+    }
+
+pub fresh-of : (v e : ℕ) (handed : GraphColumns) (fresh : Engine) → OpenCalled v e handed fresh → FreshGraph v e handed fresh
+fresh-of v e handed fresh (opened κs a c s le lw h) = open-says _ _ _ _ _ c le lw h
+
+-- ---- the list
+
+pub runs : (e : Engine) (cs : List ListedCall) (ns : List ℕ) (e₂ : Engine) (t : Tally) → Agrees t e → Calls e cs ns e₂
+    → (ns ≡ numbers cs t) × Agrees (tallyAtEnd cs t) e₂
+runs e cs ns e₂ t a none = (refl, a)
+runs e cs ns e₂ t a (modified {e₁ = e₁} {cs = ds} {ns = ms} call r s rest) =
+    let (n, a₁) = step-agrees call t e e₁ r a (step-of call e r e₁ s) in
+    let (m, a₂) = runs e₁ ds ms e₂ (tallyStep (record { call = call; lent = lengthsOf e }) t) a₁ rest in
+    ((λ i. n i ∷ m i), a₂)
+runs e cs ns e₂ t a (crossing {cs = ds} {ns = ms} o r column₀ column s rest) =
+    let (step, same) = crossing-of e o r column₀ column s in
+    let n = crossing-number t e a o r column₀ column step same in
+    let (m, a₂) = runs e ds ms e₂ t a rest in
+    ((λ i. n i ∷ m i), a₂)

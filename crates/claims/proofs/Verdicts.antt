@@ -1,0 +1,124 @@
+-- The columns of a built code get verdict 0. Assumes nothing.
+use mathlib.Core.Path.{_≡_, refl, sym, ap, _∙_, subst}
+use mathlib.Core.Logic.{_⊎_, inl, inr}
+use mathlib.Core.Bool.{Bool, true, false}
+use mathlib.Core.List.{List, map}
+use Prim.Native.Nat.{ℕ, _+_, _*_, _≤_, _<_}
+use native.Mathlib.Omega.{arith}
+use lib.ListN.{length, getD, take}
+use lib.Ieee.{Float}
+use Rattle.columns.specs.Lists.{each, over, after}
+use Rattle.columns.proofs.Columns.{after-accepted, take-over, over-in}
+use Rattle.columns.proofs.Counting.{length-each}
+use Rattle.columns_neighbors.specs.Lists.{neighbours, degrees, lists}
+use Rattle.columns_neighbors.specs.Sound.{graphSound}
+use Rattle.codes_writers.specs.Edges.{Ends, firsts, seconds}
+use Rattle.codes_layers.specs.Codes.{edgesOf}
+use Rattle.codes_layers.specs.Counts.{vertexNum, edgeNum}
+use Rattle.codes_layers.specs.Accepts.{codeRefusal, Buildable}
+use Rattle.codes_layers.proofs.Accepted.{Accepted, accepted, buildable}
+use Rattle.codes_layers.proofs.Counted.{edges-counted}
+use Rattle.codes_graphs.proofs.Sound.{first-over, second-over, first-is, second-is, built}
+use Rattle.codes_graphs.proofs.Lists.{Touches, vertex-touched}
+use Rattle.sanity_verdicts.specs.declared.Verdict.{Verdict}
+use Rattle.sanity_verdicts.specs.declared.Verdict.the-variants.{Sound}
+use Rattle.sanity_verdicts.specs.Sanity.{said, SanityChecked}
+use Rattle.sanity_calls.proofs.Verdicts.{sanityAnswer}
+use Rattle.sanity_calls.proofs.Theorems.{EndsEdge, sound-verdict}
+use Rattle.weights_diagonal.specs.declared.DiagonalProbability.{DiagonalProbability}
+use Rattle.codes_calls.specs.declared.Created.{Created}
+use Rattle.codes_calls.specs.declared.Created.the-variants.{Refused}
+use Rattle.codes_calls.specs.Columns.{CodeColumns}
+use Rattle.codes_calls.specs.CreateCode.{refusal, refusalIn, newColumns}
+use Rattle.codes_calls.proofs.Cases.{code-case}
+use Rattle.codes_calls.proofs.Outcome.{degrees-same, lists-same}
+use Rattle.codes_calls.specs.NewCode.{newRefusal, newRefusalIn}
+use Rattle.claims.specs.SoundCodes.{GetsZero, CreatedCodesAreSound, NewCodesAreSound}
+
+module _ (kind d rounds : ℕ) (ok : Accepted kind d rounds) where
+  abbrev es : List Ends
+  es = edgesOf kind d rounds
+
+  abbrev v : ℕ
+  v = vertexNum kind d rounds
+
+  abbrev e : ℕ
+  e = edgeNum kind d rounds
+
+  count : length es ≡ e
+  count = edges-counted kind d (ok .distance .three) rounds
+
+  module _ (a₀ b₀ l₀ n₀ : List ℕ) where
+    abbrev a : List ℕ
+    a = over (firsts es) a₀
+
+    abbrev b : List ℕ
+    b = over (seconds es) b₀
+
+    same-first : (k : ℕ) → k < e → getD a k 0 ≡ getD (firsts es) k 0
+    same-first k h = first-over kind d rounds ok a₀ k h ∙ sym (first-is kind d rounds ok k)
+
+    same-second : (k : ℕ) → k < e → getD b k 0 ≡ getD (seconds es) k 0
+    same-second k h = second-over kind d rounds ok b₀ k h ∙ sym (second-is kind d rounds ok k)
+
+    -- every vertex ends an edge
+    ends : (u : ℕ) → u < v → EndsEdge a b e u
+    ends u h =
+        let z = vertex-touched kind d rounds ok u h in
+        let k : ℕ = z .has .place in
+        let in-list : k < e = omega (arith, count, z .has .in-list) in
+        record { edge = k; before = in-list; at-u = go k in-list (z .has .is) (z .ends) }
+      where
+        go : (k : ℕ) {x : Ends} → k < e → getD es k (0, 0) ≡ x → (x .0 ≡ u) ⊎ (x .1 ≡ u) → (getD a k 0 ≡ u) ⊎ (getD b k 0 ≡ u)
+        go k h q (inl r) = inl (first-over kind d rounds ok a₀ k h ∙ ap (λ (x : Ends). x .0) q ∙ r)
+        go k h q (inr r) = inr (second-over kind d rounds ok b₀ k h ∙ ap (λ (x : Ends). x .1) q ∙ r)
+
+    some : 1 ≤ e
+    some = let z = ends 0 (omega (arith, Rattle.codes_graphs.proofs.Lists.some-vertex kind d rounds ok)) in omega (arith, z .before)
+
+    abbrev ls : List ℕ
+    ls = degrees (firsts es) (seconds es) e v
+
+    abbrev ns : List ℕ
+    ns = lists (firsts es) (seconds es) e v
+
+    ls-long : length ls ≡ v
+    unfolding degrees
+    ls-long = length-each v (λ u. length (neighbours (firsts es) (seconds es) e u))
+
+    lengths-are : take v (over ls l₀) ≡ degrees a b e v
+    lengths-are = take-over ls l₀ v ls-long ∙ sym (degrees-same a b (firsts es) (seconds es) e same-first same-second v)
+
+    same-lists : lists a b e v ≡ ns
+    same-lists = lists-same a b (firsts es) (seconds es) e same-first same-second v
+
+    numbers-are : take (length (lists a b e v)) (over ns n₀) ≡ lists a b e v
+    numbers-are = ap (λ (l : List ℕ). take (length l) (over ns n₀)) same-lists ∙ take-over ns n₀ (length ns) refl ∙ sym same-lists
+
+    pub gets-zero : sanityAnswer v e a b (over ls l₀) (over ns n₀) ≡ Sound
+    gets-zero = sound-verdict v e a b (over ls l₀) (over ns n₀) (built kind d rounds ok .graph a₀ b₀) some ends lengths-are numbers-are
+
+-- columns that were written hold the code
+module _ (kind d rounds q : ℕ) (lent back : CodeColumns) (z : q ≡ 0) (v e : ℕ) (ve : v ≡ vertexNum kind d rounds) (ee : e ≡ edgeNum kind d rounds) (ok : Accepted kind d rounds) where
+  pub written-zero : back .endsA ≡ after q (newColumns kind d rounds .endsA) (lent .endsA) → back .endsB ≡ after q (newColumns kind d rounds .endsB) (lent .endsB)
+      → back .listLengths ≡ after q (newColumns kind d rounds .listLengths) (lent .listLengths) → back .neighborNumbers ≡ after q (newColumns kind d rounds .neighborNumbers) (lent .neighborNumbers)
+      → GetsZero v e back
+  written-zero a b l n r s =
+      ap said
+      (s .case-is
+      ∙ (λ i. sanityAnswer (ve i) (ee i) ((a ∙ after-accepted q (newColumns kind d rounds .endsA) (lent .endsA) z) i) ((b ∙ after-accepted q (newColumns kind d rounds .endsB) (lent .endsB) z) i)
+      ((l ∙ after-accepted q (newColumns kind d rounds .listLengths) (lent .listLengths) z) i) ((n ∙ after-accepted q (newColumns kind d rounds .neighborNumbers) (lent .neighborNumbers) z) i))
+      ∙ gets-zero kind d rounds ok (lent .endsA) (lent .endsB) (lent .listLengths) (lent .neighborNumbers))
+
+pub created-codes-are-sound : CreatedCodesAreSound
+unfolding refusal
+created-codes-are-sound kind d rounds lent back v e c =
+    let w = code-case (c .answer) in
+    written-zero kind d rounds (refusalIn kind d rounds lent) lent back (w .0) v e (w .1) (w .2) (accepted kind d rounds _ (w .0) .0) (c .ends-a) (c .ends-b) (c .list-lengths) (c .neighbor-numbers)
+
+pub new-codes-are-sound : NewCodesAreSound
+unfolding newRefusal
+new-codes-are-sound kind d rounds p diagonal max lent back v e c =
+    let w = code-case (c .answer) in
+    let h = c .columns in
+    written-zero kind d rounds (newRefusalIn kind d rounds p diagonal max lent) lent back (w .0) v e (w .1) (w .2) (accepted kind d rounds _ (w .0) .0) (h .ends-a) (h .ends-b) (h .list-lengths) (h .neighbor-numbers)

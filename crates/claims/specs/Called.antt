@@ -1,0 +1,102 @@
+-- Calls of the real functions. `Learnt` is what a caller of a function learns of a call, made from the function's own contract: lifetimes, the arguments
+-- as they were passed, the result, and the parameters at exit. A parameter that is only read is at exit as it was passed.
+use Prim.Native.Nat.{ℕ}
+use mathlib.Core.Path.{_≡_}
+use mathlib.Core.List.{List, [], _∷_}
+use lib.ListN.{length}
+use lib.IntN.{ℤ}
+use contract.Lifetimes.{Lfts}
+use borrow.Fn.Kinds.{Dens, endedOf}
+use denote.Triple.Clauses.{AtExit}
+use denote.Ref.{now}
+use Rattle.engine_columns.specs.declared.EngineCounts.{EngineCounts}
+use Rattle.engine_columns.specs.declared.EngineAnswer.{EngineAnswer}
+use Rattle.engine_columns.specs.declared.EngineAnswer.the-variants.{Counts, Refused}
+use Rattle.engine_columns.specs.Records.{Engine, engine, kept, said}
+use Rattle.engine_columns.specs.Step.{Call, loadErasures, loadWeights, reset}
+use Rattle.engine_columns.specs.Open.{GraphColumns, graphColumns}
+use Rattle.engine_tally.specs.Tally.{Fed, lengthsOf}
+use Rattle.query_crossing_answer.specs.declared.CrossingReply.{CrossingReply}
+use Rattle.query_crossing_answer.specs.Crossing.{replyNumber}
+use Rattle.codes_calls.specs.declared.Created.{Created}
+use Rattle.codes_calls.specs.declared.Created.the-variants.{Code}
+use Rattle.claims.specs.Listed.{OwnLengths, ListedCall, modifies, crosses}
+use Rattle.engine_calls.proofs.open.Kinds as open-kinds
+use Rattle.engine_calls.proofs.open.Reads as open-reads
+use Rattle.engine_calls.proofs.load_erasures.Kinds as erasures-kinds
+use Rattle.engine_calls.proofs.load_erasures.Reads as erasures-reads
+use Rattle.engine_calls.proofs.load_dynamic_weights.Kinds as weights-kinds
+use Rattle.engine_calls.proofs.load_dynamic_weights.Reads as weights-reads
+use Rattle.engine_calls.proofs.reset.Kinds as reset-kinds
+use Rattle.engine_calls.proofs.reset.Reads as reset-reads
+use Rattle.query_crossings.proofs.crossing.Kinds as crossing-kinds
+use Rattle.query_crossings.proofs.crossing.Reads as crossing-reads
+use Rattle.codes_calls.proofs.create.create_code.Kinds as create-kinds
+use Rattle.codes_calls.proofs.create.create_code.Reads as create-reads
+use Rattle.codes_calls.proofs.weighted.new.Kinds as new-kinds
+use Rattle.codes_calls.proofs.weighted.new.Reads as new-reads
+use Rattle.codes_calls.proofs.weighted.new_diagonal.Kinds as diagonal-kinds
+use Rattle.codes_calls.proofs.weighted.new_diagonal.Reads as diagonal-reads
+
+-- an open that was accepted: the counts, what it was handed, and the engine's columns as it left them, with any log
+pub data OpenCalled : (vertices edges : ℕ) → GraphColumns → Engine → Type 0 where
+  opened : (κs : Lfts 8) (a : Dens κs open-kinds.ps) (c : EngineCounts) (s : AtExit (endedOf 8 open-kinds.ps open-kinds.r) κs) (logEdges logWeights : List ℕ)
+      → open-reads.Learnt κs a (Counts c) s
+      → OpenCalled (a .0) (a .1 .0)
+      (graphColumns (now (a .1 .1 .0)) (now (a .1 .1 .1 .0)) (now (a .1 .1 .1 .1 .0)) (now (a .1 .1 .1 .1 .1 .0)))
+      (engine c (now (s .1 .1 .1 .1 .1 .1 .0)) (now (s .1 .1 .1 .1 .1 .1 .1 .0)) (now (s .1 .1 .1 .1 .1 .1 .1 .1 .0)) (now (s .1 .1 .1 .1 .1 .1 .1 .1 .1 .0)) logEdges logWeights)
+
+-- a load or a reset that returned: the columns lent, the answer, and the columns as the call left them
+pub data Called : Call → Engine → EngineAnswer → Engine → Type 0 where
+  erased : (κs : Lfts 7) (a : Dens κs erasures-kinds.ps) (r : EngineAnswer) (s : AtExit (endedOf 7 erasures-kinds.ps erasures-kinds.r) κs) → erasures-reads.Learnt κs a r s
+      → Called (loadErasures (now (a .1 .1 .1 .1 .1 .1 .1 .0)))
+      (engine (a .0) (now (a .1 .0)) (now (a .1 .1 .0)) (now (a .1 .1 .1 .0)) (now (a .1 .1 .1 .1 .0)) (now (a .1 .1 .1 .1 .1 .0)) (now (a .1 .1 .1 .1 .1 .1 .0)))
+      r
+      (engine (kept (a .0) r) (now (a .1 .0)) (now (a .1 .1 .0)) (now (s .1 .1 .1 .0)) (now (a .1 .1 .1 .1 .0)) (now (s .1 .1 .1 .1 .1 .0)) (now (s .1 .1 .1 .1 .1 .1 .0)))
+  weighed : (κs : Lfts 8) (a : Dens κs weights-kinds.ps) (r : EngineAnswer) (s : AtExit (endedOf 8 weights-kinds.ps weights-kinds.r) κs) → weights-reads.Learnt κs a r s
+      → Called (loadWeights (now (a .1 .1 .1 .1 .1 .1 .1 .0)) (now (a .1 .1 .1 .1 .1 .1 .1 .1 .0)))
+      (engine (a .0) (now (a .1 .0)) (now (a .1 .1 .0)) (now (a .1 .1 .1 .0)) (now (a .1 .1 .1 .1 .0)) (now (a .1 .1 .1 .1 .1 .0)) (now (a .1 .1 .1 .1 .1 .1 .0)))
+      r
+      (engine (kept (a .0) r) (now (a .1 .0)) (now (a .1 .1 .0)) (now (s .1 .1 .1 .0)) (now (a .1 .1 .1 .1 .0)) (now (s .1 .1 .1 .1 .1 .0)) (now (s .1 .1 .1 .1 .1 .1 .0)))
+  undid : (κs : Lfts 6) (a : Dens κs reset-kinds.ps) (r : EngineAnswer) (s : AtExit (endedOf 6 reset-kinds.ps reset-kinds.r) κs) → reset-reads.Learnt κs a r s
+      → Called reset
+      (engine (a .0) (now (a .1 .0)) (now (a .1 .1 .0)) (now (a .1 .1 .1 .0)) (now (a .1 .1 .1 .1 .0)) (now (a .1 .1 .1 .1 .1 .0)) (now (a .1 .1 .1 .1 .1 .1 .0)))
+      r
+      (engine (kept (a .0) r) (now (a .1 .0)) (now (a .1 .1 .0)) (now (s .1 .1 .1 .0)) (now (a .1 .1 .1 .1 .0)) (now (a .1 .1 .1 .1 .1 .0)) (now (a .1 .1 .1 .1 .1 .1 .0)))
+
+-- a crossing that returned: the columns lent, which it only reads, the lengths of its own columns, the answer, and the weight column before and after
+pub data CrossingCalled : Engine → OwnLengths → CrossingReply → (column₀ column : List ℤ) → Type 0 where
+  crossed : (κs : Lfts 14) (a : Dens κs crossing-kinds.ps) (r : CrossingReply) (s : AtExit (endedOf 14 crossing-kinds.ps crossing-kinds.r) κs) → crossing-reads.Learnt κs a r s
+      → CrossingCalled
+      (engine (a .0) (now (a .1 .0)) (now (a .1 .1 .0)) (now (a .1 .1 .1 .0)) (now (a .1 .1 .1 .1 .0)) (now (a .1 .1 .1 .1 .1 .0)) (now (a .1 .1 .1 .1 .1 .1 .0)))
+      (record {
+        weights = length (now (a .1 .1 .1 .1 .1 .1 .1 .0));
+        numbers = length (now (a .1 .1 .1 .1 .1 .1 .1 .1 .0));
+        listEnds = length (now (a .1 .1 .1 .1 .1 .1 .1 .1 .1 .0));
+        status = length (now (a .1 .1 .1 .1 .1 .1 .1 .1 .1 .1 .0));
+        weight = length (now (a .1 .1 .1 .1 .1 .1 .1 .1 .1 .1 .1 .0));
+        previous = length (now (a .1 .1 .1 .1 .1 .1 .1 .1 .1 .1 .1 .1 .0));
+        node = length (now (a .1 .1 .1 .1 .1 .1 .1 .1 .1 .1 .1 .1 .1 .0));
+        leaf = length (now (a .1 .1 .1 .1 .1 .1 .1 .1 .1 .1 .1 .1 .1 .1 .0));
+      })
+      r (now (a .1 .1 .1 .1 .1 .1 .1 .0)) (now (s .1 .1 .1 .1 .1 .1 .1 .0))
+
+-- a list of calls with the number of each answer: each call is lent the engine's columns, the log and their counts as the call before left them; other columns are any
+pub data Calls : Engine → List ListedCall → List ℕ → Engine → Type 0 where
+  none : {e : Engine} → Calls e [] [] e
+  modified : {e e₁ e₂ : Engine} {cs : List ListedCall} {ns : List ℕ} (call : Call) (r : EngineAnswer)
+      → Called call e r e₁ → Calls e₁ cs ns e₂ → Calls e (modifies (record { call = call; lent = lengthsOf e }) ∷ cs) (said r .number ∷ ns) e₂
+  crossing : {e e₂ : Engine} {cs : List ListedCall} {ns : List ℕ} (own : OwnLengths) (r : CrossingReply) (column₀ column : List ℤ)
+      → CrossingCalled e own r column₀ column → Calls e cs ns e₂ → Calls e (crosses (lengthsOf e) own ∷ cs) (replyNumber r ∷ ns) e₂
+
+-- a code that was built, by any of the three functions that build one: the counts, the ends and the boundary bytes in the columns as the call left them
+pub data CodeBuilt : (kind d rounds vertices edges : ℕ) (endsA endsB boundary : List ℕ) → Type 0 where
+  created : (κs : Lfts 13) (a : Dens κs create-kinds.ps) (vertices edges : ℕ) (s : AtExit (endedOf 13 create-kinds.ps create-kinds.r) κs)
+      → create-reads.Learnt κs a (Code vertices edges) s
+      → CodeBuilt (a .0) (a .1 .0) (a .1 .1 .0) vertices edges (now (s .1 .1 .1 .0)) (now (s .1 .1 .1 .1 .0)) (now (s .1 .1 .1 .1 .1 .1 .1 .1 .1 .1 .1 .1 .0))
+  newly : (κs : Lfts 13) (a : Dens κs new-kinds.ps) (vertices edges : ℕ) (s : AtExit (endedOf 13 new-kinds.ps new-kinds.r) κs)
+      → new-reads.Learnt κs a (Code vertices edges) s
+      → CodeBuilt (a .0) (a .1 .0) (a .1 .1 .0) vertices edges (now (s .1 .1 .1 .1 .1 .0)) (now (s .1 .1 .1 .1 .1 .1 .0)) (now (s .1 .1 .1 .1 .1 .1 .1 .1 .1 .1 .1 .1 .1 .1 .0))
+  diagonally : (κs : Lfts 13) (a : Dens κs diagonal-kinds.ps) (vertices edges : ℕ) (s : AtExit (endedOf 13 diagonal-kinds.ps diagonal-kinds.r) κs)
+      → diagonal-reads.Learnt κs a (Code vertices edges) s
+      → CodeBuilt 4 (a .0) (a .1 .0) vertices edges (now (s .1 .1 .1 .1 .1 .0)) (now (s .1 .1 .1 .1 .1 .1 .0)) (now (s .1 .1 .1 .1 .1 .1 .1 .1 .1 .1 .1 .1 .1 .1 .0))

@@ -1,0 +1,101 @@
+-- Demand 3, sentence by sentence.
+use Prim.Native.Nat.{ℕ, _≤_, _<_}
+use mathlib.Core.Path.{_≡_}
+use mathlib.Core.Logic.{_↔_}
+use mathlib.Core.List.{List}
+use lib.ListN.{getD, take}
+use lib.IntN.{ℤ}
+use Rattle.engine_columns.specs.Records.{Engine}
+use Rattle.engine_columns.specs.Open.{GraphColumns}
+use Rattle.engine_tally.specs.Tally.{Tally, tallyOf, tallyNumbers, lengthsOf}
+use Rattle.engine_tally.specs.Readers.{callsSay, weightBy}
+use Rattle.engine_walks.specs.Lists.{sum}
+use Rattle.engine_walks.specs.Graph.{Graph, LeftJoinsRight, CrossingSet}
+use Rattle.engine_walks.specs.Answers.{weightIn}
+use Rattle.engine_walks.specs.Claims.{Alike, NotGreater, LeftWeight}
+use Rattle.query_crossing_answer.specs.declared.CrossingReply.{CrossingReply}
+use Rattle.query_crossing_answer.specs.declared.CrossingReply.the-variants.{Crossed}
+use Rattle.query_crossing_answer.specs.Crossing.{replyNumber, replyWeight}
+use Rattle.claims.specs.Listed.{OwnLengths, ListedCall, graphIn, weightsIn, before18, crossingNumber, modifying, tallyAtEnd, numbers}
+use Rattle.claims.specs.Called.{OpenCalled, Calls, CrossingCalled, CodeBuilt}
+
+-- a freshly opened graph and a list of calls on it, with the number of each answer; `left`: the engine's columns at its end
+pub record History : Type 0 where
+  pub vertices : ℕ
+  pub edges : ℕ
+  pub handed : GraphColumns
+  pub fresh : Engine
+  pub calls : List ListedCall
+  pub answers : List ℕ
+  pub left : Engine
+  pub opened : OpenCalled vertices edges handed fresh
+  pub called : Calls fresh calls answers left
+
+-- the tally at first and at the list's end, the graph and the weights that it then holds
+abbrev pub tallyFirst : History → Tally
+tallyFirst h = tallyOf (h .vertices) (h .edges) (h .handed)
+
+abbrev pub tallyLast : History → Tally
+tallyLast h = tallyAtEnd (h .calls) (tallyFirst h)
+
+abbrev pub graphLeft : History → Graph
+graphLeft h = graphIn (tallyLast h)
+
+abbrev pub weightsLeft : History → ℕ → ℕ
+weightsLeft h = weightsIn (tallyLast h)
+
+-- a crossing called then: its own columns' lengths, its answer, and the weight column before and after
+pub record CrossingThen (h : History) : Type 0 where
+  pub own : OwnLengths
+  pub reply : CrossingReply
+  pub column₀ : List ℤ
+  pub column : List ℤ
+  pub called : CrossingCalled (h .left) own reply column₀ column
+
+-- the question before 18 that refuses it, or 0
+abbrev pub refusedBefore : (h : History) → CrossingThen h → ℕ
+refusedBefore h c = before18 (lengthsOf (h .left)) (c .own) (tallyLast h)
+
+-- an accepted crossing after each of two lists, on graphs alike in ends and boundary bytes
+pub record TwoLists (h h′ : History) (c : CrossingThen h) (c′ : CrossingThen h′) : Type 0 where
+  pub alike : Alike (graphLeft h) (graphLeft h′)
+  pub accepted : replyNumber (c .reply) ≡ 0
+  pub accepted′ : replyNumber (c′ .reply) ≡ 0
+
+pub record Demand3 : Type 0 where
+  -- "Each call is accepted or refused as document 01's questions say."
+  pub each-call : (h : History) → h .answers ≡ numbers (h .calls) (tallyFirst h)
+  pub crossing-then : (h : History) (c : CrossingThen h) → replyNumber (c .reply) ≡ crossingNumber (lengthsOf (h .left)) (c .own) (tallyLast h)
+  -- document 01, Engine: the tally's count of log entries, and its other counts, are those that the calls hand back.
+  pub counts : (h : History) → h .left .counts ≡ tallyLast h .counts
+  -- "An edge weighs what an accepted load last named for it since the last accepted reset (0 if erased), else its opening weight."
+  pub edge-weighs : (h : History) (k : ℕ) → k < h .edges
+      → getD (h .left .weights) k 0 ≡ weightBy (callsSay (modifying (h .calls)) (tallyNumbers (modifying (h .calls)) (tallyFirst h)) k) (getD (h .handed .weights) k 0)
+  pub tally-weighs : (h : History) (k : ℕ) → k < h .edges → weightsLeft h k ≡ getD (h .left .weights) k 0
+  -- "Unless a question before 18 refuses it, a crossing called then is accepted exactly when some walk joins a left vertex to a right one."
+  pub joined : (h : History) (c : CrossingThen h) → refusedBefore h c ≡ 0 → (replyNumber (c .reply) ≡ 0) ↔ LeftJoinsRight (graphLeft h)
+  -- "Of all edge sets that leave no defect and meet the left boundary an odd number of times, none weighs less than the crossing weight that an accepted crossing reports,"
+  pub none-less : (h : History) (c : CrossingThen h) → replyNumber (c .reply) ≡ 0
+      → (s : List ℕ) → CrossingSet (graphLeft h) s → replyWeight (c .reply) ≤ sum s (weightsLeft h)
+  -- "and one weighs exactly that."
+  pub one-exactly : (h : History) (c : CrossingThen h) → replyNumber (c .reply) ≡ 0
+      → (s : List ℕ) × CrossingSet (graphLeft h) s × (sum s (weightsLeft h) ≡ replyWeight (c .reply))
+  -- document 01, Crossing: "The weight column then holds the least weight from the left, -1 for unreached."
+  pub least-weights : (h : History) (c : CrossingThen h) → replyNumber (c .reply) ≡ 0
+      → (v : ℕ) → v < h .vertices → LeftWeight (graphLeft h) (weightsLeft h) v (weightIn (c .column) v)
+  -- "Where they leave equal weights, accepted crossings report the same crossing weight and, for each vertex, the same least weight from the left;"
+  pub equal-weights : (h h′ : History) (c : CrossingThen h) (c′ : CrossingThen h′) → TwoLists h h′ c c′
+      → ((k : ℕ) → k < h .edges → weightsLeft h k ≡ weightsLeft h′ k)
+      → (replyWeight (c .reply) ≡ replyWeight (c′ .reply)) × ((v : ℕ) → v < h .vertices → weightIn (c .column) v ≡ weightIn (c′ .column) v)
+  -- "where one leaves weights nowhere greater, its accepted crossing reports none of these greater than the other's accepted one does."
+  pub nowhere-greater : (h h′ : History) (c : CrossingThen h) (c′ : CrossingThen h′) → TwoLists h h′ c c′
+      → ((k : ℕ) → k < h .edges → weightsLeft h k ≤ weightsLeft h′ k)
+      → (replyWeight (c .reply) ≤ replyWeight (c′ .reply)) × ((v : ℕ) → v < h .vertices → NotGreater (weightIn (c .column) v) (weightIn (c′ .column) v))
+  -- "With every weight 1, each built code of distance d reports d." The graph was handed the ends and boundary bytes of the code, whatever stands past the counts,
+  -- and any sound weights; the 1s came about by any list of calls.
+  pub distance : (h : History) (c : CrossingThen h) (kind d rounds : ℕ) (endsA endsB boundary : List ℕ)
+      → CodeBuilt kind d rounds (h .vertices) (h .edges) endsA endsB boundary
+      → take (h .edges) (h .handed .endsA) ≡ take (h .edges) endsA
+      → take (h .edges) (h .handed .endsB) ≡ take (h .edges) endsB
+      → take (h .vertices) (h .handed .boundary) ≡ take (h .vertices) boundary
+      → ((k : ℕ) → k < h .edges → weightsLeft h k ≡ 1) → refusedBefore h c ≡ 0 → c .reply ≡ Crossed d

@@ -1,0 +1,15 @@
+-- In reading order. Listed: a list of calls as the tally is fed it. Called: calls of the real functions. Demand3: what is claimed of them.
+pub mod Listed
+pub mod Called
+pub mod Demand3
+pub mod Starred
+-- SoundCodes: the verdict of `sanity_check` on built codes.
+pub mod SoundCodes
+-- Prebuilt: what the Rust's `PrebuiltCompleteGraph` reports of a graph. PrebuiltCalled: calls that were accepted. PrebuiltRows: that they give the same.
+pub mod Prebuilt
+pub mod PrebuiltCalled
+pub mod PrebuiltRows
+-- QueriesCalled: calls of the queries. Met: their questions 6, 7, 13 and 16. Queries: what their answers and columns say of walks and edge sets.
+pub mod QueriesCalled
+pub mod Met
+pub mod Queries

@@ -1,0 +1,25 @@
+-- Document 01, "Six builders": every built code gets verdict 0 from `sanity_check`, for every kind, distance and number of rounds that is accepted.
+use Prim.Native.Nat.{ℕ}
+use mathlib.Core.Path.{_≡_}
+use lib.Ieee.{Float}
+use Rattle.weights_diagonal.specs.declared.DiagonalProbability.{DiagonalProbability}
+use Rattle.columns_answers.specs.Said.{accepts}
+use Rattle.sanity_verdicts.specs.declared.Verdict.{Verdict}
+use Rattle.sanity_verdicts.specs.Sanity.{said, SanityChecked}
+use Rattle.codes_calls.specs.declared.Created.{Created}
+use Rattle.codes_calls.specs.declared.Created.the-variants.{Code}
+use Rattle.codes_calls.specs.Columns.{CodeColumns}
+use Rattle.codes_calls.specs.CreateCode.{CreateCode}
+use Rattle.codes_calls.specs.NewCode.{WeightedCode}
+
+-- whatever `sanity_check` answers to the columns of a code of v vertices and e edges is verdict 0
+abbrev pub GetsZero : (v e : ℕ) → CodeColumns → Type 0
+GetsZero v e back = (r : Verdict) → SanityChecked v e (back .endsA) (back .endsB) (back .listLengths) (back .neighborNumbers) r → said r ≡ accepts (0, 0, 0)
+
+-- of the columns that an accepted `create_code` hands back, whatever was lent
+abbrev pub CreatedCodesAreSound : Type 0
+CreatedCodesAreSound = (kind d rounds : ℕ) (lent back : CodeColumns) (v e : ℕ) → CreateCode kind d rounds lent back (Code v e) → GetsZero v e back
+
+-- of those that an accepted `new` or `new_diagonal` hands back
+abbrev pub NewCodesAreSound : Type 0
+NewCodesAreSound = (kind d rounds : ℕ) (p : Float) (diagonal : DiagonalProbability) (max : ℕ) (lent back : CodeColumns) (v e : ℕ) → WeightedCode kind d rounds p diagonal max lent back (Code v e) → GetsZero v e back

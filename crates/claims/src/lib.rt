@@ -1,0 +1,51 @@
+// Demand 3 as one claim about every list of calls, the contract of a function with nothing to do.
+ghost use Rattle.claims.specs.Demand3.{Demand3};
+ghost use Rattle.claims.specs.Starred.{StarredExamples};
+ghost use Rattle.claims.specs.SoundCodes.{CreatedCodesAreSound, NewCodesAreSound};
+ghost use Rattle.claims.specs.PrebuiltRows.{PrebuiltRows};
+ghost use Rattle.claims.specs.Met.{ColumnsInRange};
+ghost use Rattle.claims.specs.Queries.{AllEdgesIsLeast, GetPathIsLeast, CrossingCallIsLeast};
+
+// The customer's demand 3, for every list of load-erasures, load-weights, reset and crossing calls on a freshly opened graph.
+pub fn demand_3()
+    ensures { λ _. ⌜ Demand3 ⌝ }
+{}
+
+pub fn starred_examples()
+    ensures { λ _. ⌜ StarredExamples ⌝ }
+{}
+
+// `sanity_check` gives verdict 0 to every code that `create_code` builds.
+pub fn created_codes_are_sound()
+    ensures { λ _. ⌜ CreatedCodesAreSound ⌝ }
+{}
+
+// `sanity_check` gives verdict 0 to every code that `new` or `new_diagonal` builds.
+pub fn new_codes_are_sound()
+    ensures { λ _. ⌜ NewCodesAreSound ⌝ }
+{}
+
+// After an accepted `fill_boundaries` its columns hold the Rust's boundary weights and vertices, and `fill_row` over them gives the Rust's row.
+pub fn prebuilt_rows()
+    ensures { λ _. ⌜ PrebuiltRows ⌝ }
+{}
+
+// Questions 6 and 7 met: ends are vertices, boundary bytes are 0, 1 or 2, weights are within their limit.
+pub fn columns_in_range()
+    ensures { λ _. ⌜ ColumnsInRange ⌝ }
+{}
+
+// `all_edges_with_terminate` and `all_edges`: accepted exactly where 6, 7 and 13 are met, with a table of least weights.
+pub fn all_edges_is_least()
+    ensures { λ _. ⌜ AllEdgesIsLeast ⌝ }
+{}
+
+// `get_path`: 17 exactly where no walk joins the two vertices, else a walk of least weight.
+pub fn get_path_is_least()
+    ensures { λ _. ⌜ GetPathIsLeast ⌝ }
+{}
+
+// `crossing`: 18 exactly where no walk joins left and right, else the least weight of a crossing set, and the least weights from the left.
+pub fn crossing_call_is_least()
+    ensures { λ _. ⌜ CrossingCallIsLeast ⌝ }
+{}

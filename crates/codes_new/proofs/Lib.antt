@@ -1,8 +1,0 @@
--- TwoWeights: the largest of weights that are one of two. Distances: differences of coordinates, by computation. Positions: where the vertices of a
--- code are. Diagonals: which edges of kind 4 are diagonal. Largest: the largest weight of a code. Outcome: accepted and refused.
-pub mod TwoWeights
-pub mod Distances
-pub mod Positions
-pub mod Diagonals
-pub mod Largest
-pub mod Outcome

@@ -1,2 +1,0 @@
--- Marked: the list of marked vertices or edges.
-pub mod Marked

@@ -1,0 +1,58 @@
+-- The questions of a call that fills both columns. Assumes nothing.
+use mathlib.Core.Path.{_≡_, _∙_}
+use mathlib.Core.Bool.{Bool, true}
+use Prim.Native.Nat.{ℕ, _<_}
+use native.Mathlib.Omega.{arith}
+use lib.Dec.{leb}
+use borrow.Author.Tests.{lt-ltb, le-leb, leb-true}
+use Rattle.columns.proofs.Tests.{and-both}
+use Rattle.engine_columns.specs.Records.{Engine}
+use Rattle.engine_columns.proofs.Doors.{long-from, sound-from}
+use Rattle.query_tables.specs.declared.End.the-variants.{None}
+use Rattle.query_questions.specs.Queries.{scratchLong}
+use Rattle.query_tables.specs.Steps.{tableDoor}
+use Rattle.query_search.proofs.Asked.{query-of}
+use Rattle.prebuilt_calls.specs.Steps.{Fillable}
+use Rattle.prebuilt_calls.specs.Boundaries.{boundariesDoor}
+
+module _ (e : Engine) (weights vertices least before numbers ends status weight previous node leaf : ℕ) where
+  abbrev scratch : Bool
+  scratch = scratchLong (e .counts .vertices) (e .counts .edges) numbers ends status weight previous node leaf
+
+  -- a search from v is accepted
+  pub search-accepted : Fillable e weights vertices least before numbers ends status weight previous node leaf → (v : ℕ) → v < e .counts .vertices
+      → tableDoor e scratch v None least before ≡ 0
+  search-accepted f v h =
+      rw (f .long, f .is-sound, le-leb (e .counts .vertices) least (f .least-fits), le-leb (e .counts .vertices) before (f .before-fits), f .scratch-fits, lt-ltb v (e .counts .vertices) h)
+
+  -- what an accepted call says
+  pub fillable : boundariesDoor e scratch weights vertices least before ≡ 0 → Fillable e weights vertices least before numbers ends status weight previous node leaf
+  fillable z =
+      let n = e .counts .vertices in
+      let q = query-of e _ true 0 z in
+      let (a, h₁) = and-both (leb n weights) _ (q .fits-are) in
+      let (b, h₂) = and-both (leb n vertices) _ h₁ in
+      let (c, h₃) = and-both (leb n least) _ h₂ in
+      let (d, s) = and-both (leb n before) scratch h₃ in
+      record {
+        long = long-from 0 e (q .long);
+        is-sound = sound-from e (q .sound);
+        weights-fit = leb-true _ _ a;
+        vertices-fit = leb-true _ _ b;
+        least-fits = leb-true _ _ c;
+        before-fits = leb-true _ _ d;
+        scratch-fits = s;
+      }
+
+-- the same room in columns of the same lengths
+pub same-room : {e : Engine} {w v l b n d s k p o f w′ v′ l′ b′ n′ d′ s′ k′ p′ o′ f′ : ℕ} → Fillable e w v l b n d s k p o f
+    → w′ ≡ w → v′ ≡ v → l′ ≡ l → b′ ≡ b → n′ ≡ n → d′ ≡ d → s′ ≡ s → k′ ≡ k → p′ ≡ p → o′ ≡ o → f′ ≡ f → Fillable e w′ v′ l′ b′ n′ d′ s′ k′ p′ o′ f′
+same-room {e} r ew ev el eb en ed es ek ep eo ef = record {
+  long = r .long;
+  is-sound = r .is-sound;
+  weights-fit = omega (arith, r .weights-fit);
+  vertices-fit = omega (arith, r .vertices-fit);
+  least-fits = omega (arith, r .least-fits);
+  before-fits = omega (arith, r .before-fits);
+  scratch-fits = (λ i. scratchLong (e .counts .vertices) (e .counts .edges) (en i) (ed i) (es i) (ek i) (ep i) (eo i) (ef i)) ∙ r .scratch-fits;
+}

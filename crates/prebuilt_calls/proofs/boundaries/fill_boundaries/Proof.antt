@@ -1,0 +1,105 @@
+-- `prebuilt_calls::boundaries::fill_boundaries` meets its contract. Assumes nothing.
+use mathlib.Core.Path.{_≡_, refl, sym, ap, _∙_, subst}
+use Prim.Native.Nat.{ℕ, _<_, _≤_}
+use native.Mathlib.Omega.{arith}
+use mathlib.Core.Bool.{Bool, true, _&&_}
+use lib.ListN.{length}
+use lib.Seq.{sets}
+use Rattle.columns.specs.Lists.{each}
+use Rattle.columns.proofs.Counting.{length-each}
+use Rattle.columns.proofs.Columns.{sets-over, after-accepted, after-refused}
+use Rattle.engine_columns.specs.Records.{Engine, engine}
+use Rattle.query_questions.specs.Queries.{graphIn, weightsIn, scratchLong, queryDoor}
+use Rattle.columns_answers.proofs.Said.{accepts-of, refuses-of}
+use Rattle.prebuilt_calls.specs.Boundaries.{boundaryWeight, boundaryVertex, boundariesDoor}
+use Rattle.prebuilt_calls.specs.Steps.{Fillable}
+use Rattle.prebuilt_calls.proofs.Asked.{fillable}
+use borrow.Author.Needs.{needs}
+use Rattle.prebuilt_calls.proofs.boundaries.fill_boundaries.Statement.{statement}
+use Rattle.prebuilt_calls.proofs.boundaries.fill_boundaries.Tie as tie
+
+engine-of : tie.Start → Engine
+engine-of s = engine (s .args .c) (s .args .ends-a .now) (s .args .ends-b .now) (s .args .weights .now) (s .args .boundary .now) (s .args .log-edges .now) (s .args .log-weights .now)
+
+scratch-at : tie.Start → Bool
+scratch-at s = scratchLong (s .args .c .vertices) (s .args .c .edges) (length (s .args .numbers .now)) (length (s .args .list-ends .now)) (length (s .args .status .now)) (length (s .args .weight .now)) (length (s .args .previous .now)) (length (s .args .node .now)) (length (s .args .leaf .now))
+
+number-at : tie.Start → ℕ
+unfolding engine-of scratch-at
+number-at s = boundariesDoor (engine-of s) (scratch-at s) (length (s .args .out-weight .now)) (length (s .args .out-vertex .now)) (length (s .args .least .now)) (length (s .args .before .now))
+
+number-then : (t : tie.Then1) → number-at (t .before .before .before .before .before .before .before .before .before .before .before .before .before .before .before .before .before .before .before .before .before .before .before .before .before .before .before) ≡ 0
+unfolding number-at engine-of scratch-at
+number-then t = sym (t .before .query-door .ensures ∙ (λ i. queryDoor (engine-of (t .before .before .before .before .before .before .before .before .before .before .before .before .before .before .before .before .before .before .before .before .before .before .before .before .before .before .before)) ((t .before .before .both4 .ensures ∙ (λ j. t .before .before .before .before .before .at-most3 .ensures j && (t .before .before .before .both3 .ensures ∙ (λ k. t .before .before .before .before .at-most4 .ensures k && (t .before .before .before .before .before .before .both2 .ensures ∙ (λ l. t .before .before .before .before .before .before .before .before .before .at-most .ensures l && (t .before .before .before .before .before .before .before .both .ensures ∙ (λ m. t .before .before .before .before .before .before .before .before .at-most2 .ensures m && t .before .before .before .before .before .before .before .before .before .before .scratch-long .ensures m)) l)) k)) j)) i) true 0)) ∙ t .if1 .taken
+
+fillable-at : (s : tie.Start) → number-at s ≡ 0 → Fillable (engine-of s) (length (s .args .out-weight .now)) (length (s .args .out-vertex .now)) (length (s .args .least .now)) (length (s .args .before .now)) (length (s .args .numbers .now)) (length (s .args .list-ends .now)) (length (s .args .status .now)) (length (s .args .weight .now)) (length (s .args .previous .now)) (length (s .args .node .now)) (length (s .args .leaf .now))
+unfolding number-at engine-of scratch-at
+fillable-at s z = fillable (engine-of s) _ _ _ _ _ _ _ _ _ _ _ z
+
+fill-all-requires : tie.Need-fill-all-requires
+unfolding engine-of
+fill-all-requires c κs = let t : tie.Then1 = c .before .before .before .before .before .before .before .before .before .before .before in fillable-at (t .before .before .before .before .before .before .before .before .before .before .before .before .before .before .before .before .before .before .before .before .before .before .before .before .before .before .before) (number-then t)
+
+same-length : tie.Need-same-length
+same-length c = c .before .before .before .before .before .before .before .before .before .before .before .before .before .before .before .before .before .before .before .out-weight .given
+
+same-length-2 : tie.Need-same-length-2
+same-length-2 c = c .before .before .before .before .before .before .before .before .before .before .before .before .before .before .before .before .before .before .out-vertex .given
+
+same-length-3 : tie.Need-same-length-3
+same-length-3 c = c .before .before .before .before .before .before .before .before .before .before .before .before .before .before .before .before .least .given
+
+same-length-4 : tie.Need-same-length-4
+same-length-4 c = c .before .before .before .before .before .before .before .before .before .before .before .before .before .before .before .before2 .given
+
+same-length-5 : tie.Need-same-length-5
+same-length-5 c = c .before .before .before .before .before .before .before .before .before .before .before .before .before .numbers .given
+
+same-length-6 : tie.Need-same-length-6
+same-length-6 c = c .before .before .before .before .before .before .before .before .before .before .before .list-ends .given
+
+same-length-7 : tie.Need-same-length-7
+same-length-7 c = c .before .before .before .before .before .before .before .before .before .status .given
+
+same-length-8 : tie.Need-same-length-8
+same-length-8 c = c .before .before .before .before .before .before .before .weight .given
+
+same-length-9 : tie.Need-same-length-9
+same-length-9 c = c .before .before .before .before .before .previous .given
+
+same-length-10 : tie.Need-same-length-10
+same-length-10 c = c .before .before .before .node .given
+
+same-length-11 : tie.Need-same-length-11
+same-length-11 c = c .before .leaf .given
+
+returns : tie.Need-returns
+unfolding number-at engine-of scratch-at
+returns c = let t : tie.Then1 = c .before .before .before .before .before .before .before .before .before .before .before .before .before .before .before .before .before .before .before .before .before .before .before .before .before .before .before .before .before .before .before .before in
+    let s : tie.Start = t .before .before .before .before .before .before .before .before .before .before .before .before .before .before .before .before .before .before .before .before .before .before .before .before .before .before .before in
+    let z = number-then t in
+    let k = fillable-at s z in
+    let o = c .before .before .before .before .before .before .before .before .before .before .before .before .before .before .before .before .before .before .before .before .fill-all .ensures in (
+      record {
+        answer = accepts-of z;
+        weights-left = o .0 ∙ sets-over (s .args .out-weight .now) (each (s .args .c .vertices) (boundaryWeight (graphIn (engine-of s)) (weightsIn (engine-of s)))) (omega (arith, length-each (s .args .c .vertices) (boundaryWeight (graphIn (engine-of s)) (weightsIn (engine-of s))), k .weights-fit)) ∙ sym (after-accepted (number-at s) (each (s .args .c .vertices) (boundaryWeight (graphIn (engine-of s)) (weightsIn (engine-of s)))) (s .args .out-weight .now) z);
+        vertices-left = o .1 ∙ sets-over (s .args .out-vertex .now) (each (s .args .c .vertices) (boundaryVertex (graphIn (engine-of s)) (weightsIn (engine-of s)))) (omega (arith, length-each (s .args .c .vertices) (boundaryVertex (graphIn (engine-of s)) (weightsIn (engine-of s))), k .vertices-fit)) ∙ sym (after-accepted (number-at s) (each (s .args .c .vertices) (boundaryVertex (graphIn (engine-of s)) (weightsIn (engine-of s)))) (s .args .out-vertex .now) z);
+      },
+      (tt, tt),
+    )
+
+returns-2 : tie.Need-returns-2
+unfolding number-at engine-of scratch-at
+returns-2 c = let s : tie.Start = c .before .before .before .before .before .before .before .before .before .before .before .before .before .before .before .before .before .before .before .before .before .before .before .before .before .before .before in
+    let d : c .before .query-door .result ≡ number-at s = (c .before .query-door .ensures ∙ (λ i. queryDoor (engine-of (c .before .before .before .before .before .before .before .before .before .before .before .before .before .before .before .before .before .before .before .before .before .before .before .before .before .before .before)) ((c .before .before .both4 .ensures ∙ (λ j. c .before .before .before .before .before .at-most3 .ensures j && (c .before .before .before .both3 .ensures ∙ (λ k. c .before .before .before .before .at-most4 .ensures k && (c .before .before .before .before .before .before .both2 .ensures ∙ (λ l. c .before .before .before .before .before .before .before .before .before .at-most .ensures l && (c .before .before .before .before .before .before .before .both .ensures ∙ (λ m. c .before .before .before .before .before .before .before .before .at-most2 .ensures m && c .before .before .before .before .before .before .before .before .before .before .scratch-long .ensures m)) l)) k)) j)) i) true 0)) in
+    let f : number-at s ≡ 0 → ⊥ = λ e. c .if1 .left (d ∙ e) in (
+      record {
+        answer = refuses-of d (c .if1 .left);
+        weights-left = sym (after-refused (number-at s) (each (s .args .c .vertices) (boundaryWeight (graphIn (engine-of s)) (weightsIn (engine-of s)))) (s .args .out-weight .now) f);
+        vertices-left = sym (after-refused (number-at s) (each (s .args .c .vertices) (boundaryVertex (graphIn (engine-of s)) (weightsIn (engine-of s)))) (s .args .out-vertex .now) f);
+      },
+      ((refl, refl), refl),
+    )
+
+pub fill-boundaries-spec : {M : Type 1} → statement M
+fill-boundaries-spec = tie.close (tie.spec (λ c. search needs) (λ c κs. tt) (λ c κs. tt) (λ c κs. tt) (λ c κs. tt) (λ c κs. tt) (λ c κs. tt) (λ c κs. tt) (λ c κs. tt) (λ c κs. tt) (λ c κs. tt) fill-all-requires same-length same-length-2 same-length-3 same-length-4 same-length-5 same-length-6 same-length-7 same-length-8 same-length-9 same-length-10 same-length-11 returns returns-2)

@@ -1,0 +1,124 @@
+-- `prebuilt_calls::boundaries::fill_one` meets its contract. Assumes nothing.
+use mathlib.Core.Path.{_≡_, refl, sym, ap, _∙_, subst}
+use Prim.Native.Nat.{ℕ, _<_, _≤_}
+use native.Mathlib.Omega.{arith}
+use mathlib.Core.Bool.{Bool}
+use mathlib.Core.List.{List}
+use mathlib.Core.Option.{none}
+use lib.ListN.{length, getD, take, set}
+use lib.Seq.{length-take-le}
+use lib.IntN.{ℤ}
+use Rattle.columns.proofs.Columns.{after-accepted}
+use Rattle.columns_neighbors.proofs.Ends.{GraphSound, graph-says}
+use Rattle.engine_columns.specs.Records.{Engine, engine}
+use Rattle.engine_walks.specs.Answers.{table}
+use Rattle.query_tables.specs.declared.End.the-variants.{None}
+use Rattle.query_questions.specs.Queries.{graphIn, weightsIn, scratchLong}
+use Rattle.query_tables.specs.Steps.{tableDoor}
+use Rattle.query_tables.proofs.Tables.{TableAsked, table-of}
+use Rattle.query_tables.proofs.Sources.{table-weights-length}
+use Rattle.prebuilt_entries.specs.Nearest.{boundaryIn, weightTo, vertexTo}
+use Rattle.prebuilt_entries.proofs.Amounts.{cut-fits}
+use Rattle.prebuilt_calls.proofs.Asked.{search-accepted}
+use borrow.Author.Needs.{needs}
+use Rattle.prebuilt_calls.proofs.boundaries.fill_one.Statement.{statement}
+use Rattle.prebuilt_calls.proofs.boundaries.fill_one.Tie as tie
+
+engine-of : tie.Start → Engine
+engine-of s = engine (s .args .c) (s .args .ends-a .now) (s .args .ends-b .now) (s .args .weights .now) (s .args .boundary .now) (s .args .log-edges .now) (s .args .log-weights .now)
+
+scratch-at : tie.Start → Bool
+scratch-at s = scratchLong (s .args .c .vertices) (s .args .c .edges) (length (s .args .numbers .now)) (length (s .args .list-ends .now)) (length (s .args .status .now)) (length (s .args .weight .now)) (length (s .args .previous .now)) (length (s .args .node .now)) (length (s .args .leaf .now))
+
+number-at : tie.Start → ℕ
+unfolding engine-of scratch-at
+number-at s = tableDoor (engine-of s) (scratch-at s) (s .args .v) None (length (s .args .least .now)) (length (s .args .before .now))
+
+number-is : (s : tie.Start) → number-at s ≡ 0
+unfolding number-at engine-of scratch-at
+number-is s = search-accepted (engine-of s) _ _ _ _ _ _ _ _ _ _ _ (s .pre .0) (s .args .v) (s .pre .1)
+
+asked-at : (s : tie.Start) → TableAsked (engine-of s) (scratch-at s) (s .args .v) None (length (s .args .least .now)) (length (s .args .before .now))
+unfolding number-at
+asked-at s = table-of (engine-of s) (scratch-at s) (s .args .v) None _ _ (number-is s)
+
+table-at : tie.Start → List ℤ
+unfolding engine-of
+table-at s = table (graphIn (engine-of s)) (weightsIn (engine-of s)) (s .args .v) none .weights
+
+slice-aggregate-store-boundary : tie.Need-slice-aggregate-store-boundary
+unfolding number-at engine-of scratch-at table-at
+slice-aggregate-store-boundary c = let s : tie.Start = c .before .before .before .before .before .before .before .before .before .before .before .before .before .before .before .before .before .before .before .before .before .before .before .before .before .before .before .before .before .before .before .before .before .before .before .before .before .before .before .before .before .before .before .before in
+    sym (length-take-le (s .args .c .vertices) (s .args .boundary .now) (asked-at s .long .columns .boundary))
+
+slice-reshare-prefix-store-boundary : tie.Need-slice-reshare-prefix-store-boundary
+unfolding number-at engine-of scratch-at table-at
+slice-reshare-prefix-store-boundary c = let s : tie.Start = c .before .before .before .before .before .before .before .before .before .before .before .before .before .before .before .before .before .before .before .before .before .before .before .before .before .before .before .before .before .before .before .before .before .before .before .before .before .before .before .before .before .before .before .before in
+    let k = asked-at s in
+    let w = c .before .before .before .before .before .before .before .before .before .before .before .before .before .before .before .before .before .before .before .all-edges .ensures .0 .weights-left ∙ after-accepted (number-at s) (table-at s) (s .args .least .now) (number-is s) in
+    let f = cut-fits (table-at s) (s .args .least .now) (s .args .c .vertices) w (table-weights-length (graphIn (engine-of s)) (weightsIn (engine-of s)) (s .args .v) none) (k .weights-long) in
+    f .0
+
+slice-aggregate-store-boundary-2 : tie.Need-slice-aggregate-store-boundary-2
+unfolding number-at engine-of scratch-at table-at
+slice-aggregate-store-boundary-2 c = let s : tie.Start = c .before .before .before .before .before .before .before .before .before .before .before .before .before .before .before .before .before .before .before .before .before .before .before .before .before .before .before .before .before .before .before .before .before .before .before .before .before .before .before .before .before .before .before .before .before in
+    let k = asked-at s in
+    let w = c .before .before .before .before .before .before .before .before .before .before .before .before .before .before .before .before .before .before .before .before .all-edges .ensures .0 .weights-left ∙ after-accepted (number-at s) (table-at s) (s .args .least .now) (number-is s) in
+    let f = cut-fits (table-at s) (s .args .least .now) (s .args .c .vertices) w (table-weights-length (graphIn (engine-of s)) (weightsIn (engine-of s)) (s .args .v) none) (k .weights-long) in
+    sym (f .1)
+
+store-boundary-requires : tie.Need-store-boundary-requires
+unfolding number-at engine-of scratch-at table-at
+store-boundary-requires c κs = let s : tie.Start = c .before .before .before .before .before .before .before .before .before .before .before .before .before .before .before .before .before .before .before .before .before .before .before .before .before .before .before .before .before .before .before .before .before .before .before .before .before .before .before .before .before .before .before .before .before .before .before in
+    let k = asked-at s in
+    let w = c .before .before .before .before .before .before .before .before .before .before .before .before .before .before .before .before .before .before .before .before .before .before .all-edges .ensures .0 .weights-left ∙ after-accepted (number-at s) (table-at s) (s .args .least .now) (number-is s) in
+    let f = cut-fits (table-at s) (s .args .least .now) (s .args .c .vertices) w (table-weights-length (graphIn (engine-of s)) (weightsIn (engine-of s)) (s .args .v) none) (k .weights-long) in
+    let lb = length-take-le (s .args .c .vertices) (s .args .boundary .now) (k .long .columns .boundary) in
+    let few = graph-says (s .args .c .vertices) (s .args .c .edges) (s .args .ends-a .now) (s .args .ends-b .now) (k .sound .columns .graph) .few-vertices in
+    (lb ∙ sym (f .1), omega (arith, lb, s .pre .1), omega (arith, f .1, few), omega (arith, s .pre .0 .weights-fit, s .pre .1), omega (arith, s .pre .0 .vertices-fit, s .pre .1))
+
+same-length : tie.Need-same-length
+same-length c = c .before .before .out-weight .given
+
+same-length-2 : tie.Need-same-length-2
+same-length-2 c = c .before .out-vertex .given
+
+same-length-3 : tie.Need-same-length-3
+same-length-3 c = c .before .before .before .before .before .before .before .before .before .before .before .before .before .before .before .before .before .before .before .before .before .before .before .before .before .least .given
+
+same-length-4 : tie.Need-same-length-4
+same-length-4 c = c .before .before .before .before .before .before .before .before .before .before .before .before .before .before .before .before .before .before .before .before .before .before .before .before .before2 .given
+
+same-length-5 : tie.Need-same-length-5
+same-length-5 c = c .before .before .before .before .before .before .before .before .before .before .before .before .before .before .before .before .before .before .before .before .before .before .numbers .given
+
+same-length-6 : tie.Need-same-length-6
+same-length-6 c = c .before .before .before .before .before .before .before .before .before .before .before .before .before .before .before .before .before .before .before .before .list-ends .given
+
+same-length-7 : tie.Need-same-length-7
+same-length-7 c = c .before .before .before .before .before .before .before .before .before .before .before .before .before .before .before .before .before .before .status .given
+
+same-length-8 : tie.Need-same-length-8
+same-length-8 c = c .before .before .before .before .before .before .before .before .before .before .before .before .before .before .before .before .weight .given
+
+same-length-9 : tie.Need-same-length-9
+same-length-9 c = c .before .before .before .before .before .before .before .before .before .before .before .before .before .before .previous .given
+
+same-length-10 : tie.Need-same-length-10
+same-length-10 c = c .before .before .before .before .before .before .before .before .before .before .before .before .node .given
+
+same-length-11 : tie.Need-same-length-11
+same-length-11 c = c .before .before .before .before .before .before .before .before .before .before .leaf .given
+
+returns : tie.Need-returns
+unfolding number-at engine-of scratch-at table-at
+returns c = let s : tie.Start = c .before .before .before .before .before .before .before .before .before .before .before .before .before .before .before .before .before .before .before .before .before .before .before .before .before .before .before .before .before .before .before .before .before .before .before .before .before .before .before .before .before .before .before .before .before .before .before .before .before .before .before in
+    let k = asked-at s in
+    let w = c .before .before .before .before .before .before .before .before .before .before .before .before .before .before .before .before .before .before .before .before .before .before .before .before .before .before .all-edges .ensures .0 .weights-left ∙ after-accepted (number-at s) (table-at s) (s .args .least .now) (number-is s) in
+    let f = cut-fits (table-at s) (s .args .least .now) (s .args .c .vertices) w (table-weights-length (graphIn (engine-of s)) (weightsIn (engine-of s)) (s .args .v) none) (k .weights-long) in
+    let m = take (s .args .c .vertices) (s .args .boundary .now) in
+    let o = c .before .before .before .store-boundary .ensures in
+    (o .0 ∙ (λ i. set (s .args .out-weight .now) (s .args .v) (weightTo (f .2 i) (boundaryIn m (f .2 i) (f .1 i) (s .args .v)))), o .1 ∙ (λ i. set (s .args .out-vertex .now) (s .args .v) (vertexTo (boundaryIn m (f .2 i) (f .1 i) (s .args .v)))))
+
+pub fill-one-spec : {M : Type 1} → statement M
+fill-one-spec = tie.close (tie.spec (λ c κs. tt) (λ c. search needs) slice-aggregate-store-boundary slice-reshare-prefix-store-boundary slice-aggregate-store-boundary-2 store-boundary-requires same-length same-length-2 same-length-3 same-length-4 same-length-5 same-length-6 same-length-7 same-length-8 same-length-9 same-length-10 same-length-11 returns)

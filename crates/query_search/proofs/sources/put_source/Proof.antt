@@ -1,0 +1,40 @@
+-- `query_search::sources::put_source` meets its contract. Assumes nothing.
+use mathlib.Core.Path.{_≡_, refl, sym, ap, ap₂, _∙_, subst}
+use Prim.Native.Nat.{ℕ, zero, suc, _+_, _*_, _-_, _<_, _≤_}
+use native.Mathlib.Omega.{arith}
+use mathlib.Core.Bool.{true, false, cond}
+use mathlib.Core.List.{List, []}
+use lib.ListN.{length, getD, set, replicate, length-replicate, length-set}
+use lib.Seq.{sets, set-out, length-sets}
+use lib.Dec.{eqb, ltb}
+use borrow.Author.Tests.{eq-eqb, ne-eqb}
+use Rattle.columns.specs.Lists.{each}
+use Rattle.columns.proofs.Counting.{store-each, whole, replicate-each, length-each}
+use Rattle.query_search.proofs.sources.put_source.Statement.{statement}
+use Rattle.query_search.proofs.sources.put_source.Tie as tie
+
+shared-slice-read-if1 : tie.Need-shared-slice-read-if1
+shared-slice-read-if1 c = omega (arith, c .before .before .before .before .pre .1)
+
+put-requires : tie.Need-put-requires
+put-requires c κs = let p = c .before .before .before .before .before .before .before .pre in (p .2, (p .1, (p .0, p .3)))
+
+same-length : tie.Need-same-length
+same-length c = c .before .before .before .node .given
+
+same-length-2 : tie.Need-same-length-2
+same-length-2 c = c .before .leaf .given
+
+returns : tie.Need-returns
+returns c =
+    let s = c .before .before .before .before .before .before .before .before .before .before .before .before in
+    let p = c .before .before .before .before .put .ensures in
+    (p .1 .0 ∙ ap (λ b. cond b (set (s .args .leaf .now) (s .args .v) (s .args .v)) (s .args .leaf .now)) (sym (eq-eqb _ 1 (c .before .before .before .before .before .before .before .if1 .taken))), (p .0, p .1 .1))
+
+returns-2 : tie.Need-returns-2
+returns-2 c =
+    let s = c .before .before .before .before .before in
+    (ap (λ b. cond b (set (s .args .leaf .now) (s .args .v) (s .args .v)) (s .args .leaf .now)) (sym (ne-eqb _ 1 (c .if1 .left))), (s .pre .3, refl))
+
+pub put-source-spec : {M : Type 1} → statement M
+put-source-spec = tie.close (tie.spec shared-slice-read-if1 put-requires same-length same-length-2 returns returns-2)

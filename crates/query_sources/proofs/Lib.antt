@@ -1,2 +1,0 @@
--- Beginning: the state before the first turn.
-pub mod Beginning

@@ -1,2 +1,0 @@
--- Fill: what fill_vertices leaves.
-pub mod Fill

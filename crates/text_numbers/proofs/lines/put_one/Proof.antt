@@ -1,0 +1,25 @@
+-- `text_numbers::lines::put_one` meets its contract. Assumes nothing.
+use mathlib.Core.Path.{_≡_, refl, sym, ap, _∙_}
+use mathlib.Core.List.{List, [], _∷_, _++_}
+use Prim.Native.Nat.{ℕ, _+_, _-_, _*_, _≤_, _<_}
+use native.Mathlib.Omega.{arith}
+use lib.ListN.{length, getD}
+use Rattle.columns.specs.Lists.{joined}
+use Rattle.text_numbers.specs.Text.{decimal, ended, vertexLine, edgeLine, vertexLines, edgeLines}
+use Rattle.text_numbers.specs.Steps.{Put}
+use Rattle.text_numbers.proofs.Putting.{none, both, more, line-end, field, lettered, renamed, long-kept}
+use Rattle.text_numbers.proofs.Sizes.{decimal-few, vertices-few, edges-few}
+use borrow.Author.Needs.{needs}
+use Rattle.text_numbers.proofs.lines.put_one.Statement.{statement}
+use Rattle.text_numbers.proofs.lines.put_one.Tie as tie
+
+put-byte-requires-2 : tie.Need-put-byte-requires-2
+put-byte-requires-2 c κs = omega (arith, c .before .before .before .put-field .ensures .1, c .before .before .before .before .before .before .before .put-byte .ensures .next)
+
+returns : tie.Need-returns
+returns c =
+    let n = c .before .before .before .before .before .before .before .before .before .before .before .before .before .args .n in
+    lettered _ (n ∷ []) (c .before .before .before .before .before .before .before .before .before .before .put-byte .ensures) (field n [] (c .before .before .before .before .before .before .put-field .ensures .0) (line-end (c .before .before .put-byte2 .ensures)))
+
+pub put-one-spec : {M : Type 1} → statement M
+put-one-spec = tie.close (tie.spec (λ c κs. search needs) (λ c κs. search needs) put-byte-requires-2 (λ c. search needs) returns)

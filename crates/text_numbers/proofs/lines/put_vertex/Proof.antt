@@ -1,0 +1,32 @@
+-- `text_numbers::lines::put_vertex` meets its contract. Assumes nothing.
+use mathlib.Core.Path.{_≡_, refl, sym, ap, _∙_}
+use mathlib.Core.List.{List, [], _∷_, _++_}
+use Prim.Native.Nat.{ℕ, _+_, _-_, _*_, _≤_, _<_}
+use native.Mathlib.Omega.{arith}
+use lib.ListN.{length, getD}
+use Rattle.columns.specs.Lists.{joined}
+use Rattle.text_numbers.specs.Text.{decimal, ended, vertexLine, edgeLine, vertexLines, edgeLines}
+use Rattle.text_numbers.specs.Steps.{Put}
+use Rattle.text_numbers.proofs.Putting.{none, both, more, line-end, field, lettered, renamed, long-kept}
+use Rattle.text_numbers.proofs.Sizes.{decimal-few, vertices-few, edges-few}
+use borrow.Author.Needs.{needs}
+use Rattle.text_numbers.proofs.lines.put_vertex.Statement.{statement}
+use Rattle.text_numbers.proofs.lines.put_vertex.Tie as tie
+
+cast-put-field : tie.Need-cast-put-field
+cast-put-field c = omega (arith, c .shared-slice-known2 .given (c .before .before .before .before .before .before .before .before .before .before .before .before .args .v))
+
+put-field-requires-2 : tie.Need-put-field-requires-2
+put-field-requires-2 c κs = omega (arith, c .before .before .before .before .put-field .ensures .1, c .before .before .before .before .before .before .before .before .put-byte .ensures .next)
+
+put-byte-requires-2 : tie.Need-put-byte-requires-2
+put-byte-requires-2 c κs = omega (arith, c .before .before .before .put-field2 .ensures .1, c .before .before .before .before .before .before .before .before .put-field .ensures .1, c .before .before .before .before .before .before .before .before .before .before .before .before .put-byte .ensures .next)
+
+returns : tie.Need-returns
+returns c =
+    let s = c .before .before .before .before .before .before .before .before .before .before .before .before .before .before .before .before .before .before .before .args in
+    let b : ℕ = getD (s .boundary .now) (s .v) 0 in
+    lettered 0x76 (s .v ∷ b ∷ []) (c .before .before .before .before .before .before .before .before .before .before .before .before .before .before .before .put-byte .ensures) (field (s .v) (b ∷ []) (c .before .before .before .before .before .before .before .before .before .before .before .put-field .ensures .0) (field b [] (c .before .before .before .before .before .before .put-field2 .ensures .0) (line-end (c .before .before .put-byte2 .ensures))))
+
+pub put-vertex-spec : {M : Type 1} → statement M
+put-vertex-spec = tie.close (tie.spec (λ c κs. search needs) (λ c κs. search needs) (λ c. search needs) cast-put-field put-field-requires-2 put-byte-requires-2 (λ c. search needs) returns)

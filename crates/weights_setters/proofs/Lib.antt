@@ -1,2 +1,0 @@
--- Tested: the call by its test.
-pub mod Tested

@@ -1,2 +1,0 @@
--- Calls: each call's number, answer and column afterwards.
-pub mod Calls

@@ -15,7 +15,7 @@ use Rattle.columns.proofs.Tests.{and-both}
 use Rattle.columns_neighbors.specs.Sound.{graphSound}
 use Rattle.columns_neighbors.proofs.Ends.{GraphSound, graph-says}
 use Rattle.columns_room.specs.Room.{edgeColumnsLong}
-use Rattle.access_calls.specs.Fill.{Vertices, vertexColumnsLong, fillDoor}
+use Rattle.access_calls.specs.Fill.{Vertices, vertexColumnsLong, fillRefusal}
 
 pub record FillMet (v e : ℕ) (a b : List ℕ) (c : Vertices) : Type 0 where
   pub i : v ≤ length (c .i)
@@ -38,7 +38,7 @@ goes-on false number next e = absurd (omega arith)
 three : (x y z : Bool) → (x && (y && z)) ≡ true → (x ≡ true) × (y ≡ true) × (z ≡ true)
 three x y z e = let (p, q) = and-both x (y && z) e in let (r, s) = and-both y z q in (p, r, s)
 
-pub fill-met : (v e : ℕ) (a b : List ℕ) (c : Vertices) → fillDoor v e a b c ≡ 0 → FillMet v e a b c
+pub fill-met : (v e : ℕ) (a b : List ℕ) (c : Vertices) → fillRefusal v e a b c ≡ 0 → FillMet v e a b c
 unfolding vertexColumnsLong edgeColumnsLong
 fill-met v e a b c z =
     let six = vertexColumnsLong v c && edgeColumnsLong e a b (c .numbers) in

@@ -15,7 +15,7 @@ use Rattle.columns_neighbors.specs.Lists.{chosen}
 use Rattle.access_calls.specs.declared.ListCount.the-variants.{Count}
 use Rattle.access_calls.specs.declared.SyndromeCounts.the-variants.{Counts}
 use Rattle.columns_marks.specs.Marks.{isSet, listed, names, marks}
-use Rattle.access_calls.specs.Calls.{setDoor, SetMarks, getDoor, GotMarks, Syndrome, setSyndromeDoor, SetSyndrome, getSyndromeDoor, GotSyndrome}
+use Rattle.access_calls.specs.Calls.{setMarksRefusal, SetMarks, getMarksRefusal, GotMarks, Syndrome, setSyndromeRefusal, SetSyndrome, getSyndromeRefusal, GotSyndrome}
 use Rattle.columns_marks.proofs.Listing.{Passes, chosen-at, chosen-has, chosen-ascends, chosen-same}
 
 -- the numbers below n that a list names, each once, ascending
@@ -59,24 +59,24 @@ pub set-then-get : {sound : Bool} {n : ℕ} {list before column room out : List 
 set-then-get {sound} {n} {list} {before} {column} {room} {out} {count} s g =
     let zs = zero-of (s .answers) in
     let zg = zero-of (g .answers) in
-    got n (getDoor sound n column room) count list before column room out
-    (s .left ∙ after-accepted (setDoor sound n list before) (marks n list) before zs) zg
-    (g .left ∙ after-accepted (getDoor sound n column room) (listed n column) room zg) (values-of (g .answers) zg)
+    got n (getMarksRefusal sound n column room) count list before column room out
+    (s .left ∙ after-accepted (setMarksRefusal sound n list before) (marks n list) before zs) zg
+    (g .left ∙ after-accepted (getMarksRefusal sound n column room) (listed n column) room zg) (values-of (g .answers) zg)
 
 -- get_syndrome after set_syndrome
 pub set-then-get-syndrome : {v e : ℕ} {lists before column room out : Syndrome} {defects erasures : ℕ}
     → SetSyndrome v e lists before column Accepted → GotSyndrome v e column room out (Counts defects erasures)
     → ListsNames v (lists .defects) (room .defects) (out .defects) defects × ListsNames e (lists .erasures) (room .erasures) (out .erasures) erasures
 set-then-get-syndrome {v} {e} {lists} {before} {column} {room} {out} {defects} {erasures} s g =
-    let q = getSyndromeDoor v e column room in
-    let p = setSyndromeDoor v e lists before in
+    let q = getSyndromeRefusal v e column room in
+    let p = setSyndromeRefusal v e lists before in
     let zs = zero-of (s .answers) in
     let zg = zero-of (g .answers) in
     let counts = values-of (g .answers) zg in (
       got v q defects (lists .defects) (before .defects) (column .defects) (room .defects) (out .defects)
-          (s .defects-left ∙ after-accepted p (marks v (lists .defects)) (before .defects) zs) zg
-          (g .defects-left ∙ after-accepted q (listed v (column .defects)) (room .defects) zg) (ap (λ (c : ℕ × ℕ). c .0) counts),
+          (s .defects-after ∙ after-accepted p (marks v (lists .defects)) (before .defects) zs) zg
+          (g .defects-after ∙ after-accepted q (listed v (column .defects)) (room .defects) zg) (ap (λ (c : ℕ × ℕ). c .0) counts),
       got e q erasures (lists .erasures) (before .erasures) (column .erasures) (room .erasures) (out .erasures)
-          (s .erasures-left ∙ after-accepted p (marks e (lists .erasures)) (before .erasures) zs) zg
-          (g .erasures-left ∙ after-accepted q (listed e (column .erasures)) (room .erasures) zg) (ap (λ (c : ℕ × ℕ). c .1) counts),
+          (s .erasures-after ∙ after-accepted p (marks e (lists .erasures)) (before .erasures) zs) zg
+          (g .erasures-after ∙ after-accepted q (listed e (column .erasures)) (room .erasures) zg) (ap (λ (c : ℕ × ℕ). c .1) counts),
     )

@@ -48,28 +48,28 @@ initializerLong v e c to =
     && (leb v (length (c .boundary)) && leb v (length (to .virtual))))
 
 -- 7: counts, ends, half weights and boundary bytes
-unfoldable pub codeSound : (v e : ℕ) → Code → Bool
-codeSound v e c = graphSound v e (c .endsA) (c .endsB) && (halfWeightsSound e (c .halfWeight) && boundariesSound v (c .boundary))
+unfoldable pub initializerSound : (v e : ℕ) → Code → Bool
+initializerSound v e c = graphSound v e (c .endsA) (c .endsB) && (halfWeightsSound e (c .halfWeight) && boundariesSound v (c .boundary))
 
-abbrev pub initializerDoor : (v e : ℕ) → Code → Initializer → ℕ
-initializerDoor v e c to = ask (initializerLong v e c to) 6 (ask (codeSound v e c) 7 0)
+abbrev pub initializerRefusal : (v e : ℕ) → Code → Initializer → ℕ
+initializerRefusal v e c to = ask (initializerLong v e c to) 6 (ask (initializerSound v e c) 7 0)
 
 -- the call: its answer, and what stands in the columns that it writes, before it and afterwards
 pub record GotInitializer (v e : ℕ) (c : Code) (before column : Initializer) (answer : ListCount) : Type 0 where
-  pub answers : Answered (listSaid answer) (initializerDoor v e c before) (length (listed v (c .boundary))) 0
-  pub endsA-left : column .endsA ≡ after (initializerDoor v e c before) (take e (c .endsA)) (before .endsA)
-  pub endsB-left : column .endsB ≡ after (initializerDoor v e c before) (take e (c .endsB)) (before .endsB)
-  pub weight-left : column .weight ≡ after (initializerDoor v e c before) (weights e (c .halfWeight)) (before .weight)
-  pub virtual-left : column .virtual ≡ after (initializerDoor v e c before) (listed v (c .boundary)) (before .virtual)
+  pub answers : Answered (listSaid answer) (initializerRefusal v e c before) (length (listed v (c .boundary))) 0
+  pub endsA-after : column .endsA ≡ after (initializerRefusal v e c before) (take e (c .endsA)) (before .endsA)
+  pub endsB-after : column .endsB ≡ after (initializerRefusal v e c before) (take e (c .endsB)) (before .endsB)
+  pub weight-after : column .weight ≡ after (initializerRefusal v e c before) (weights e (c .halfWeight)) (before .weight)
+  pub virtual-after : column .virtual ≡ after (initializerRefusal v e c before) (listed v (c .boundary)) (before .virtual)
 
 -- ---- set_defect_vertices, set_erasures: n is the count, `sound` question 7 of it; the bytes are only written
 
-abbrev pub setDoor : (sound : Bool) (n : ℕ) (list column : List ℕ) → ℕ
-setDoor sound n list column = ask (leb n (length column)) 6 (ask sound 7 (ask (allBelow n list) 13 0))
+abbrev pub setMarksRefusal : (sound : Bool) (n : ℕ) (list column : List ℕ) → ℕ
+setMarksRefusal sound n list column = ask (leb n (length column)) 6 (ask sound 7 (ask (allBelow n list) 13 0))
 
 pub record SetMarks (sound : Bool) (n : ℕ) (list before column : List ℕ) (answer : Done) : Type 0 where
-  pub answers : Answered (said answer) (setDoor sound n list before) tt tt
-  pub left : column ≡ after (setDoor sound n list before) (marks n list) before
+  pub answers : Answered (said answer) (setMarksRefusal sound n list before) tt tt
+  pub left : column ≡ after (setMarksRefusal sound n list before) (marks n list) before
 
 -- ---- set_syndrome: both, each question of both before the next
 
@@ -84,34 +84,34 @@ syndrome d e = record { defects = d; erasures = e }
 unfoldable pub countsSound : (v e : ℕ) → Bool
 countsSound v e = vertexCountSound v && edgeCountSound e
 
-abbrev pub setSyndromeDoor : (v e : ℕ) → Syndrome → Syndrome → ℕ
-setSyndromeDoor v e lists column =
+abbrev pub setSyndromeRefusal : (v e : ℕ) → Syndrome → Syndrome → ℕ
+setSyndromeRefusal v e lists column =
     ask (leb v (length (column .defects)) && leb e (length (column .erasures))) 6
     (ask (countsSound v e) 7
     (ask (allBelow v (lists .defects) && allBelow e (lists .erasures)) 13 0))
 
 pub record SetSyndrome (v e : ℕ) (lists before column : Syndrome) (answer : Done) : Type 0 where
-  pub answers : Answered (said answer) (setSyndromeDoor v e lists before) tt tt
-  pub defects-left : column .defects ≡ after (setSyndromeDoor v e lists before) (marks v (lists .defects)) (before .defects)
-  pub erasures-left : column .erasures ≡ after (setSyndromeDoor v e lists before) (marks e (lists .erasures)) (before .erasures)
+  pub answers : Answered (said answer) (setSyndromeRefusal v e lists before) tt tt
+  pub defects-after : column .defects ≡ after (setSyndromeRefusal v e lists before) (marks v (lists .defects)) (before .defects)
+  pub erasures-after : column .erasures ≡ after (setSyndromeRefusal v e lists before) (marks e (lists .erasures)) (before .erasures)
 
 -- ---- get_defect_vertices, get_erasures: n is the count, `sound` question 7 of it
 
-abbrev pub getDoor : (sound : Bool) (n : ℕ) (column list : List ℕ) → ℕ
-getDoor sound n column list = ask (leb n (length column) && leb n (length list)) 6 (ask (sound && marksSound n column) 7 0)
+abbrev pub getMarksRefusal : (sound : Bool) (n : ℕ) (column list : List ℕ) → ℕ
+getMarksRefusal sound n column list = ask (leb n (length column) && leb n (length list)) 6 (ask (sound && marksSound n column) 7 0)
 
 pub record GotMarks (sound : Bool) (n : ℕ) (column before list : List ℕ) (answer : ListCount) : Type 0 where
-  pub answers : Answered (listSaid answer) (getDoor sound n column before) (length (listed n column)) 0
-  pub left : list ≡ after (getDoor sound n column before) (listed n column) before
+  pub answers : Answered (listSaid answer) (getMarksRefusal sound n column before) (length (listed n column)) 0
+  pub left : list ≡ after (getMarksRefusal sound n column before) (listed n column) before
 
 -- ---- get_syndrome: both, each question of both before the next
 
-abbrev pub getSyndromeDoor : (v e : ℕ) → Syndrome → Syndrome → ℕ
-getSyndromeDoor v e column lists =
+abbrev pub getSyndromeRefusal : (v e : ℕ) → Syndrome → Syndrome → ℕ
+getSyndromeRefusal v e column lists =
     ask ((leb v (length (column .defects)) && leb e (length (column .erasures))) && (leb v (length (lists .defects)) && leb e (length (lists .erasures)))) 6
     (ask (countsSound v e && (marksSound v (column .defects) && marksSound e (column .erasures))) 7 0)
 
 pub record GotSyndrome (v e : ℕ) (column before lists : Syndrome) (answer : SyndromeCounts) : Type 0 where
-  pub answers : Answered (syndromeSaid answer) (getSyndromeDoor v e column before) (length (listed v (column .defects)), length (listed e (column .erasures))) (0, 0)
-  pub defects-left : lists .defects ≡ after (getSyndromeDoor v e column before) (listed v (column .defects)) (before .defects)
-  pub erasures-left : lists .erasures ≡ after (getSyndromeDoor v e column before) (listed e (column .erasures)) (before .erasures)
+  pub answers : Answered (syndromeSaid answer) (getSyndromeRefusal v e column before) (length (listed v (column .defects)), length (listed e (column .erasures))) (0, 0)
+  pub defects-after : lists .defects ≡ after (getSyndromeRefusal v e column before) (listed v (column .defects)) (before .defects)
+  pub erasures-after : lists .erasures ≡ after (getSyndromeRefusal v e column before) (listed e (column .erasures)) (before .erasures)

@@ -37,16 +37,16 @@ vertexColumnsLong v c =
     && (leb v (length (c .boundary)) && (leb v (length (c .defect)) && leb v (length (c .lengths))))
 
 -- questions 6 and 7, in order
-abbrev pub fillDoor : (v e : ℕ) (a b : List ℕ) → Vertices → ℕ
-fillDoor v e a b c = ask (vertexColumnsLong v c && edgeColumnsLong e a b (c .numbers)) 6 (ask (graphSound v e a b) 7 0)
+abbrev pub fillRefusal : (v e : ℕ) (a b : List ℕ) → Vertices → ℕ
+fillRefusal v e a b c = ask (vertexColumnsLong v c && edgeColumnsLong e a b (c .numbers)) 6 (ask (graphSound v e a b) 7 0)
 
 -- the call: its answer, and what stands in the columns that it writes, before it and afterwards
 pub record FilledVertices (v e : ℕ) (a b : List ℕ) (before column : Vertices) (answer : Done) : Type 0 where
-  pub answers : Answered (said answer) (fillDoor v e a b before) tt tt
-  pub i-left : column .i ≡ after (fillDoor v e a b before) (replicate v zeroFloat) (before .i)
-  pub j-left : column .j ≡ after (fillDoor v e a b before) (replicate v zeroFloat) (before .j)
-  pub t-left : column .t ≡ after (fillDoor v e a b before) (replicate v zeroFloat) (before .t)
-  pub boundary-left : column .boundary ≡ after (fillDoor v e a b before) (replicate v 0) (before .boundary)
-  pub defect-left : column .defect ≡ after (fillDoor v e a b before) (replicate v 0) (before .defect)
-  pub lengths-left : column .lengths ≡ after (fillDoor v e a b before) (degrees a b e v) (before .lengths)
-  pub numbers-left : column .numbers ≡ after (fillDoor v e a b before) (lists a b e v) (before .numbers)
+  pub answers : Answered (said answer) (fillRefusal v e a b before) tt tt
+  pub i-after : column .i ≡ after (fillRefusal v e a b before) (replicate v zeroFloat) (before .i)
+  pub j-after : column .j ≡ after (fillRefusal v e a b before) (replicate v zeroFloat) (before .j)
+  pub t-after : column .t ≡ after (fillRefusal v e a b before) (replicate v zeroFloat) (before .t)
+  pub boundary-after : column .boundary ≡ after (fillRefusal v e a b before) (replicate v 0) (before .boundary)
+  pub defect-after : column .defect ≡ after (fillRefusal v e a b before) (replicate v 0) (before .defect)
+  pub lengths-after : column .lengths ≡ after (fillRefusal v e a b before) (degrees a b e v) (before .lengths)
+  pub numbers-after : column .numbers ≡ after (fillRefusal v e a b before) (lists a b e v) (before .numbers)

@@ -5,7 +5,7 @@ ghost use lib.ListN.{length};
 ghost use Rattle.columns.specs.Lists.{over};
 ghost use Rattle.columns_neighbors.specs.Lists.{lists, degrees};
 ghost use Rattle.columns_neighbors.specs.Steps.{InRange};
-ghost use Rattle.access_calls.specs.Fill.{vertices, vertexColumnsLong, fillDoor, FilledVertices};
+ghost use Rattle.access_calls.specs.Fill.{vertices, vertexColumnsLong, fillRefusal, FilledVertices};
 use columns::Done;
 use columns::done_of;
 use columns::questions::asked;
@@ -41,7 +41,7 @@ fn vertex_columns_long(
 }
 
 // The first question of fill_vertices that is not met, or 0.
-fn fill_door(
+fn fill_refusal(
     vertex_num: u32,
     edge_num: u32,
     ends_a: &[u32],
@@ -54,7 +54,7 @@ fn fill_door(
     list_lengths: &[u32],
     neighbor_numbers: &[u32],
 ) -> u32
-    ensures { λ r. ⌜ r ≡ fillDoor «vertex_num» «edge_num» (now («ends_a» .entry)) (now («ends_b» .entry)) (vertices (now («pos_i» .entry)) (now («pos_j» .entry)) (now («pos_t» .entry)) (now (boundary .entry)) (now (defect .entry)) (now («list_lengths» .entry)) (now («neighbor_numbers» .entry))) ⌝ }
+    ensures { λ r. ⌜ r ≡ fillRefusal «vertex_num» «edge_num» (now («ends_a» .entry)) (now («ends_b» .entry)) (vertices (now («pos_i» .entry)) (now («pos_j» .entry)) (now («pos_t» .entry)) (now (boundary .entry)) (now (defect .entry)) (now («list_lengths» .entry)) (now («neighbor_numbers» .entry))) ⌝ }
 {
     let vertices = vertex_columns_long(
         vertex_num,
@@ -115,7 +115,7 @@ pub fn fill_vertices(
         (vertices (now («pos_i» .exit)) (now («pos_j» .exit)) (now («pos_t» .exit)) (now (boundary .exit)) (now (defect .exit)) (now («list_lengths» .exit)) (now («neighbor_numbers» .exit)))
         r ⌝ }
 {
-    let number = fill_door(
+    let number = fill_refusal(
         vertex_num,
         edge_num,
         ends_a,

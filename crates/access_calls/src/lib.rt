@@ -25,7 +25,7 @@ use columns_room::three_long;
 use columns_stores::copy_u32;
 ghost use mathlib.Core.Path.{_≡_};
 ghost use Rattle.columns.specs.Questions.{vertexCountSound, edgeCountSound};
-ghost use Rattle.access_calls.specs.Calls.{code, initializer, initializerLong, codeSound, initializerDoor, GotInitializer, setDoor, SetMarks, syndrome, countsSound, setSyndromeDoor, SetSyndrome, getDoor, GotMarks, getSyndromeDoor, GotSyndrome};
+ghost use Rattle.access_calls.specs.Calls.{code, initializer, initializerLong, initializerSound, initializerRefusal, GotInitializer, setMarksRefusal, SetMarks, syndrome, countsSound, setSyndromeRefusal, SetSyndrome, getMarksRefusal, GotMarks, getSyndromeRefusal, GotSyndrome};
 
 // What a call answers that hands back a list: how many numbers it has.
 pub enum ListCount {
@@ -74,7 +74,7 @@ fn code_sound(
     half_weight: &[Weight],
     boundary: &[u8],
 ) -> bool
-    ensures { λ r. ⌜ r ≡ codeSound «vertex_num» «edge_num» (code (now («ends_a» .entry)) (now («ends_b» .entry)) (now («half_weight» .entry)) (now (boundary .entry))) ⌝ }
+    ensures { λ r. ⌜ r ≡ initializerSound «vertex_num» «edge_num» (code (now («ends_a» .entry)) (now («ends_b» .entry)) (now («half_weight» .entry)) (now (boundary .entry))) ⌝ }
 {
     let graph = graph_sound(vertex_num, edge_num, ends_a, ends_b);
     let halves = half_weights_sound(half_weight, edge_num as usize);
@@ -83,7 +83,7 @@ fn code_sound(
 }
 
 // The first question of get_initializer that is not met, or 0.
-fn initializer_door(
+fn initializer_refusal(
     vertex_num: u32,
     edge_num: u32,
     ends_a: &[u32],
@@ -95,7 +95,7 @@ fn initializer_door(
     to_weight: &[Weight],
     to_virtual: &[u32],
 ) -> u32
-    ensures { λ r. ⌜ r ≡ initializerDoor «vertex_num» «edge_num»
+    ensures { λ r. ⌜ r ≡ initializerRefusal «vertex_num» «edge_num»
         (code (now («ends_a» .entry)) (now («ends_b» .entry)) (now («half_weight» .entry)) (now (boundary .entry)))
         (initializer (now («to_a» .entry)) (now («to_b» .entry)) (now («to_weight» .entry)) (now («to_virtual» .entry))) ⌝ }
 {
@@ -134,7 +134,7 @@ pub fn get_initializer(
         (initializer (now («to_a» .exit)) (now («to_b» .exit)) (now («to_weight» .exit)) (now («to_virtual» .exit)))
         r ⌝ }
 {
-    let number = initializer_door(
+    let number = initializer_refusal(
         vertex_num,
         edge_num,
         ends_a,
@@ -192,7 +192,7 @@ fn counts_sound(vertex_num: u32, edge_num: u32) -> bool
 }
 
 // The first question of set_syndrome that is not met, or 0.
-fn set_syndrome_door(
+fn set_syndrome_refusal(
     vertex_num: u32,
     edge_num: u32,
     defect_list: &[u32],
@@ -200,7 +200,7 @@ fn set_syndrome_door(
     defect: &[u8],
     erasure: &[u8],
 ) -> u32
-    ensures { λ r. ⌜ r ≡ setSyndromeDoor «vertex_num» «edge_num»
+    ensures { λ r. ⌜ r ≡ setSyndromeRefusal «vertex_num» «edge_num»
         (syndrome (now («defect_list» .entry)) (now («erasure_list» .entry)))
         (syndrome (now (defect .entry)) (now (erasure .entry))) ⌝ }
 {
@@ -228,7 +228,7 @@ pub fn set_syndrome(
         (syndrome (now (defect .exit)) (now (erasure .exit)))
         r ⌝ }
 {
-    let number = set_syndrome_door(
+    let number = set_syndrome_refusal(
         vertex_num,
         edge_num,
         defect_list,
@@ -273,7 +273,7 @@ pub fn get_erasures(edge_num: u32, erasure: &[u8], list: &mut [u32]) -> ListCoun
 }
 
 // The first question of get_syndrome that is not met, or 0.
-fn get_syndrome_door(
+fn get_syndrome_refusal(
     vertex_num: u32,
     edge_num: u32,
     defect: &[u8],
@@ -281,7 +281,7 @@ fn get_syndrome_door(
     defect_list: &[u32],
     erasure_list: &[u32],
 ) -> u32
-    ensures { λ r. ⌜ r ≡ getSyndromeDoor «vertex_num» «edge_num»
+    ensures { λ r. ⌜ r ≡ getSyndromeRefusal «vertex_num» «edge_num»
         (syndrome (now (defect .entry)) (now (erasure .entry)))
         (syndrome (now («defect_list» .entry)) (now («erasure_list» .entry))) ⌝ }
 {
@@ -312,7 +312,7 @@ pub fn get_syndrome(
         (syndrome (now («defect_list» .exit)) (now («erasure_list» .exit)))
         r ⌝ }
 {
-    let number = get_syndrome_door(
+    let number = get_syndrome_refusal(
         vertex_num,
         edge_num,
         defect,

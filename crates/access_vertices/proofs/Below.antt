@@ -7,10 +7,10 @@ use lib.Dec.{leb, ltb}
 use lib.ListN.{length}
 use borrow.Author.Tests.{leb-true, ltb-true}
 use Rattle.columns.specs.Questions.{vertexCountSound}
-use Rattle.columns_room.proofs.Doors.{met, goes-on}
-use Rattle.access_vertices.specs.Marked.{isDoor}
+use Rattle.columns_room.proofs.Refusals.{met, goes-on}
+use Rattle.access_vertices.specs.Marked.{isMarkedRefusal}
 
-pub is-met : (sound : Bool) (v : ℕ) (column : List ℕ) (vertex : ℕ) → isDoor sound v column vertex ≡ 0 → (v ≤ length column) × (vertex < v)
+pub is-met : (sound : Bool) (v : ℕ) (column : List ℕ) (vertex : ℕ) → isMarkedRefusal sound v column vertex ≡ 0 → (v ≤ length column) × (vertex < v)
 is-met sound v column vertex z =
     let z₇ = goes-on (leb v (length column)) 5 _ z in
     let z₁₃ = goes-on (vertexCountSound v && sound) 6 _ z₇ in

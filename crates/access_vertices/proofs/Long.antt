@@ -4,10 +4,10 @@ use mathlib.Core.Bool.{_&&_}
 use Prim.Native.Nat.{ℕ, _≤_}
 use lib.ListN.{length}
 use Rattle.columns.proofs.Tests.{and-both}
-use Rattle.columns_room.proofs.Doors.{met, three-long}
-use Rattle.access_vertices.specs.Positions.{Positions, positionsLong, positionsDoor}
+use Rattle.columns_room.proofs.Refusals.{met, three-long}
+use Rattle.access_vertices.specs.Positions.{Positions, positionsLong, positionsRefusal}
 
-pub positions-long : (v : ℕ) (from to : Positions) → positionsDoor v from to ≡ 0
+pub positions-long : (v : ℕ) (from to : Positions) → positionsRefusal v from to ≡ 0
     → ((v ≤ length (from .i)) × (v ≤ length (from .j)) × (v ≤ length (from .t))) × ((v ≤ length (to .i)) × (v ≤ length (to .j)) × (v ≤ length (to .t)))
 positions-long v from to z =
     let (p, q) = and-both (positionsLong v from) (positionsLong v to) (met (positionsLong v from && positionsLong v to) 5 _ z) in

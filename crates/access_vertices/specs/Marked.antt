@@ -16,8 +16,8 @@ said (truth.Is value) = accepts value
 said (truth.Refused number) = refuses number false
 
 -- `sound` is question 7 of the bytes
-abbrev pub isDoor : (sound : Bool) (v : ℕ) (column : List ℕ) (vertex : ℕ) → ℕ
-isDoor sound v column vertex = ask (leb v (length column)) 6 (ask (vertexCountSound v && sound) 7 (ask (ltb vertex v) 13 0))
+abbrev pub isMarkedRefusal : (sound : Bool) (v : ℕ) (column : List ℕ) (vertex : ℕ) → ℕ
+isMarkedRefusal sound v column vertex = ask (leb v (length column)) 6 (ask (vertexCountSound v && sound) 7 (ask (ltb vertex v) 13 0))
 
 abbrev pub IsMarked : (sound : Bool) (v : ℕ) (column : List ℕ) (vertex : ℕ) → Truth → Type 0
-IsMarked sound v column vertex r = Answered (said r) (isDoor sound v column vertex) (isSet (getD column vertex 0)) false
+IsMarked sound v column vertex r = Answered (said r) (isMarkedRefusal sound v column vertex) (isSet (getD column vertex 0)) false

@@ -25,12 +25,12 @@ abbrev pub positionsLong : ℕ → Positions → Bool
 positionsLong v p = threeLong v (length (p .i)) (length (p .j)) (length (p .t))
 
 -- questions 6 and 7, in order
-abbrev pub positionsDoor : ℕ → Positions → Positions → ℕ
-positionsDoor v from to = ask (positionsLong v from && positionsLong v to) 6 (ask (vertexCountSound v) 7 0)
+abbrev pub positionsRefusal : ℕ → Positions → Positions → ℕ
+positionsRefusal v from to = ask (positionsLong v from && positionsLong v to) 6 (ask (vertexCountSound v) 7 0)
 
 -- the call: its answer, and the columns that it copies into, before it and afterwards
 pub record GotPositions (v : ℕ) (from before column : Positions) (answer : Done) : Type 0 where
-  pub answers : Answered (said answer) (positionsDoor v from before) tt tt
-  pub i-left : column .i ≡ after (positionsDoor v from before) (take v (from .i)) (before .i)
-  pub j-left : column .j ≡ after (positionsDoor v from before) (take v (from .j)) (before .j)
-  pub t-left : column .t ≡ after (positionsDoor v from before) (take v (from .t)) (before .t)
+  pub answers : Answered (said answer) (positionsRefusal v from before) tt tt
+  pub i-after : column .i ≡ after (positionsRefusal v from before) (take v (from .i)) (before .i)
+  pub j-after : column .j ≡ after (positionsRefusal v from before) (take v (from .j)) (before .j)
+  pub t-after : column .t ≡ after (positionsRefusal v from before) (take v (from .t)) (before .t)

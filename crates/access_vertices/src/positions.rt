@@ -7,10 +7,10 @@ use columns::questions::vertex_count_sound;
 use columns_room::three_long;
 use columns_stores::copy_f64;
 ghost use mathlib.Core.Path.{_≡_};
-ghost use Rattle.access_vertices.specs.Positions.{positions, positionsDoor, GotPositions};
+ghost use Rattle.access_vertices.specs.Positions.{positions, positionsRefusal, GotPositions};
 
 // The first question of get_positions that is not met, or 0.
-fn positions_door(
+fn positions_refusal(
     vertex_num: u32,
     pos_i: &[f64],
     pos_j: &[f64],
@@ -19,7 +19,7 @@ fn positions_door(
     to_j: &[f64],
     to_t: &[f64],
 ) -> u32
-    ensures { λ r. ⌜ r ≡ positionsDoor «vertex_num»
+    ensures { λ r. ⌜ r ≡ positionsRefusal «vertex_num»
         (positions (now («pos_i» .entry)) (now («pos_j» .entry)) (now («pos_t» .entry)))
         (positions (now («to_i» .entry)) (now («to_j» .entry)) (now («to_t» .entry))) ⌝ }
 {
@@ -46,7 +46,7 @@ pub fn get_positions(
         (positions (now («to_i» .exit)) (now («to_j» .exit)) (now («to_t» .exit)))
         r ⌝ }
 {
-    let number = positions_door(vertex_num, pos_i, pos_j, pos_t, to_i, to_j, to_t);
+    let number = positions_refusal(vertex_num, pos_i, pos_j, pos_t, to_i, to_j, to_t);
     if number == 0 {
         let n = vertex_num as usize;
         copy_f64(to_i, pos_i, n);

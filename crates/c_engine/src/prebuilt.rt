@@ -11,7 +11,7 @@ ghost use Rattle.engine_columns.specs.Records.{engine, counts};
 ghost use Rattle.query_tables.specs.declared.End.the-variants.{None};
 ghost use Rattle.query_questions.specs.Queries.{scratchLong, graphIn, weightsIn};
 ghost use Rattle.query_questions.specs.Scratch.{ScratchKept, scratchOf};
-ghost use Rattle.query_tables.specs.Steps.{tableDoor};
+ghost use Rattle.query_tables.specs.Steps.{tableRefusal};
 ghost use Rattle.prebuilt_calls.specs.Rows.{RowStep, ColumnKept};
 ghost use Rattle.prebuilt_calls.specs.Nearest.{BoundarySaid, BoundaryKept};
 ghost use Rattle.prebuilt_calls.specs.Boundaries.{BoundariesStep, FirstKept};
@@ -98,7 +98,7 @@ pub extern "C" fn moldingcress_get_boundary_weight(
     node: &mut [u64],
     leaf: &mut [u64],
 ) -> BoundaryReport
-    ensures { λ q. ⌜ Reported ReportsBoundary (λ r. (BoundarySaid (tableDoor (engine (counts vertices edges entries) (now («ends_a» .entry)) (now («ends_b» .entry)) (now (weights .entry)) (now (boundary .entry)) (now («log_edges» .entry)) (now («log_weights» .entry)))
+    ensures { λ q. ⌜ Reported ReportsBoundary (λ r. (BoundarySaid (tableRefusal (engine (counts vertices edges entries) (now («ends_a» .entry)) (now («ends_b» .entry)) (now (weights .entry)) (now (boundary .entry)) (now («log_edges» .entry)) (now («log_weights» .entry)))
         (scratchLong vertices edges (length (now (numbers .entry))) (length (now («list_ends» .entry))) (length (now (status .entry))) (length (now (weight .entry))) (length (now (previous .entry))) (length (now (node .entry))) (length (now (leaf .entry))))
         vertex None (length (now (least .entry))) (length (now (before .entry))))
         (graphIn (engine (counts vertices edges entries) (now («ends_a» .entry)) (now («ends_b» .entry)) (now (weights .entry)) (now (boundary .entry)) (now («log_edges» .entry)) (now («log_weights» .entry))))

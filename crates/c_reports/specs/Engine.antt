@@ -18,6 +18,6 @@ pub record ReportsEngine (a : EngineAnswer) (r : EngineReport) : Type 0 where
 abbrev pub noEnd : End
 noEnd = None
 
-abbrev pub endOf : ℕ → ℕ → End
-endOf zero v = None
-endOf (suc n) v = At (record { 0 = v })
+abbrev pub givenEnd : ℕ → ℕ → End
+givenEnd zero v = None
+givenEnd (suc n) v = At (record { 0 = v })

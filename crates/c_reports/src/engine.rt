@@ -3,7 +3,7 @@ use columns::VertexIndex;
 use engine_columns::EngineAnswer;
 use query_tables::End;
 ghost use mathlib.Core.Path.{_≡_};
-ghost use Rattle.c_reports.specs.Engine.{ReportsEngine, endOf};
+ghost use Rattle.c_reports.specs.Engine.{ReportsEngine, givenEnd};
 
 #[repr(C)]
 pub struct EngineReport {
@@ -35,7 +35,7 @@ pub fn engine_report(answer: EngineAnswer) -> EngineReport
 
 // The end of a search, if there is one: any byte but 0 says so.
 pub fn end_of(has_end: u8, end: u32) -> End
-    ensures { λ r. ⌜ r ≡ endOf «has_end» end ⌝ }
+    ensures { λ r. ⌜ r ≡ givenEnd «has_end» end ⌝ }
 {
     if has_end == 0 {
         return End::None;

@@ -1,6 +1,6 @@
 ghost use Rattle.c_reports.specs.Reports.{Reported, ReportsDone};
 ghost use Rattle.c_reports.specs.Errors.{ReportsTranslated};
-ghost use Rattle.reorder_calls.specs.Columns.{codeColumns, ReorderedVertices};
+ghost use Rattle.reorder_calls.specs.Columns.{reorderColumns, ReorderedVertices};
 ghost use Rattle.reorder_calls.specs.Numbers.{BuiltOldToNew, TranslatedDefects};
 use c_reports::done_number;
 use c_reports::errors::LongCount;
@@ -44,9 +44,9 @@ pub extern "C" fn moldingcress_reorder_vertices(
     scratch: &mut [u32],
 ) -> u32
     ensures { λ q. ⌜ Reported ReportsDone (λ r. ReorderedVertices «vertex_num» «edge_num» (now (order .entry))
-        (codeColumns (now («ends_a» .entry)) (now («ends_b» .entry)) (now (boundary .entry)) (now (defect .entry)) (now (is .entry)) (now (js .entry)) (now (ts .entry)) (now (lengths .entry)) (now (numbers .entry)) (now (scratch .entry)))
+        (reorderColumns (now («ends_a» .entry)) (now («ends_b» .entry)) (now (boundary .entry)) (now (defect .entry)) (now (is .entry)) (now (js .entry)) (now (ts .entry)) (now (lengths .entry)) (now (numbers .entry)) (now (scratch .entry)))
         r
-        (codeColumns (now («ends_a» .exit)) (now («ends_b» .exit)) (now (boundary .exit)) (now (defect .exit)) (now (is .exit)) (now (js .exit)) (now (ts .exit)) (now (lengths .exit)) (now (numbers .exit)) (now (scratch .exit)))) q ⌝ }
+        (reorderColumns (now («ends_a» .exit)) (now («ends_b» .exit)) (now (boundary .exit)) (now (defect .exit)) (now (is .exit)) (now (js .exit)) (now (ts .exit)) (now (lengths .exit)) (now (numbers .exit)) (now (scratch .exit)))) q ⌝ }
 {
     done_number(reorder_calls::reorder_vertices(
         vertex_num,

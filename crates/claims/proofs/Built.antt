@@ -16,22 +16,22 @@ use Rattle.codes_layers.specs.Codes.{edgesOf, verticesOf}
 use Rattle.codes_layers.specs.Counts.{vertexNum, edgeNum}
 use Rattle.codes_layers.specs.Accepts.{Buildable}
 use Rattle.codes_layers.proofs.Accepted.{buildable}
-use Rattle.codes_graphs.specs.Graphs.{codeGraph}
+use Rattle.codes_graphs.specs.Graphs.{builtGraph}
 use Rattle.codes_graphs.proofs.Sound.{codes-are-sound}
 use Rattle.codes_graphs.proofs.Distance.{codes-have-distance}
 use Rattle.codes_calls.specs.declared.Created.{Created}
 use Rattle.codes_calls.specs.declared.Created.the-variants.{Code, Refused}
 use Rattle.codes_calls.specs.Columns.{CodeColumns}
-use Rattle.codes_calls.specs.CreateCode.{refusal, refusalIn, newColumns, CreateCode}
+use Rattle.codes_calls.specs.CreateCode.{createRefusal, refusalIn, newColumns, CreateCode}
 use Rattle.codes_calls.proofs.Cases.{code-case}
 use Rattle.weights_diagonal.specs.declared.DiagonalProbability.{DiagonalProbability}
 use Rattle.codes_calls.specs.NewCode.{newRefusal, newRefusalIn, WeightedCode}
-use Rattle.claims.specs.Listed.{graphIn}
+use Rattle.claims.specs.Listed.{tallyGraph}
 use Rattle.claims.specs.Called as Called
 use Rattle.claims.specs.Called.{CodeBuilt}
 
 accepted-code : (kind d rounds : ℕ) (c : CodeColumns) → refusalIn kind d rounds c ≡ 0 → Buildable kind d rounds
-unfolding refusal
+unfolding createRefusal
 accepted-code kind d rounds c z = buildable kind d rounds _ z
 
 -- what a built code hands to open
@@ -97,8 +97,8 @@ handed-on g p q r = record {
 
 -- opened, its crossing weight with every weight 1 is d
 pub built-distance : (kind d rounds v e : ℕ) (handed : GraphColumns) → BuiltGraph kind d rounds v e (handed .endsA) (handed .endsB) (handed .boundary)
-    → crossing (graphIn (tallyOf v e handed)) (λ k. 1) ≡ some d
-unfolding codeGraph
+    → crossing (tallyGraph (tallyOf v e handed)) (λ k. 1) ≡ some d
+unfolding builtGraph
 built-distance kind d rounds v e handed b =
     (λ i. crossing (record { vertices = b .vertices-are i; endsA = b .endsA-are i; endsB = b .endsB-are i; boundary = b .boundary-are i }) (λ k. 1))
     ∙ codes-have-distance kind d rounds (b .accepted) .crossing-weight

@@ -21,7 +21,7 @@ use Rattle.codes_rotated.specs.Rotated.{rotatedPlace, rotatedEdge, rotatedRow, 
 use Rattle.codes_layers.specs.Codes.{rows, width, layerEdges, gapEdges, edgesOf, vertexOf, layerVertices, verticesOf}
 use Rattle.codes_layers.specs.Counts.{layerVertexNum, vertexNum, layerEdgeNum, gapEdgeNum, edgeNum}
 use Rattle.codes_layers.specs.Accepts.{kindKnown, distanceSound, roundsSound, codeRefusal}
-use Rattle.weights_calls.specs.Calls.{isLargestHalfWeight, halfWeights, largestWeight, computeDoor, someAbove, edgeWeights}
+use Rattle.weights_calls.specs.Calls.{isLargestHalfWeight, halfWeights, largestWeight, computeRefusal, someAbove, edgeWeights}
 use Rattle.weights_recipe.specs.Probabilities.{isProbability}
 use Rattle.columns.specs.Limits.{edgeLimit}
 use Rattle.codes_questions.specs.declared.Count.the-variants.{Counted, Refused}
@@ -31,7 +31,7 @@ use Rattle.weights_recipe.specs.Rounding.{halfWeight}
 use Rattle.weights_calls.proofs.Theorems.{zero-among}
 use Rattle.columns_pairs.specs.Pairs.{endsDiffer, pairsApart}
 use Rattle.columns_neighbors.specs.Sound.{endsInRange, graphSound, logSound}
-use Rattle.engine_columns.specs.Door.{columnsLong, longEnough, columnsSound, sound}
+use Rattle.engine_columns.specs.Questions.{columnsLong, engineLong, columnsSound, engineSound}
 use Rattle.engine_walks.specs.Settling as S
 use Rattle.engine_walks.specs.Settling.{firstLeast, start, changes, byStatus, offer, relaxEdge, relax, stopped, next, settle}
 use Rattle.engine_walks.specs.Answers.{readBack, stepInto, pathIn, path, fromLeft, nearestRight, crossing}
@@ -42,9 +42,9 @@ use Rattle.engine_columns.specs.Step.{Call, loadErasures, loadWeights, reset}
 use Rattle.engine_columns.specs.Open.{GraphColumns, graphColumns}
 use Rattle.engine_tally.specs.Tally.{Tally, Fed, tallyOf, tallyAfter}
 use Rattle.query_questions.specs.Queries as Q
-use Rattle.query_paths.specs.GetPath.{pathDoor, pathNumber}
-use Rattle.claims.specs.Listed.{graphIn, weightsIn}
-use Rattle.claims.specs.Starred.{StarredExamples, listing, fed, crossingAfter, listingEngine}
+use Rattle.query_paths.specs.GetPath.{pathAsked, pathRefusal}
+use Rattle.claims.specs.Listed.{tallyGraph, tallyWeights}
+use Rattle.claims.specs.Starred.{StarredExamples, listingGraph, fed, crossingAfter, listingEngine}
 
 same-map : (n : ℕ) (f : Float → ℕ) (x : Float) → f x ≡ 1 → map f (replicate n x) ≡ replicate n 1
 same-map zero f x e = refl
@@ -67,7 +67,7 @@ some-infinite : (n : ℕ) → someAbove (edgeWeights (replicate (suc n) zeroFloa
 unfolding someAbove edgeWeight lt ofBits eq
 some-infinite n = refl
 
-zeros-asked : (max n : ℕ) (column : List ℕ) → isLargestHalfWeight max ≡ true → 1 ≤ n → n ≤ edgeLimit → n ≤ length column → computeDoor n (replicate n zeroFloat) column max ≡ 0
+zeros-asked : (max n : ℕ) (column : List ℕ) → isLargestHalfWeight max ≡ true → 1 ≤ n → n ≤ edgeLimit → n ≤ length column → computeRefusal n (replicate n zeroFloat) column max ≡ 0
 zeros-asked max zero column h one few long = absurd (omega arith)
 zeros-asked max (suc n) column h one few long =
     let ps = replicate (suc n) zeroFloat in
@@ -100,17 +100,17 @@ bytes : boundaries (verticesOf 1 3 0) ≡ 0 ∷ 0 ∷ 2 ∷ 1 ∷ []
 unfolding verticesOf layered each joined rows width layerVertices vertexOf flatVertex planarBoundary
 bytes = refl
 
-columns : listing ≡ graphColumns (0 ∷ 1 ∷ 0 ∷ []) (1 ∷ 2 ∷ 3 ∷ []) (1000 ∷ 1000 ∷ 1000 ∷ []) (0 ∷ 0 ∷ 2 ∷ 1 ∷ [])
+columns : listingGraph ≡ graphColumns (0 ∷ 1 ∷ 0 ∷ []) (1 ∷ 2 ∷ 3 ∷ []) (1000 ∷ 1000 ∷ 1000 ∷ []) (0 ∷ 0 ∷ 2 ∷ 1 ∷ [])
 columns = λ i. graphColumns (ends-a i) (ends-b i) (1000 ∷ 1000 ∷ 1000 ∷ []) (bytes i)
 
 abbrev written : GraphColumns
 written = graphColumns (0 ∷ 1 ∷ 0 ∷ []) (1 ∷ 2 ∷ 3 ∷ []) (1000 ∷ 1000 ∷ 1000 ∷ []) (0 ∷ 0 ∷ 2 ∷ 1 ∷ [])
 
 abbrev crossingOf : List Fed → GraphColumns → Option ℕ
-crossingOf fs c = crossing (graphIn (tallyAfter fs (tallyOf 4 3 c))) (weightsIn (tallyAfter fs (tallyOf 4 3 c)))
+crossingOf fs c = crossing (tallyGraph (tallyAfter fs (tallyOf 4 3 c))) (tallyWeights (tallyAfter fs (tallyOf 4 3 c)))
 
 -- the crossing weight from the tally's graph and weights, written out
-by-parts : (t : Tally) (ws : List ℕ) (w : ℕ) → graphIn t ≡ graph → t .weights ≡ ws → crossing graph (weigh ws) ≡ some w → crossing (graphIn t) (weightsIn t) ≡ some w
+by-parts : (t : Tally) (ws : List ℕ) (w : ℕ) → tallyGraph t ≡ graph → t .weights ≡ ws → crossing graph (weigh ws) ≡ some w → crossing (tallyGraph t) (tallyWeights t) ≡ some w
 by-parts t ws w p q r = (λ i. crossing (p i) (weigh (q i))) ∙ r
 
 crossing-2000 : crossing graph (weigh (1000 ∷ 0 ∷ 1000 ∷ [])) ≡ some 2000
@@ -137,28 +137,28 @@ ones-3 : crossingAfter (fed (loadWeights (0 ∷ 1 ∷ 2 ∷ []) (1 ∷ 1 ∷ 1 �
 unfolding all
 ones-3 = ap (crossingOf (fed (loadWeights (0 ∷ 1 ∷ 2 ∷ []) (1 ∷ 1 ∷ 1 ∷ [])) ∷ [])) columns ∙ by-parts (tallyAfter (fed (loadWeights (0 ∷ 1 ∷ 2 ∷ []) (1 ∷ 1 ∷ 1 ∷ [])) ∷ []) (tallyOf 4 3 written)) (1 ∷ 1 ∷ 1 ∷ []) 3 refl refl crossing-3
 
--- ---- the door of a path from 2 to 2
+-- ---- the questions of a path from 2 to 2
 
 abbrev engineOf : GraphColumns → Engine
 engineOf c = engine (counts 4 3 0) (c .endsA) (c .endsB) (c .weights) (c .boundary) (0 ∷ 0 ∷ 0 ∷ []) (0 ∷ 0 ∷ 0 ∷ [])
 
-door-0 : pathDoor (engineOf written) true 3 2 4 4 ≡ 0
-unfolding all every endsDiffer pairsApart endsInRange graphSound logSound columnsLong longEnough columnsSound sound
-door-0 = refl
+refusal-0 : pathAsked (engineOf written) true 3 2 4 4 ≡ 0
+unfolding all every endsDiffer pairsApart endsInRange graphSound logSound columnsLong engineLong columnsSound engineSound
+refusal-0 = refl
 
-asked-0 : pathDoor listingEngine true 3 2 4 4 ≡ 0
-asked-0 = (λ i. pathDoor (engineOf (columns i)) true 3 2 4 4) ∙ door-0
+asked-0 : pathAsked listingEngine true 3 2 4 4 ≡ 0
+asked-0 = (λ i. pathAsked (engineOf (columns i)) true 3 2 4 4) ∙ refusal-0
 
-door-16 : pathDoor (engineOf written) true 2 2 4 4 ≡ 16
-unfolding all every endsDiffer pairsApart endsInRange graphSound logSound columnsLong longEnough columnsSound sound
-door-16 = refl
+refusal-16 : pathAsked (engineOf written) true 2 2 4 4 ≡ 16
+unfolding all every endsDiffer pairsApart endsInRange graphSound logSound columnsLong engineLong columnsSound engineSound
+refusal-16 = refl
 
-sixteen : pathNumber (pathDoor listingEngine true 2 2 4 4) (path (Q.graphIn listingEngine) (Q.weightsIn listingEngine) 2 2) ≡ 16
-sixteen = (λ i. pathNumber (pathDoor (engineOf (columns i)) true 2 2 4 4) (path (Q.graphIn listingEngine) (Q.weightsIn listingEngine) 2 2))
-    ∙ (λ i. pathNumber (door-16 i) (path (Q.graphIn listingEngine) (Q.weightsIn listingEngine) 2 2))
+sixteen : pathRefusal (pathAsked listingEngine true 2 2 4 4) (path (Q.graphIn listingEngine) (Q.weightsIn listingEngine) 2 2) ≡ 16
+sixteen = (λ i. pathRefusal (pathAsked (engineOf (columns i)) true 2 2 4 4) (path (Q.graphIn listingEngine) (Q.weightsIn listingEngine) 2 2))
+    ∙ (λ i. pathRefusal (refusal-16 i) (path (Q.graphIn listingEngine) (Q.weightsIn listingEngine) 2 2))
 
 pub starred : StarredExamples
-unfolding edgesOf layered each joined rows width layerEdges gapEdges rotatedLayer rotatedRow rotatedEdge rotatedPlace rotatedGap straightRows straightEdges rowEdges planarLayer planarRow planarGap circuitGap circuitRow circuitCell verticesOf layerVertices vertexOf rotatedVertex rotatedBoundary layerVertexNum layerEdgeNum gapEdgeNum kindKnown distanceSound roundsSound codeRefusal all every endsDiffer pairsApart endsInRange graphSound logSound columnsLong longEnough columnsSound sound firstLeast start changes byStatus offer relaxEdge relax S.take stopped next settle readBack stepInto pathIn path fromLeft nearestRight crossing
+unfolding edgesOf layered each joined rows width layerEdges gapEdges rotatedLayer rotatedRow rotatedEdge rotatedPlace rotatedGap straightRows straightEdges rowEdges planarLayer planarRow planarGap circuitGap circuitRow circuitCell verticesOf layerVertices vertexOf rotatedVertex rotatedBoundary layerVertexNum layerEdgeNum gapEdgeNum kindKnown distanceSound roundsSound codeRefusal all every endsDiffer pairsApart endsInRange graphSound logSound columnsLong engineLong columnsSound engineSound firstLeast start changes byStatus offer relaxEdge relax S.take stopped next settle readBack stepInto pathIn path fromLeft nearestRight crossing
 starred = record {
   kind-5-edges = refl;
   kind-5-boundary = refl;

@@ -13,7 +13,7 @@ use Rattle.columns.specs.Questions.{ask}
 use Rattle.columns.proofs.Columns.{over-in}
 use Rattle.columns_answers.proofs.Said.{values-of}
 use Rattle.engine_columns.specs.Records.{Engine}
-use Rattle.engine_columns.specs.Door.{sound}
+use Rattle.engine_columns.specs.Questions.{engineSound}
 use Rattle.engine_walks.specs.Graph.{Graph, LeftJoinsRight}
 use Rattle.engine_walks.specs.Answers.{weightIn, crossing, leastFromLeft}
 use Rattle.engine_walks.specs.Claims.{IsCrossing, CrossingAnswer, LeftWeight}
@@ -21,7 +21,7 @@ use Rattle.engine_walks.proofs.LeastCrossing.{crossing-is-least}
 use Rattle.query_questions.specs.Queries.{graphIn, weightsIn}
 use Rattle.query_questions.specs.Scratch.{ScratchColumns}
 use Rattle.query_crossing_answer.specs.declared.CrossingReply.{CrossingReply}
-use Rattle.query_crossing_answer.specs.Crossing.{replyNumber, isJoined, weightFound, crossingNumber, CrossingStep}
+use Rattle.query_crossing_answer.specs.Crossing.{replyNumber, isJoined, weightFound, crossingRefusal, CrossingStep}
 use Rattle.claims.specs.QueriesCalled.{crossed}
 use Rattle.claims.specs.Met.{scratchFits, CrossingMet}
 use Rattle.claims.specs.Queries.{CrossingSays, CrossingCallIsLeast}
@@ -46,7 +46,7 @@ module _ (e : Engine) (r : CrossingReply) (weights₀ weights : List ℤ) (scrat
     column = λ z. absurd (f (sym q ∙ z));
   }
 
-  module _ (p : longAll e weights₀ scratch₀ ≡ true) (q : sound e ≡ true) where
+  module _ (p : longAll e weights₀ scratch₀ ≡ true) (q : engineSound e ≡ true) where
     met : CrossingMet e weights₀ scratch₀
     met = crossing-met e weights₀ scratch₀ p q
 
@@ -64,11 +64,11 @@ module _ (e : Engine) (r : CrossingReply) (weights₀ weights : List ℤ) (scrat
           column = λ z. absurd (omega (arith, z, n));
         }
     passed (some W) c f =
-        let met-all : crossingNumber e (scratchFits e scratch₀) (length weights₀) ≡ 0 = λ i. ask (p i) 6 (ask (q i) 7 (ask (isJoined (c i)) 18 0)) in
+        let met-all : crossingRefusal e (scratchFits e scratch₀) (length weights₀) ≡ 0 = λ i. ask (p i) 6 (ask (q i) 7 (ask (isJoined (c i)) 18 0)) in
         let n : replyNumber r ≡ 0 = step .answer .number-is ∙ met-all in
         let there : LeftJoinsRight g = (let (x, y, s, l, k, t, z) = f .walk .a-walk in (x, y, l, k, (s, t))) in
         let left : weights ≡ over (leastFromLeft g w) weights₀ =
-        step .weights-left ∙ (λ i. after (ask (p i) 6 (ask (q i) 7 (ask (isJoined (c i)) 18 0))) (leastFromLeft g w) weights₀) in
+        step .weights-after ∙ (λ i. after (ask (p i) 6 (ask (q i) 7 (ask (isJoined (c i)) 18 0))) (leastFromLeft g w) weights₀) in
         record {
           not-joined = ((λ z. absurd (omega (arith, z, n))), λ z. absurd (z .1 there));
           joined = ((λ z. (met, there)), λ z. n);
@@ -77,9 +77,9 @@ module _ (e : Engine) (r : CrossingReply) (weights₀ weights : List ℤ) (scrat
               (sym (ap (λ (l : List ℤ). weightIn l v) left ∙ over-in (leastFromLeft g w) weights₀ (negsuc 0) v (omega (arith, facts .1, h)))) (facts .2 v h);
         }
 
-  by-case : (p q : Bool) → longAll e weights₀ scratch₀ ≡ p → sound e ≡ q → Says
+  by-case : (p q : Bool) → longAll e weights₀ scratch₀ ≡ p → engineSound e ≡ q → Says
   by-case false q h k =
-      refused 6 (step .answer .number-is ∙ (λ i. ask (h i) 6 (ask (sound e) 7 (ask (isJoined (crossing g w)) 18 0)))) (λ z. omega arith) (λ z. omega arith)
+      refused 6 (step .answer .number-is ∙ (λ i. ask (h i) 6 (ask (engineSound e) 7 (ask (isJoined (crossing g w)) 18 0)))) (λ z. omega arith) (λ z. omega arith)
       (λ m. let c = crossing-long e weights₀ scratch₀ m in let z : _≡_ {A = ℕ} 0 1 = cc in omega arith)
   by-case true false h k =
       refused 7 (step .answer .number-is ∙ (λ i. ask (h i) 6 (ask (k i) 7 (ask (isJoined (crossing g w)) 18 0)))) (λ z. omega arith) (λ z. omega arith)
@@ -87,7 +87,7 @@ module _ (e : Engine) (r : CrossingReply) (weights₀ weights : List ℤ) (scrat
   by-case true true h k = passed h k (crossing g w) refl (facts h k .0)
 
   crossing-says : Says
-  crossing-says = by-case (longAll e weights₀ scratch₀) (sound e) refl refl
+  crossing-says = by-case (longAll e weights₀ scratch₀) (engineSound e) refl refl
 
 pub crossing-call-least : CrossingCallIsLeast
 crossing-call-least e r weights₀ weights scratch₀ scratch (crossed κs a q s h) = crossing-says e r weights₀ weights scratch₀ (h .0)

@@ -51,8 +51,8 @@ module _ (e : Engine) (a b : ℕ) (r : Reply) (columns₀ columns : PathColumns)
   unmet : {n : ℕ} → number ≡ suc n → PathMet e a b columns₀ scratch₀ → ⊥
   unmet d m = omega (arith, d, path-number e a b columns₀ scratch₀ m)
 
-  replies : (n : ℕ) (o : Option FoundPath) → number ≡ n → path g w a b ≡ o → said r .number ≡ P.pathNumber n o
-  replies n o d p = step .answer .number-is ∙ (λ i. P.pathNumber (d i) (p i))
+  replies : (n : ℕ) (o : Option FoundPath) → number ≡ n → path g w a b ≡ o → said r .number ≡ P.pathRefusal n o
+  replies n o d p = step .answer .number-is ∙ (λ i. P.pathRefusal (d i) (p i))
 
   by-case : (n : ℕ) (o : Option FoundPath) → number ≡ n → path g w a b ≡ o → (n ≡ 0 → PathAnswer g w a b o) → PathSays e a b r columns₀ columns scratch₀
   by-case (suc n) o d p h =
@@ -71,13 +71,13 @@ module _ (e : Engine) (a b : ℕ) (r : Reply) (columns₀ columns : PathColumns)
       }
   by-case zero (some f) d p h =
       let q : said r .number ≡ 0 = replies 0 (some f) d p in
-      let x = values-of (step .answer) (λ i. P.pathNumber (d i) (p i)) ∙ ap lengthAndTotal p in
+      let x = values-of (step .answer) (λ i. P.pathRefusal (d i) (p i)) ∙ ap lengthAndTotal p in
       let i : IsPath g w a b f = h refl in
       let ev : take (lengthOf r) (columns .vertices) ≡ f .vertices =
-      (λ j. take (x j .0) ((step .vertices-left ∙ (λ k. cond (eqb (d k) 0) (verticesAfter (p k) (columns₀ .vertices)) (columns₀ .vertices))) j))
+      (λ j. take (x j .0) ((step .vertices-after ∙ (λ k. cond (eqb (d k) 0) (verticesAfter (p k) (columns₀ .vertices)) (columns₀ .vertices))) j))
       ∙ take-over (f .vertices) (columns₀ .vertices) (length (f .vertices)) refl in
       let es : take (lengthOf r) (columns .steps) ≡ f .steps =
-      (λ j. take (x j .0) ((step .steps-left ∙ (λ k. cond (eqb (d k) 0) (stepsAfter (p k) (columns₀ .steps)) (columns₀ .steps))) j))
+      (λ j. take (x j .0) ((step .steps-after ∙ (λ k. cond (eqb (d k) 0) (stepsAfter (p k) (columns₀ .steps)) (columns₀ .steps))) j))
       ∙ take-over (f .steps) (columns₀ .steps) (length (f .vertices)) (route-same (i .route)) in
       record {
         not-reached = ((λ z. absurd (omega (arith, z, q))), λ z. absurd (z .1 (path-joins i)));

@@ -22,10 +22,10 @@ use Rattle.engine_walks.proofs.TableAndPath.{table-is-least}
 use Rattle.query_questions.specs.Queries.{graphIn, weightsIn}
 use Rattle.query_search.proofs.Ranges.{in-range}
 use Rattle.prebuilt_entries.specs.Entries.{inTheMiddle, rowEntry, entryBy}
-use Rattle.prebuilt_calls.specs.Rows.{RowStep, row, rowDoor}
+use Rattle.prebuilt_calls.specs.Rows.{RowStep, row, rowRefusal}
 use Rattle.prebuilt_calls.proofs.Entries.{row-asked}
 use Rattle.prebuilt_calls.specs.Boundaries as ours
-use Rattle.claims.specs.Prebuilt.{virtual, boundaryWeight, edgeWeight, edgeEntry, weightEntry, vertexEntry}
+use Rattle.claims.specs.Prebuilt.{virtual, getBoundaryWeight, getEdgeWeight, edgeEntry, weightEntry, vertexEntry}
 use Rattle.claims.specs.PrebuiltCalled.{BoundariesFilled, RowFilled}
 use Rattle.claims.specs.PrebuiltCalled as called
 use Rattle.claims.specs.PrebuiltRows.{PrebuiltRows}
@@ -39,50 +39,50 @@ module _ {A : Type 0} where
 
 module _ (e : Engine) (scratch : Bool) (least before : ℕ) (weights₀ : List ℤ) (vertices₀ : List ℕ) (weights : List ℤ) (vertices : List ℕ)
     (s : ours.BoundariesStep e scratch least before Accepted weights₀ vertices₀ weights vertices) where
-  abbrev door : ℕ
-  door = ours.boundariesDoor e scratch (length weights₀) (length vertices₀) least before
+  abbrev refusal : ℕ
+  refusal = ours.boundariesRefusal e scratch (length weights₀) (length vertices₀) least before
 
-  met : door ≡ 0
+  met : refusal ≡ 0
   met = zero-of (s .answer)
 
-  weight-at : (v : ℕ) → v < e .counts .vertices → weightIn weights v ≡ weightEntry (boundaryWeight (graphIn e) (weightsIn e) v)
+  weight-at : (v : ℕ) → v < e .counts .vertices → weightIn weights v ≡ weightEntry (getBoundaryWeight (graphIn e) (weightsIn e) v)
   weight-at v h =
-      at-place door (e .counts .vertices) (ours.boundaryWeight (graphIn e) (weightsIn e)) weights₀ weights (negsuc 0) met (s .weights-left) v h ∙ weight-column (graphIn e) (weightsIn e) v
+      at-place refusal (e .counts .vertices) (ours.boundaryWeight (graphIn e) (weightsIn e)) weights₀ weights (negsuc 0) met (s .weights-after) v h ∙ weight-column (graphIn e) (weightsIn e) v
 
-  vertex-at : (v : ℕ) → v < e .counts .vertices → getD vertices v 0 ≡ vertexEntry (boundaryWeight (graphIn e) (weightsIn e) v)
+  vertex-at : (v : ℕ) → v < e .counts .vertices → getD vertices v 0 ≡ vertexEntry (getBoundaryWeight (graphIn e) (weightsIn e) v)
   vertex-at v h =
-      at-place door (e .counts .vertices) (ours.boundaryVertex (graphIn e) (weightsIn e)) vertices₀ vertices 0 met (s .vertices-left) v h ∙ vertex-column (graphIn e) (weightsIn e) v
+      at-place refusal (e .counts .vertices) (ours.boundaryVertex (graphIn e) (weightsIn e)) vertices₀ vertices 0 met (s .vertices-after) v h ∙ vertex-column (graphIn e) (weightsIn e) v
 
 pub weight-of : (e : Engine) (weights : List ℤ) (vertices : List ℕ) → BoundariesFilled e weights vertices → (v : ℕ) → v < e .counts .vertices
-    → weightIn weights v ≡ weightEntry (boundaryWeight (graphIn e) (weightsIn e) v)
+    → weightIn weights v ≡ weightEntry (getBoundaryWeight (graphIn e) (weightsIn e) v)
 weight-of e weights vertices (called.BoundariesFilled.filled κs a s l) v h = weight-at e _ _ _ _ _ weights vertices (l .0) v h
 
 pub vertex-of : (e : Engine) (weights : List ℤ) (vertices : List ℕ) → BoundariesFilled e weights vertices → (v : ℕ) → v < e .counts .vertices
-    → getD vertices v 0 ≡ vertexEntry (boundaryWeight (graphIn e) (weightsIn e) v)
+    → getD vertices v 0 ≡ vertexEntry (getBoundaryWeight (graphIn e) (weightsIn e) v)
 vertex-of e weights vertices (called.BoundariesFilled.filled κs a s l) v h = vertex-at e _ _ _ _ _ weights vertices (l .0) v h
 
 module _ (e : Engine) (scratch : Bool) (v : ℕ) (near : List ℤ) (before : ℕ) (out₀ out : List ℤ) (s : RowStep e scratch v near before Accepted out₀ out)
-    (b : (v : ℕ) → v < e .counts .vertices → weightIn near v ≡ weightEntry (boundaryWeight (graphIn e) (weightsIn e) v)) where
+    (b : (v : ℕ) → v < e .counts .vertices → weightIn near v ≡ weightEntry (getBoundaryWeight (graphIn e) (weightsIn e) v)) where
   abbrev number : ℕ
-  number = rowDoor e scratch v (length near) (length out₀) before
+  number = rowRefusal e scratch v (length near) (length out₀) before
 
   none-asked : number ≡ 0
   none-asked = zero-of (s .answer)
 
-  row-at : (u : ℕ) → u < e .counts .vertices → weightIn out u ≡ edgeEntry (edgeWeight (graphIn e) (weightsIn e) v u)
+  row-at : (u : ℕ) → u < e .counts .vertices → weightIn out u ≡ edgeEntry (getEdgeWeight (graphIn e) (weightsIn e) v u)
   row-at u h =
       let g = graphIn e in
       let w = weightsIn e in
       let q = row-asked e scratch v (length near) (length out₀) before none-asked in
       let own = b v (q .v-in) in
       let other = b u h in
-      at-place number (e .counts .vertices) (rowEntry (g .boundary) near v (table g w v none .weights)) out₀ out (negsuc 0) none-asked (s .out-left) u h
+      at-place number (e .counts .vertices) (rowEntry (g .boundary) near v (table g w v none .weights)) out₀ out (negsuc 0) none-asked (s .out-after) u h
       ∙ (λ i. entryBy (virtual g v || (virtual g u || eqb u v)) (own i) (other i) (weightIn (table g w v none .weights) u))
       ∙ entry-is g w v u h
 
 pub row-of : (e : Engine) (v : ℕ) (near out : List ℤ) → RowFilled e v near out
-    → ((v : ℕ) → v < e .counts .vertices → weightIn near v ≡ weightEntry (boundaryWeight (graphIn e) (weightsIn e) v))
-    → (u : ℕ) → u < e .counts .vertices → weightIn out u ≡ edgeEntry (edgeWeight (graphIn e) (weightsIn e) v u)
+    → ((v : ℕ) → v < e .counts .vertices → weightIn near v ≡ weightEntry (getBoundaryWeight (graphIn e) (weightsIn e) v))
+    → (u : ℕ) → u < e .counts .vertices → weightIn out u ≡ edgeEntry (getEdgeWeight (graphIn e) (weightsIn e) v u)
 row-of e v near out (called.RowFilled.filled κs a s l) b u h = row-at e _ v near _ _ out (l .0) b u h
 
 -- ---- least weights
@@ -98,7 +98,7 @@ least-in g w v u k (inr r) e = absurd (let q : _≡_ {A = ℕ} 0 1 = (let s = r 
 
 module _ (e : Engine) (scratch : Bool) (v : ℕ) (near : List ℤ) (before : ℕ) (out₀ out : List ℤ) (s : RowStep e scratch v near before Accepted out₀ out) where
   abbrev question : ℕ
-  question = rowDoor e scratch v (length near) (length out₀) before
+  question = rowRefusal e scratch v (length near) (length out₀) before
 
   least-at : (u k : ℕ) → u < e .counts .vertices → weightIn out u ≡ pos k → LeastWeight (graphIn e) (weightsIn e) (λ x. x ≡ v) u k
   least-at u k h p =
@@ -106,7 +106,7 @@ module _ (e : Engine) (scratch : Bool) (v : ℕ) (near : List ℤ) (before : ℕ
       let w = weightsIn e in
       let z : question ≡ 0 = zero-of (s .answer) in
       let q = row-asked e scratch v (length near) (length out₀) before z in
-      let x = at-place question (e .counts .vertices) (rowEntry (g .boundary) near v (table g w v none .weights)) out₀ out (negsuc 0) z (s .out-left) u h in
+      let x = at-place question (e .counts .vertices) (rowEntry (g .boundary) near v (table g w v none .weights)) out₀ out (negsuc 0) z (s .out-after) u h in
       let y = kept (virtual g v || (virtual g u || eqb u v)) (inTheMiddle (weightIn near v) (weightIn near u) (weightIn (table g w v none .weights) u)) (weightIn (table g w v none .weights) u) k (sym x ∙ p) in
       least-in g w v u k (table-is-least g w v none (in-range e (q .long) (q .sound)) (q .v-in) .rows u h) y
 

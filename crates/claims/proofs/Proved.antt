@@ -12,7 +12,7 @@ use Rattle.engine_columns.specs.Records.{Engine}
 use Rattle.engine_tally.specs.Tally.{Tally, lengthsOf}
 use Rattle.engine_tally.proofs.Agreement.{Agrees}
 use Rattle.engine_tally.proofs.LastNamed.{weighs-last-named}
-use Rattle.engine_walks.specs.Graph.{Graph, edges, InRange, LeftJoinsRight}
+use Rattle.engine_walks.specs.Graph.{Graph, edges, GraphInRange, LeftJoinsRight}
 use Rattle.engine_walks.specs.Answers.{crossing, leastFromLeft, weightIn}
 use Rattle.engine_walks.specs.Claims.{CrossingAnswer, IsCrossing, LeftWeight, Alike, NotGreater, reached, unreached, signed}
 use Rattle.engine_walks.proofs.LeastCrossing.{crossing-is-least}
@@ -20,7 +20,7 @@ use Rattle.engine_walks.proofs.TwoGraphs.{weights-compare}
 use Rattle.query_crossing_answer.specs.declared.CrossingReply.{CrossingReply}
 use Rattle.query_crossing_answer.specs.declared.CrossingReply.the-variants.{Crossed, Refused}
 use Rattle.query_crossing_answer.specs.Crossing.{replyNumber, replyWeight, CrossingStep}
-use Rattle.claims.specs.Listed.{graphIn, weightsIn, crossingNumber, modifying, numbers}
+use Rattle.claims.specs.Listed.{tallyGraph, tallyWeights, tallyCrossingRefusal, modifying, numbers}
 use Rattle.claims.specs.Demand3.{History, CrossingThen, TwoLists, tallyFirst, tallyLast, graphLeft, weightsLeft, refusedBefore, Demand3}
 use Rattle.claims.proofs.Agreeing.{scratchFits, range, edges-are, weight-at, crossing-number, accepted-of, accepted-when, column-at, graph-kept}
 use Rattle.claims.proofs.Runs.{FreshGraph, fresh-of, crossing-of, runs}
@@ -43,13 +43,13 @@ module _ (h : History) where
   edges-kept : tallyLast h .counts .edges ≡ h .edges
   edges-kept = graph-kept (modifying (h .calls)) (tallyFirst h) .1
 
-  graph-first : graphLeft h ≡ graphIn (tallyFirst h)
+  graph-first : graphLeft h ≡ tallyGraph (tallyFirst h)
   graph-first = graph-kept (modifying (h .calls)) (tallyFirst h) .0
 
   vertices-kept : tallyLast h .counts .vertices ≡ h .vertices
   vertices-kept = ap (λ (g : Graph). g .vertices) graph-first
 
-  in-range : InRange (graphLeft h)
+  in-range : GraphInRange (graphLeft h)
   in-range = range (tallyLast h) (h .left) agrees
 
   edges-left : edges (graphLeft h) ≡ h .edges
@@ -68,7 +68,7 @@ module _ (h : History) where
     step : CrossingStep (h .left) (scratchFits (h .left) (c .own)) (c .reply) (c .column₀) (c .column) × (length (c .column₀) ≡ c .own .weights)
     step = crossing-of (h .left) (c .own) (c .reply) (c .column₀) (c .column) (c .called)
 
-    number : replyNumber (c .reply) ≡ crossingNumber (lengthsOf (h .left)) (c .own) (tallyLast h)
+    number : replyNumber (c .reply) ≡ tallyCrossingRefusal (lengthsOf (h .left)) (c .own) (tallyLast h)
     number = crossing-number (tallyLast h) (h .left) agrees (c .own) (c .reply) (c .column₀) (c .column) (step .0) (step .1)
 
     abbrev Reports : Type 0

@@ -13,25 +13,25 @@ use Rattle.columns.specs.Limits.{weightLimit}
 use Rattle.columns.specs.Questions.{ask}
 use Rattle.columns.proofs.Tests.{both-and, within-at}
 use Rattle.engine_columns.specs.Records.{Engine}
-use Rattle.engine_columns.specs.Door.{longEnough, sound}
-use Rattle.engine_columns.proofs.Doors.{long-of, long-from, sound-of, sound-from}
+use Rattle.engine_columns.specs.Questions.{engineLong, engineSound}
+use Rattle.engine_columns.proofs.Refusals.{long-of, long-from, sound-of, sound-from}
 use Rattle.engine_walks.specs.Answers.{TableColumns}
-use Rattle.query_questions.specs.Queries.{queryDoor}
+use Rattle.query_questions.specs.Queries.{queryRefusal}
 use Rattle.query_questions.specs.Scratch.{ScratchColumns}
 use Rattle.query_search.proofs.Ranges.{in-range}
 use Rattle.query_tables.specs.declared.End.{End}
 use Rattle.query_tables.specs.declared.End.the-variants.{None, At}
 use Rattle.query_tables.specs.Ends.{endIn, endInRange}
-use Rattle.query_tables.specs.Steps.{tableDoor}
+use Rattle.query_tables.specs.Steps.{tableRefusal}
 use Rattle.query_tables.proofs.Tables.{table-of}
-use Rattle.query_paths.specs.GetPath.{pathDoor}
+use Rattle.query_paths.specs.GetPath.{pathAsked}
 use Rattle.query_paths.proofs.PathAsked.{path-asked}
 use Rattle.query_crossings.proofs.Crossings.{crossing-of}
 use Rattle.claims.specs.QueriesCalled.{PathColumns}
 use Rattle.claims.specs.Met.{scratchFits, EndWithin, TableMet, PathMet, CrossingMet, ColumnsInRange}
 
 -- 6, 7 and 13 met: the number is that of the later questions
-query-met : (e : Engine) (fits inRange : Bool) (next : ℕ) → longEnough 0 e ≡ true → fits ≡ true → sound e ≡ true → inRange ≡ true → queryDoor e fits inRange next ≡ next
+query-met : (e : Engine) (fits inRange : Bool) (next : ℕ) → engineLong 0 e ≡ true → fits ≡ true → engineSound e ≡ true → inRange ≡ true → queryRefusal e fits inRange next ≡ next
 query-met e fits inRange next p q r s = λ i. ask (both-and p q i) 6 (ask (r i) 7 (ask (s i) 13 next))
 
 -- ---- a table
@@ -46,7 +46,7 @@ end-from (At b) n h = lt-ltb (b .0) n h
 
 module _ (e : Engine) (source : ℕ) (o : End) (columns : TableColumns) (scratch : ScratchColumns) where
   abbrev pub tableNumber : ℕ
-  tableNumber = tableDoor e (scratchFits e scratch) source o (length (columns .weights)) (length (columns .previous))
+  tableNumber = tableRefusal e (scratchFits e scratch) source o (length (columns .weights)) (length (columns .previous))
 
   pub table-met : tableNumber ≡ 0 → TableMet e source (endIn o) columns scratch
   table-met z =
@@ -72,7 +72,7 @@ module _ (e : Engine) (source : ℕ) (o : End) (columns : TableColumns) (scratch
 
 module _ (e : Engine) (a b : ℕ) (columns : PathColumns) (scratch : ScratchColumns) where
   abbrev pub pathNumber : ℕ
-  pathNumber = pathDoor e (scratchFits e scratch) a b (length (columns .vertices)) (length (columns .steps))
+  pathNumber = pathAsked e (scratchFits e scratch) a b (length (columns .vertices)) (length (columns .steps))
 
   pub path-met : pathNumber ≡ 0 → PathMet e a b columns scratch
   path-met z =
@@ -100,9 +100,9 @@ module _ (e : Engine) (a b : ℕ) (columns : PathColumns) (scratch : ScratchColu
 module _ (e : Engine) (weights : List ℤ) (scratch : ScratchColumns) where
   -- 6 as one test
   abbrev pub longAll : Bool
-  longAll = longEnough 0 e && (leb (e .counts .vertices) (length weights) && scratchFits e scratch)
+  longAll = engineLong 0 e && (leb (e .counts .vertices) (length weights) && scratchFits e scratch)
 
-  pub crossing-met : longAll ≡ true → sound e ≡ true → CrossingMet e weights scratch
+  pub crossing-met : longAll ≡ true → engineSound e ≡ true → CrossingMet e weights scratch
   crossing-met p q =
       let a = crossing-of e (scratchFits e scratch) (length weights) (λ i. ask (p i) 6 (ask (q i) 7 0)) in
       record { graph-long = long-from 0 e (a .long); written-long = (a .weights-long, tt); scratch-long = a .scratch-is; graph-sound = q }

@@ -10,10 +10,10 @@ use Rattle.engine_columns.specs.declared.EngineAnswer.{EngineAnswer}
 use Rattle.engine_columns.specs.declared.EngineAnswer.the-variants.{Counts}
 use Rattle.engine_columns.specs.Records.{Engine, engine, counts}
 use Rattle.engine_columns.specs.Step.{Call, Step}
-use Rattle.engine_columns.specs.Open.{GraphColumns, graphColumns, openDoor, OpenStep}
+use Rattle.engine_columns.specs.Open.{GraphColumns, graphColumns, openRefusal, OpenStep}
 use Rattle.engine_tally.specs.Tally.{Tally, tallyOf, lengthsOf, tallyStep}
 use Rattle.engine_tally.proofs.Agreement.{Agrees, step-agrees, opened-agrees}
-use Rattle.engine_columns.proofs.Doors.{opens-of}
+use Rattle.engine_columns.proofs.Refusals.{opens-of}
 use Rattle.query_crossing_answer.specs.declared.CrossingReply.{CrossingReply}
 use Rattle.query_crossing_answer.specs.Crossing.{CrossingStep}
 use Rattle.claims.specs.Listed.{OwnLengths, ListedCall, tallyAtEnd, numbers}
@@ -39,7 +39,7 @@ pub record FreshGraph (v e : ℕ) (handed : GraphColumns) (fresh : Engine) : Typ
 open-says : (v e : ℕ) (handed lent left : GraphColumns) (c : EngineCounts) (le lw : List ℕ) → OpenStep v e handed lent (Counts c) left
     → FreshGraph v e handed (engine c (left .endsA) (left .endsB) (left .weights) (left .boundary) le lw)
 open-says v e handed lent left c le lw h =
-    let d : openDoor v e handed lent ≡ 0 = sym (h .answer .number-is) in
+    let d : openRefusal v e handed lent ≡ 0 = sym (h .answer .number-is) in
     let k : c ≡ counts v e 0 = values-of (h .answer) d in
     record {
       agrees = subst (λ (n : EngineCounts). Agrees (tallyOf v e handed) (engine n (left .endsA) (left .endsB) (left .weights) (left .boundary) le lw)) (sym k)

@@ -16,7 +16,7 @@ use Rattle.engine_walks.specs.Answers.{weightIn, table, taken, tableWeight, onl
 use Rattle.engine_walks.proofs.FirstLeast.{IsFirst, first-least}
 use Rattle.prebuilt_entries.specs.Entries.{isVirtual, entryBy}
 use Rattle.prebuilt_entries.specs.Nearest.{isReached, amount, nearestIn, boundaryIn, weightTo, vertexTo}
-use Rattle.claims.specs.Prebuilt.{virtual, reached, completeEdge, Peer, offered, boundaryBelow, boundaryWeight, collected, removed, remaining, edgeWeight, edgeEntry, weightEntry, vertexEntry}
+use Rattle.claims.specs.Prebuilt.{virtual, reached, completeEdge, Peer, offered, boundaryBelow, getBoundaryWeight, collected, removed, remaining, getEdgeWeight, edgeEntry, weightEntry, vertexEntry}
 
 peer : ℕ → ℕ → Peer
 peer u weight = record { vertex = u; weight = weight }
@@ -62,7 +62,7 @@ module _ (g : Graph) (w : ℕ → ℕ) (v : ℕ) where
       other false q e = refl
       other true q e = true-false (ap (virtual g) (sym (eqb-true n v q)) ∙ e) inner
 
-  pub scanned : boundaryWeight g w v ≡ peerOf (boundaryIn (g .boundary) T (g .vertices) v)
+  pub scanned : getBoundaryWeight g w v ≡ peerOf (boundaryIn (g .boundary) T (g .vertices) v)
   scanned = go (virtual g v) refl
     where
       go : (b : Bool) → virtual g v ≡ b → cond b none (boundaryBelow g w v (g .vertices)) ≡ peerOf (cond b none (nearestIn (g .boundary) T (g .vertices)))
@@ -84,14 +84,14 @@ module _ (g : Graph) (w : ℕ → ℕ) (v : ℕ) where
       second true b q = q
       second false b q = true-false q refl
 
-  pub weight-column : weightTo T (boundaryIn (g .boundary) T (g .vertices) v) ≡ weightEntry (boundaryWeight g w v)
+  pub weight-column : weightTo T (boundaryIn (g .boundary) T (g .vertices) v) ≡ weightEntry (getBoundaryWeight g w v)
   weight-column = weight-by (virtual g v) (nearestIn (g .boundary) T (g .vertices)) (first-least _ _ (g .vertices)) ∙ ap weightEntry (sym scanned)
 
   vertex-by : (o : Option ℕ) → vertexTo o ≡ vertexEntry (peerOf o)
   vertex-by none = refl
   vertex-by (some u) = refl
 
-  pub vertex-column : vertexTo (boundaryIn (g .boundary) T (g .vertices) v) ≡ vertexEntry (boundaryWeight g w v)
+  pub vertex-column : vertexTo (boundaryIn (g .boundary) T (g .vertices) v) ≡ vertexEntry (getBoundaryWeight g w v)
   vertex-column = vertex-by (boundaryIn (g .boundary) T (g .vertices) v) ∙ ap vertexEntry (sym scanned)
 
 -- ---- an entry of a row
@@ -118,10 +118,10 @@ module _ (g : Graph) (w : ℕ → ℕ) (v u : ℕ) (h : u < g .vertices) where
   unfolding table
   in-table = getD-each (g .vertices) (tableWeight (settled g w (only v) none)) (negsuc 0) u h
 
-  pub entry-is : entryBy (virtual g v || (virtual g u || eqb u v)) (weightEntry (boundaryWeight g w v)) (weightEntry (boundaryWeight g w u)) (weightIn (table g w v none .weights) u)
-      ≡ edgeEntry (edgeWeight g w v u)
+  pub entry-is : entryBy (virtual g v || (virtual g u || eqb u v)) (weightEntry (getBoundaryWeight g w v)) (weightEntry (getBoundaryWeight g w u)) (weightIn (table g w v none .weights) u)
+      ≡ edgeEntry (getEdgeWeight g w v u)
   entry-is =
       let z = in-table in
-      ap (entryBy (virtual g v || (virtual g u || eqb u v)) (weightEntry (boundaryWeight g w v)) (weightEntry (boundaryWeight g w u))) z
-      ∙ entry-by (virtual g v) (virtual g u) (eqb u v) (boundaryWeight g w v) (boundaryWeight g w u) (taken (settled g w (only v) none) u) (weightAt (settled g w (only v) none) u)
-      ∙ ap (λ x. edgeEntry (remaining (boundaryWeight g w v) (boundaryWeight g w u) (cond (virtual g v || virtual g u) none (cond (eqb u v) none (reached x))))) (sym z)
+      ap (entryBy (virtual g v || (virtual g u || eqb u v)) (weightEntry (getBoundaryWeight g w v)) (weightEntry (getBoundaryWeight g w u))) z
+      ∙ entry-by (virtual g v) (virtual g u) (eqb u v) (getBoundaryWeight g w v) (getBoundaryWeight g w u) (taken (settled g w (only v) none) u) (weightAt (settled g w (only v) none) u)
+      ∙ ap (λ x. edgeEntry (remaining (getBoundaryWeight g w v) (getBoundaryWeight g w u) (cond (virtual g v || virtual g u) none (cond (eqb u v) none (reached x))))) (sym z)

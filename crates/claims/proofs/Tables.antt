@@ -40,9 +40,9 @@ module _ (e : Engine) (source : ℕ) (o : End) (r : Done) (columns₀ columns : 
       let i = table-is-least g w source (endIn o) (columns-in-range e (m .six-and-seven .graph-long) (m .six-and-seven .graph-sound) .0) (m .source-within) in
       let t = table g w source (endIn o) in
       let p : take (e .counts .vertices) (columns .weights) ≡ t .weights =
-      ap (take (e .counts .vertices)) (step .weights-left ∙ after-accepted number (t .weights) (columns₀ .weights) z) ∙ take-over (t .weights) (columns₀ .weights) (e .counts .vertices) (i .weights-fit) in
+      ap (take (e .counts .vertices)) (step .weights-after ∙ after-accepted number (t .weights) (columns₀ .weights) z) ∙ take-over (t .weights) (columns₀ .weights) (e .counts .vertices) (i .weights-fit) in
       let q : take (e .counts .vertices) (columns .previous) ≡ t .previous =
-      ap (take (e .counts .vertices)) (step .previous-left ∙ after-accepted number (t .previous) (columns₀ .previous) z) ∙ take-over (t .previous) (columns₀ .previous) (e .counts .vertices) (i .previous-fit) in
+      ap (take (e .counts .vertices)) (step .previous-after ∙ after-accepted number (t .previous) (columns₀ .previous) z) ∙ take-over (t .previous) (columns₀ .previous) (e .counts .vertices) (i .previous-fit) in
       subst (IsTable g w source (endIn o)) (sym (λ j. record { weights = p j; previous = q j })) i
 
   table-says : TableSays e source (endIn o) r columns₀ columns scratch₀

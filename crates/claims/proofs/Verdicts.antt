@@ -29,7 +29,7 @@ use Rattle.weights_diagonal.specs.declared.DiagonalProbability.{DiagonalProbabi
 use Rattle.codes_calls.specs.declared.Created.{Created}
 use Rattle.codes_calls.specs.declared.Created.the-variants.{Refused}
 use Rattle.codes_calls.specs.Columns.{CodeColumns}
-use Rattle.codes_calls.specs.CreateCode.{refusal, refusalIn, newColumns}
+use Rattle.codes_calls.specs.CreateCode.{createRefusal, refusalIn, newColumns}
 use Rattle.codes_calls.proofs.Cases.{code-case}
 use Rattle.codes_calls.proofs.Outcome.{degrees-same, lists-same}
 use Rattle.codes_calls.specs.NewCode.{newRefusal, newRefusalIn}
@@ -111,7 +111,7 @@ module _ (kind d rounds q : ℕ) (lent back : CodeColumns) (z : q ≡ 0) (v e : 
       ∙ gets-zero kind d rounds ok (lent .endsA) (lent .endsB) (lent .listLengths) (lent .neighborNumbers))
 
 pub created-codes-are-sound : CreatedCodesAreSound
-unfolding refusal
+unfolding createRefusal
 created-codes-are-sound kind d rounds lent back v e c =
     let w = code-case (c .answer) in
     written-zero kind d rounds (refusalIn kind d rounds lent) lent back (w .0) v e (w .1) (w .2) (accepted kind d rounds _ (w .0) .0) (c .ends-a) (c .ends-b) (c .list-lengths) (c .neighbor-numbers)

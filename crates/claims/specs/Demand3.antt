@@ -16,7 +16,7 @@ use Rattle.engine_walks.specs.Claims.{Alike, NotGreater, LeftWeight}
 use Rattle.query_crossing_answer.specs.declared.CrossingReply.{CrossingReply}
 use Rattle.query_crossing_answer.specs.declared.CrossingReply.the-variants.{Crossed}
 use Rattle.query_crossing_answer.specs.Crossing.{replyNumber, replyWeight}
-use Rattle.claims.specs.Listed.{OwnLengths, ListedCall, graphIn, weightsIn, before18, crossingNumber, modifying, tallyAtEnd, numbers}
+use Rattle.claims.specs.Listed.{OwnLengths, ListedCall, tallyGraph, tallyWeights, before18, tallyCrossingRefusal, modifying, tallyAtEnd, numbers}
 use Rattle.claims.specs.Called.{OpenCalled, Calls, CrossingCalled, CodeBuilt}
 
 -- a freshly opened graph and a list of calls on it, with the number of each answer; `left`: the engine's columns at its end
@@ -39,10 +39,10 @@ abbrev pub tallyLast : History → Tally
 tallyLast h = tallyAtEnd (h .calls) (tallyFirst h)
 
 abbrev pub graphLeft : History → Graph
-graphLeft h = graphIn (tallyLast h)
+graphLeft h = tallyGraph (tallyLast h)
 
 abbrev pub weightsLeft : History → ℕ → ℕ
-weightsLeft h = weightsIn (tallyLast h)
+weightsLeft h = tallyWeights (tallyLast h)
 
 -- a crossing called then: its own columns' lengths, its answer, and the weight column before and after
 pub record CrossingThen (h : History) : Type 0 where
@@ -65,7 +65,7 @@ pub record TwoLists (h h′ : History) (c : CrossingThen h) (c′ : CrossingThen
 pub record Demand3 : Type 0 where
   -- "Each call is accepted or refused as document 01's questions say."
   pub each-call : (h : History) → h .answers ≡ numbers (h .calls) (tallyFirst h)
-  pub crossing-then : (h : History) (c : CrossingThen h) → replyNumber (c .reply) ≡ crossingNumber (lengthsOf (h .left)) (c .own) (tallyLast h)
+  pub crossing-then : (h : History) (c : CrossingThen h) → replyNumber (c .reply) ≡ tallyCrossingRefusal (lengthsOf (h .left)) (c .own) (tallyLast h)
   -- document 01, Engine: the tally's count of log entries, and its other counts, are those that the calls hand back.
   pub counts : (h : History) → h .left .counts ≡ tallyLast h .counts
   -- "An edge weighs what an accepted load last named for it since the last accepted reset (0 if erased), else its opening weight."

@@ -6,7 +6,7 @@ use lib.ListN.{getD}
 use lib.Dec.{leb}
 use Rattle.columns.specs.Questions.{ask}
 use Rattle.engine_columns.specs.declared.EngineCounts.{EngineCounts}
-use Rattle.engine_tally.specs.Tally.{Lengths, Tally, Fed, tallyLong, tallyDoor, tallyStep, tallyAfter}
+use Rattle.engine_tally.specs.Tally.{Lengths, Tally, Fed, tallyLong, tallyRefusal, tallyStep, tallyAfter}
 use Rattle.engine_walks.specs.Graph.{Graph}
 use Rattle.engine_walks.specs.Answers.{crossing}
 use Rattle.query_questions.specs.Queries.{scratchLong}
@@ -29,11 +29,11 @@ pub data ListedCall : Type 0 where
   crosses : Lengths → OwnLengths → ListedCall
 
 -- the graph that the tally holds, and the weight of each edge
-abbrev pub graphIn : Tally → Graph
-graphIn t = record { vertices = t .counts .vertices; endsA = t .endsA; endsB = t .endsB; boundary = t .boundary }
+abbrev pub tallyGraph : Tally → Graph
+tallyGraph t = record { vertices = t .counts .vertices; endsA = t .endsA; endsB = t .endsB; boundary = t .boundary }
 
-abbrev pub weightsIn : Tally → ℕ → ℕ
-weightsIn t k = getD (t .weights) k 0
+abbrev pub tallyWeights : Tally → ℕ → ℕ
+tallyWeights t k = getD (t .weights) k 0
 
 -- 6 of a crossing, from the lengths
 abbrev pub crossingLong : Lengths → OwnLengths → EngineCounts → Bool
@@ -47,8 +47,8 @@ abbrev pub before18 : Lengths → OwnLengths → Tally → ℕ
 before18 k o t = ask (crossingLong k o (t .counts)) 6 0
 
 -- 6, then 18
-abbrev pub crossingNumber : Lengths → OwnLengths → Tally → ℕ
-crossingNumber k o t = ask (crossingLong k o (t .counts)) 6 (ask (isJoined (crossing (graphIn t) (weightsIn t))) 18 0)
+abbrev pub tallyCrossingRefusal : Lengths → OwnLengths → Tally → ℕ
+tallyCrossingRefusal k o t = ask (crossingLong k o (t .counts)) 6 (ask (isJoined (crossing (tallyGraph t) (tallyWeights t))) 18 0)
 
 -- the loads and resets of a list
 abbrev pub modifying : List ListedCall → List Fed
@@ -63,5 +63,5 @@ tallyAtEnd cs t = tallyAfter (modifying cs) t
 -- the tally's answer to each call of a list: its number, 0 where it is accepted
 abbrev pub numbers : List ListedCall → Tally → List ℕ
 numbers [] t = []
-numbers (modifies f ∷ cs) t = tallyDoor (f .call) (f .lent) t ∷ numbers cs (tallyStep f t)
-numbers (crosses k o ∷ cs) t = crossingNumber k o t ∷ numbers cs t
+numbers (modifies f ∷ cs) t = tallyRefusal (f .call) (f .lent) t ∷ numbers cs (tallyStep f t)
+numbers (crosses k o ∷ cs) t = tallyCrossingRefusal k o t ∷ numbers cs t

@@ -9,9 +9,9 @@ use lib.ListN.{length}
 use lib.IntN.{ℤ}
 use Rattle.columns.specs.Limits.{weightLimit}
 use Rattle.engine_columns.specs.Records.{Engine}
-use Rattle.engine_columns.specs.Door.{longEnough, sound}
+use Rattle.engine_columns.specs.Questions.{engineLong, engineSound}
 use Rattle.engine_walks.specs.Lists.{All}
-use Rattle.engine_walks.specs.Graph.{edges, InRange}
+use Rattle.engine_walks.specs.Graph.{edges, GraphInRange}
 use Rattle.engine_walks.specs.Answers.{TableColumns}
 use Rattle.query_questions.specs.Queries.{graphIn, weightsIn, scratchLong}
 use Rattle.query_questions.specs.Scratch.{ScratchColumns}
@@ -24,10 +24,10 @@ scratchFits e s =
 
 -- Questions at the door, 6 and 7, of a query: the columns lent and the log are long enough, those of the lengths `written` and scratch too, and graph and log are sound.
 pub record Met (e : Engine) (written : List ℕ) (scratch : ScratchColumns) : Type 0 where
-  pub graph-long : longEnough 0 e ≡ true
+  pub graph-long : engineLong 0 e ≡ true
   pub written-long : All (λ n. e .counts .vertices ≤ n) written
   pub scratch-long : scratchFits e scratch ≡ true
-  pub graph-sound : sound e ≡ true
+  pub graph-sound : engineSound e ≡ true
 
 -- Questions at the door, 13, of an end that is named.
 abbrev pub EndWithin : ℕ → Option ℕ → Type 0
@@ -54,5 +54,5 @@ CrossingMet e weights scratch = Met e (length weights ∷ []) scratch
 -- Where 6 and 7 are met, the graph in the columns has the counted edges, each end is a vertex, each boundary byte is 0, 1 or 2, and each weight is within its limit.
 abbrev pub ColumnsInRange : Type 0
 ColumnsInRange =
-    (e : Engine) → longEnough 0 e ≡ true → sound e ≡ true
-    → InRange (graphIn e) × (edges (graphIn e) ≡ e .counts .edges) × ((k : ℕ) → k < e .counts .edges → weightsIn e k ≤ weightLimit)
+    (e : Engine) → engineLong 0 e ≡ true → engineSound e ≡ true
+    → GraphInRange (graphIn e) × (edges (graphIn e) ≡ e .counts .edges) × ((k : ℕ) → k < e .counts .edges → weightsIn e k ≤ weightLimit)

@@ -37,8 +37,8 @@ boundaryBelow g w v zero = none
 boundaryBelow g w v (suc n) = cond (virtual g n) (offered n (completeEdge g w v n) (boundaryBelow g w v n)) (boundaryBelow g w v n)
 
 -- `get_boundary_weight(v)`: none for a virtual vertex
-abbrev pub boundaryWeight : (g : Graph) (w : ℕ → ℕ) (v : ℕ) → Option Peer
-boundaryWeight g w v = cond (virtual g v) none (boundaryBelow g w v (g .vertices))
+abbrev pub getBoundaryWeight : (g : Graph) (w : ℕ → ℕ) (v : ℕ) → Option Peer
+getBoundaryWeight g w v = cond (virtual g v) none (boundaryBelow g w v (g .vertices))
 
 -- `edges[v]` at the peer u, as it is first collected: only between vertices that are not virtual
 abbrev pub collected : (g : Graph) (w : ℕ → ℕ) (v u : ℕ) → Option ℕ
@@ -55,8 +55,8 @@ remaining own peer none = none
 remaining own peer (some weight) = cond (removed own peer weight) none (some weight)
 
 -- `get_edge_weight(v, u)`
-abbrev pub edgeWeight : (g : Graph) (w : ℕ → ℕ) (v u : ℕ) → Option ℕ
-edgeWeight g w v u = remaining (boundaryWeight g w v) (boundaryWeight g w u) (collected g w v u)
+abbrev pub getEdgeWeight : (g : Graph) (w : ℕ → ℕ) (v u : ℕ) → Option ℕ
+getEdgeWeight g w v u = remaining (getBoundaryWeight g w v) (getBoundaryWeight g w u) (collected g w v u)
 
 -- ---- in columns: -1 for no edge and no boundary weight, 0 for no boundary vertex
 

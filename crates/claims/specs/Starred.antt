@@ -11,7 +11,7 @@ use Rattle.codes_layers.specs.Codes.{edgesOf, verticesOf}
 use Rattle.codes_questions.specs.declared.Count.{Count}
 use Rattle.codes_questions.specs.declared.Count.the-variants.{Counted, Refused}
 use Rattle.codes_questions.specs.Answers.{CountsVertices, CountsEdges}
-use Rattle.weights_calls.specs.Calls.{isLargestHalfWeight, halfWeights, computeDoor}
+use Rattle.weights_calls.specs.Calls.{isLargestHalfWeight, halfWeights, computeRefusal}
 use Rattle.columns.specs.Limits.{edgeLimit}
 use Rattle.codes_layers.specs.Accepts.{kindKnown}
 use Rattle.engine_columns.specs.Records.{Engine, engine, counts}
@@ -20,12 +20,12 @@ use Rattle.engine_columns.specs.Open.{GraphColumns, graphColumns}
 use Rattle.engine_tally.specs.Tally.{Lengths, Tally, Fed, tallyOf, tallyAfter}
 use Rattle.engine_walks.specs.Answers.{path, crossing}
 use Rattle.query_questions.specs.Queries as Q
-use Rattle.query_paths.specs.GetPath.{pathDoor, pathNumber}
-use Rattle.claims.specs.Listed.{graphIn, weightsIn}
+use Rattle.query_paths.specs.GetPath.{pathAsked, pathRefusal}
+use Rattle.claims.specs.Listed.{tallyGraph, tallyWeights}
 
 -- the listing's graph: kind 1, d 3, every weight 1000
-abbrev pub listing : GraphColumns
-listing = graphColumns (firsts (edgesOf 1 3 0)) (seconds (edgesOf 1 3 0)) (1000 ∷ 1000 ∷ 1000 ∷ []) (boundaries (verticesOf 1 3 0))
+abbrev pub listingGraph : GraphColumns
+listingGraph = graphColumns (firsts (edgesOf 1 3 0)) (seconds (edgesOf 1 3 0)) (1000 ∷ 1000 ∷ 1000 ∷ []) (boundaries (verticesOf 1 3 0))
 
 -- columns of 4 vertices and 3 edges, and a log with room for 3 entries
 abbrev pub roomy : Lengths
@@ -36,14 +36,14 @@ fed call = record { call = call; lent = roomy }
 
 -- the listing's graph after a list of calls
 abbrev pub listingAfter : List Fed → Tally
-listingAfter fs = tallyAfter fs (tallyOf 4 3 listing)
+listingAfter fs = tallyAfter fs (tallyOf 4 3 listingGraph)
 
 abbrev pub crossingAfter : List Fed → Option ℕ
-crossingAfter fs = crossing (graphIn (listingAfter fs)) (weightsIn (listingAfter fs))
+crossingAfter fs = crossing (tallyGraph (listingAfter fs)) (tallyWeights (listingAfter fs))
 
 -- the listing's graph in the engine's columns
 abbrev pub listingEngine : Engine
-listingEngine = engine (counts 4 3 0) (listing .endsA) (listing .endsB) (listing .weights) (listing .boundary) (0 ∷ 0 ∷ 0 ∷ []) (0 ∷ 0 ∷ 0 ∷ [])
+listingEngine = engine (counts 4 3 0) (listingGraph .endsA) (listingGraph .endsB) (listingGraph .weights) (listingGraph .boundary) (0 ∷ 0 ∷ 0 ∷ []) (0 ∷ 0 ∷ 0 ∷ [])
 
 pub record StarredExamples : Type 0 where
   -- "d 3, kind 5: edges (0,2) (0,3) (1,3) (2,4) (3,4) (3,5) (4,6) (4,7) (5,7); left 2, 6; right 1, 5."
@@ -63,9 +63,9 @@ pub record StarredExamples : Type 0 where
   -- "d 4: 3." For every kind.
   pub d-4 : (kind rounds : ℕ) → kindKnown kind ≡ true → CountsVertices kind 4 rounds (Refused 3)
   -- "The listing's graph: path 3 to 2 is (0,1000) (1,1000) (2,1000), total 3000;"
-  pub path-3-2 : path (graphIn (listingAfter [])) (weightsIn (listingAfter [])) 3 2
+  pub path-3-2 : path (tallyGraph (listingAfter [])) (tallyWeights (listingAfter [])) 3 2
       ≡ some (record { vertices = 0 ∷ 1 ∷ 2 ∷ []; steps = 1000 ∷ 1000 ∷ 1000 ∷ []; total = 3000 })
-  pub path-3-2-asked : pathDoor listingEngine true 3 2 4 4 ≡ 0
+  pub path-3-2-asked : pathAsked listingEngine true 3 2 4 4 ≡ 0
   -- "edge 1 erased, crossing 2000;"
   pub edge-1-erased : crossingAfter (fed (loadErasures (1 ∷ [])) ∷ []) ≡ some 2000
   -- "reset, 3000;"
@@ -75,6 +75,6 @@ pub record StarredExamples : Type 0 where
   -- "Every p 0: half weights 1."
   pub every-p-0 : (max n : ℕ) → isLargestHalfWeight max ≡ true → halfWeights max (replicate n zeroFloat) ≡ replicate n 1
   pub every-p-0-asked : (max n : ℕ) (column : List ℕ) → isLargestHalfWeight max ≡ true → 1 ≤ n → n ≤ edgeLimit → n ≤ length column
-      → computeDoor n (replicate n zeroFloat) column max ≡ 0
+      → computeRefusal n (replicate n zeroFloat) column max ≡ 0
   -- "Path 2 to 2: 16."
-  pub path-2-2 : pathNumber (pathDoor listingEngine true 2 2 4 4) (path (Q.graphIn listingEngine) (Q.weightsIn listingEngine) 2 2) ≡ 16
+  pub path-2-2 : pathRefusal (pathAsked listingEngine true 2 2 4 4) (path (Q.graphIn listingEngine) (Q.weightsIn listingEngine) 2 2) ≡ 16

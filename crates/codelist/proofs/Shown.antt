@@ -11,19 +11,19 @@ use Rattle.columns.specs.Questions.{ask}
 use Rattle.columns.proofs.Columns.{after-accepted, take-over, length-over}
 use Rattle.text_answer.specs.declared.Listed.{Listed}
 use Rattle.text_answer.specs.declared.Listed.the-variants.{Text}
-use Rattle.text_answer.specs.Answer.{answerText, textRoom, textDoor, said, CodeListed}
+use Rattle.text_answer.specs.Answer.{answerText, textRoom, textRefusal, said, CodeListed}
 use Rattle.text_answer.proofs.Cases.{text-case}
 use Rattle.text_answer.proofs.Sizes.{every-text-fits}
 
 module _ (input text₀ text : List ℕ) (r : Listed) (h : textRoom ≤ length text₀) (s : CodeListed input text₀ text r) where
-  open-door : textDoor text₀ ≡ 0
-  open-door = ap (λ (b : Bool). ask b 6 0) (le-leb textRoom (length text₀) h)
+  open-refusal : textRefusal text₀ ≡ 0
+  open-refusal = ap (λ (b : Bool). ask b 6 0) (le-leb textRoom (length text₀) h)
 
   answered : r ≡ Text (length (answerText input))
-  answered = text-case r (s .answer) open-door
+  answered = text-case r (s .answer) open-refusal
 
   written : text ≡ over (answerText input) text₀
-  written = s .written ∙ after-accepted (textDoor text₀) (answerText input) text₀ open-door
+  written = s .written ∙ after-accepted (textRefusal text₀) (answerText input) text₀ open-refusal
 
   pub shown : (n : ℕ) → r ≡ Text n → (n ≤ length text) × (take n text ≡ answerText input)
   shown n e =

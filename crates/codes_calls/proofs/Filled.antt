@@ -13,7 +13,7 @@ use Rattle.codes_layers.specs.Counts.{vertexNum, edgeNum}
 use Rattle.codes_layers.specs.Accepts.{codeRefusal}
 use Rattle.codes_questions.proofs.Clamped.{next-same}
 use Rattle.codes_calls.specs.Columns.{longEnough}
-use Rattle.codes_calls.specs.CreateCode.{refusal}
+use Rattle.codes_calls.specs.CreateCode.{createRefusal}
 
 pub filled : {A : Type 0} (v : A) (x₀ : List A) {x : List A} {n : ℕ} (m : ℕ) → x ≡ sets x₀ 0 (replicate n v) → n ≡ m → m ≤ length x₀ → x ≡ over (replicate m v) x₀
 filled v x₀ m e h l = e ∙ ap (λ (k : ℕ). sets x₀ 0 (replicate k v)) h ∙ sets-over x₀ (replicate m v) (omega (arith, length-replicate m v))
@@ -23,8 +23,8 @@ written f es x₀ e l = e ∙ sets-over x₀ (map f es) (omega (arith, length-ma
 
 -- question 6, asked of counts within the limits
 pub question-6 : (kind d rounds vr er nl d′ rounds′ q met v e : _) → _≡_ {A = ℕ} q (ask met 6 0) → _≡_ {A = Bool} met (longEnough v e vr er nl) → v ≡ vertexNum kind d′ rounds′ → e ≡ edgeNum kind d′ rounds′
-    → (3 ≤ d → d ≤ 4095 → d′ ≡ d) → (rounds ≤ 4095 → rounds′ ≡ rounds) → codeRefusal kind d rounds q ≡ refusal kind d rounds vr er nl
-unfolding refusal
+    → (3 ≤ d → d ≤ 4095 → d′ ≡ d) → (rounds ≤ 4095 → rounds′ ≡ rounds) → codeRefusal kind d rounds q ≡ createRefusal kind d rounds vr er nl
+unfolding createRefusal
 question-6 kind d rounds vr er nl d′ rounds′ q met v e a b c h f g =
     next-same kind d rounds q _ (λ x y z. a ∙ ap (λ (m : Bool). ask m 6 0) (b ∙ λ k. longEnough ((c ∙ ap₂′ x y z) k) ((h ∙ ap₂″ x y z) k) vr er nl))
   where

@@ -26,12 +26,12 @@ use Rattle.codes_calls.specs.declared.Created.{Created}
 use Rattle.codes_calls.specs.declared.Created.the-variants.{Code, Refused}
 use Rattle.codes_calls.specs.Columns.{CodeColumns, shortest, edgeRoom, vertexRoom, longEnough}
 use Rattle.columns_answers.proofs.Said.{accepts-of, refuses-of}
-use Rattle.codes_calls.specs.CreateCode.{refusal, refusalIn, newColumns, CodeCreated}
+use Rattle.codes_calls.specs.CreateCode.{createRefusal, refusalIn, newColumns, CodeCreated}
 use Rattle.codes_calls.specs.Steps.{EdgeColumnsLong, EdgeColumnsFilled, VertexColumnsLong, VertexColumnsFilled}
 
 -- ---- the number, by the columns' lengths
 
-pub told : (kind d rounds q vr er nl vr′ er′ nl′ : ℕ) → q ≡ refusal kind d rounds vr er nl → vr ≡ vr′ → er ≡ er′ → nl ≡ nl′ → q ≡ refusal kind d rounds vr′ er′ nl′
+pub told : (kind d rounds q vr er nl vr′ er′ nl′ : ℕ) → q ≡ createRefusal kind d rounds vr er nl → vr ≡ vr′ → er ≡ er′ → nl ≡ nl′ → q ≡ createRefusal kind d rounds vr′ er′ nl′
 told kind d rounds q vr er nl vr′ er′ nl′ a b c e = cc
 
 -- ---- room, where no question is answered no
@@ -44,7 +44,7 @@ pub record Open (kind d rounds : ℕ) (lent : CodeColumns) : Type 0 where
   pub numbers : 2 * edgeNum kind d rounds ≤ length (lent .neighborNumbers)
 
 pub opened : (kind d rounds : ℕ) (lent : CodeColumns) → refusalIn kind d rounds lent ≡ 0 → Open kind d rounds lent
-unfolding refusal longEnough
+unfolding createRefusal longEnough
 opened kind d rounds lent e =
     let a = accepted kind d rounds _ e in
     let b = ask-zero (longEnough (vertexNum kind d rounds) (edgeNum kind d rounds) (vertexRoom lent) (edgeRoom lent) (length (lent .neighborNumbers))) 6 0 (a .1) (omega arith) in

@@ -39,12 +39,12 @@ use Rattle.codes_calls.specs.declared.Created.the-variants.{Code, Refuse
 use Rattle.codes_calls.specs.Columns.{CodeColumns, edgeRoom, vertexRoom, longEnough}
 use Rattle.columns_answers.specs.Said.{Answered}
 use Rattle.columns_answers.proofs.Said.{refuses-of}
-use Rattle.codes_calls.specs.CreateCode.{said, refusal, refusalIn, newColumns, CodeCreated}
+use Rattle.codes_calls.specs.CreateCode.{said, createRefusal, refusalIn, newColumns, CodeCreated}
 use Rattle.codes_calls.proofs.Outcome.{Open, opened, edges-long}
 use Rattle.codes_weights.specs.declared.Weighed.{Weighed}
 use Rattle.codes_calls.specs.Probabilities.{positionOf, probabilities, diagonalOf}
 use Rattle.codes_calls.specs.NewCode.{newRefusal, newRefusalIn, weightedColumns, HandedBack, Weighted}
-use Rattle.codes_weights.specs.Steps.{diagonalP, largestOf, weighedOf, doorNumber, diagonalAt, WeighRoom, EdgesWeighed}
+use Rattle.codes_weights.specs.Steps.{diagonalP, largestOf, weighedOf, weightsRefusal, diagonalAt, WeighRoom, EdgesWeighed}
 use Rattle.codes_calls.specs.WeightedSteps.{DiagonalKind}
 use Rattle.codes_calls.proofs.Diagonals.{diagonalEdge}
 use Rattle.codes_calls.proofs.Largest.{by-test, largest-is}
@@ -67,9 +67,9 @@ unfolding codeRefusal
 later kind d rounds six x y f = chain (kindKnown kind) (distanceSound d) (roundsSound kind rounds) (leb (vertexNum kind d rounds) vertexLimit) six x y f
 
 pub number-is : (kind d rounds : ℕ) (p : Float) (diagonal : DiagonalProbability) (max vr er nl q : ℕ) (l : Float) → DiagonalKind kind diagonal → l ≡ largestOf rounds p diagonal
-    → q ≡ doorNumber (refusal kind d rounds vr er nl) (isLargestHalfWeight max) (isProbability p && isDiagonalProbability diagonal) (lt zeroFloat l)
+    → q ≡ weightsRefusal (createRefusal kind d rounds vr er nl) (isLargestHalfWeight max) (isProbability p && isDiagonalProbability diagonal) (lt zeroFloat l)
     → q ≡ newRefusal kind d rounds p diagonal max vr er nl
-unfolding doorNumber refusal newRefusal
+unfolding weightsRefusal createRefusal newRefusal
 number-is kind d rounds p diagonal max vr er nl q l k e f =
     f ∙ later kind d rounds (longEnough (vertexNum kind d rounds) (edgeNum kind d rounds) vr er nl) _ _ (λ z.
     let ok = accepted kind d rounds _ z .0 in
@@ -83,13 +83,13 @@ pub told : (kind d rounds : ℕ) (p : Float) (diagonal : DiagonalProbability) (m
 told kind d rounds p diagonal max q vr er nl vr′ er′ nl′ a b c e = a ∙ λ i. newRefusal kind d rounds p diagonal max (b i) (c i) (e i)
 
 -- no question refuses: none of 2 to 6 does
-door-zero : (q : ℕ) (e n t : Bool) → doorNumber q e n t ≡ 0 → q ≡ 0
-unfolding doorNumber
-door-zero zero e n t z = refl
-door-zero (suc q) e n t z = let y : suc q ≡ 0 = sym (ap (λ (b : Bool). cond b (ask e 8 (ask n 9 (ask t 10 0))) (suc q)) (ne-eqb (suc q) 0 (λ w. omega arith))) ∙ z in absurd (omega arith)
+refusal-zero : (q : ℕ) (e n t : Bool) → weightsRefusal q e n t ≡ 0 → q ≡ 0
+unfolding weightsRefusal
+refusal-zero zero e n t z = refl
+refusal-zero (suc q) e n t z = let y : suc q ≡ 0 = sym (ap (λ (b : Bool). cond b (ask e 8 (ask n 9 (ask t 10 0))) (suc q)) (ne-eqb (suc q) 0 (λ w. omega arith))) ∙ z in absurd (omega arith)
 
-pub created-too : (kind d rounds vr er nl vr′ er′ nl′ q : ℕ) (e n t : Bool) → q ≡ doorNumber (refusal kind d rounds vr er nl) e n t → q ≡ 0 → vr ≡ vr′ → er ≡ er′ → nl ≡ nl′ → refusal kind d rounds vr′ er′ nl′ ≡ 0
-created-too kind d rounds vr er nl vr′ er′ nl′ q e n t f z a b c = sym (λ i. refusal kind d rounds (a i) (b i) (c i)) ∙ door-zero (refusal kind d rounds vr er nl) e n t (sym f ∙ z)
+pub created-too : (kind d rounds vr er nl vr′ er′ nl′ q : ℕ) (e n t : Bool) → q ≡ weightsRefusal (createRefusal kind d rounds vr er nl) e n t → q ≡ 0 → vr ≡ vr′ → er ≡ er′ → nl ≡ nl′ → createRefusal kind d rounds vr′ er′ nl′ ≡ 0
+created-too kind d rounds vr er nl vr′ er′ nl′ q e n t f z a b c = sym (λ i. createRefusal kind d rounds (a i) (b i) (c i)) ∙ refusal-zero (createRefusal kind d rounds vr er nl) e n t (sym f ∙ z)
 
 -- ---- refused
 

@@ -22,12 +22,12 @@ said (Code vertices edges) = accepts (vertices, edges)
 said (Refused number) = refuses number (0, 0)
 
 -- questions 2 to 6 in order: the number of the first that is answered no, 0 if there is none
-unfoldable pub refusal : (kind d rounds vertexRoom edgeRoom numbers : ℕ) → ℕ
-refusal kind d rounds vertexRoom edgeRoom numbers =
+unfoldable pub createRefusal : (kind d rounds vertexRoom edgeRoom numbers : ℕ) → ℕ
+createRefusal kind d rounds vertexRoom edgeRoom numbers =
     codeRefusal kind d rounds (ask (longEnough (vertexNum kind d rounds) (edgeNum kind d rounds) vertexRoom edgeRoom numbers) 6 0)
 
 abbrev pub refusalIn : (kind d rounds : ℕ) → CodeColumns → ℕ
-refusalIn kind d rounds c = refusal kind d rounds (vertexRoom c) (edgeRoom c) (length (c .neighborNumbers))
+refusalIn kind d rounds c = createRefusal kind d rounds (vertexRoom c) (edgeRoom c) (length (c .neighborNumbers))
 
 -- the columns of a new code: p, pe, half weight and erasure 0, no defect, neighbour lists in vertex order
 abbrev pub newColumns : (kind d rounds : ℕ) → CodeColumns

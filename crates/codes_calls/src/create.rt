@@ -5,7 +5,7 @@ ghost use lib.ListN.{length};
 ghost use Rattle.codes_layers.specs.Counts.{vertexNum, edgeNum};
 ghost use Rattle.codes_layers.specs.Accepts.{Buildable};
 ghost use Rattle.codes_calls.specs.Columns.{CodeColumns, shortest};
-ghost use Rattle.codes_calls.specs.CreateCode.{refusal, CreateCode};
+ghost use Rattle.codes_calls.specs.CreateCode.{createRefusal, CreateCode};
 ghost use Rattle.codes_calls.specs.Steps.{EdgeColumnsLong, EdgeColumnsFilled, VertexColumnsLong, VertexColumnsFilled};
 use super::Created;
 use codes_questions::code_refusal;
@@ -34,7 +34,7 @@ pub fn refusal_of(
     edge_room: usize,
     numbers: usize,
 ) -> u32
-    ensures { λ r. ⌜ r ≡ refusal kind d rounds «vertex_room» «edge_room» numbers ⌝ }
+    ensures { λ r. ⌜ r ≡ createRefusal kind d rounds «vertex_room» «edge_room» numbers ⌝ }
 {
     let distance = distance_within(d);
     let within = rounds_within(rounds);

@@ -3,8 +3,8 @@ use super::Created;
 use super::create::create_code;
 use super::create::refusal_of;
 use super::create::shortest_of;
-use codes_weights::door::largest_weight;
-use codes_weights::door::weights_refusal;
+use codes_weights::questions::largest_weight;
+use codes_weights::questions::weights_refusal;
 use codes_weights::weigh::diagonal_p;
 use codes_weights::weigh::weigh_edges;
 use codes_weights::weigh::weighed;
@@ -21,8 +21,8 @@ ghost use Rattle.weights_calls.specs.Calls.{isLargestHalfWeight};
 ghost use Rattle.codes_layers.specs.Counts.{edgeNum};
 ghost use Rattle.codes_layers.specs.Accepts.{Buildable};
 ghost use Rattle.codes_calls.specs.Columns.{CodeColumns};
-ghost use Rattle.codes_calls.specs.CreateCode.{refusal};
-ghost use Rattle.codes_weights.specs.Steps.{doorNumber};
+ghost use Rattle.codes_calls.specs.CreateCode.{createRefusal};
+ghost use Rattle.codes_weights.specs.Steps.{weightsRefusal};
 ghost use Rattle.codes_calls.specs.Probabilities.{diagonalOf};
 ghost use Rattle.codes_calls.specs.NewCode.{WeightedCode, NewCode, NewDiagonal};
 ghost use Rattle.codes_calls.specs.WeightedSteps.{DiagonalKind};
@@ -59,7 +59,7 @@ fn new_refusal(
     edge_room: usize,
     numbers: usize,
 ) -> u32
-    ensures { λ r. ⌜ r ≡ doorNumber (refusal kind d rounds «vertex_room» «edge_room» numbers) (isLargestHalfWeight «max_half_weight») (isProbability p && isDiagonalProbability diagonal) (lt zeroFloat largest) ⌝ }
+    ensures { λ r. ⌜ r ≡ weightsRefusal (createRefusal kind d rounds «vertex_room» «edge_room» numbers) (isLargestHalfWeight «max_half_weight») (isProbability p && isDiagonalProbability diagonal) (lt zeroFloat largest) ⌝ }
 {
     let q = refusal_of(kind, d, rounds, vertex_room, edge_room, numbers);
     weights_refusal(q, p, diagonal, max_half_weight, largest)

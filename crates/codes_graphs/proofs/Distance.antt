@@ -9,7 +9,7 @@ use native.Mathlib.Omega.{arith}
 use lib.ListN.{length, getD, length-map, length-append}
 use Rattle.columns.specs.Lists.{each}
 use Rattle.columns.proofs.Counting.{length-each}
-use Rattle.engine_walks.specs.Graph.{Graph, edges, endA, endB, boundaryAt, InRange, Left, Right, Joins, Walk, stay, step, CrossingSet}
+use Rattle.engine_walks.specs.Graph.{Graph, edges, endA, endB, boundaryAt, GraphInRange, Left, Right, Joins, Walk, stay, step, CrossingSet}
 use Rattle.engine_walks.specs.Lists.{sum}
 use Rattle.engine_walks.specs.Claims.{Potential}
 use Rattle.engine_walks.proofs.LeastWeights.{snoc}
@@ -24,7 +24,7 @@ use Rattle.codes_layers.specs.Codes.{edgesOf, verticesOf, layerSize, rows, widt
 use Rattle.codes_layers.specs.Counts.{vertexNum, edgeNum}
 use Rattle.codes_layers.proofs.Counted.{edges-counted, row-count}
 use Rattle.codes_layers.proofs.Accepted.{Accepted, accepted}
-use Rattle.codes_graphs.specs.Graphs.{codeGraph, height}
+use Rattle.codes_graphs.specs.Graphs.{builtGraph, height}
 use Rattle.codes_graphs.specs.Claims.{HasDistance, CodesHaveDistance}
 use Rattle.codes_graphs.proofs.Parts.{starts-at}
 use Rattle.codes_graphs.proofs.AllEdges.{EdgeFacts, edge-facts, vertices-are}
@@ -34,25 +34,25 @@ use Rattle.codes_graphs.proofs.Straight.{row-first, turned-first, along
 
 module _ (kind d rounds : ℕ) (ok : Accepted kind d rounds) where
   abbrev g : Graph
-  g = codeGraph kind d rounds
+  g = builtGraph kind d rounds
 
   f : EdgeFacts (height kind d) (vertexNum kind d rounds) (edgesOf kind d rounds)
   f = edge-facts kind d rounds ok
 
   many : edges g ≡ length (edgesOf kind d rounds)
-  unfolding codeGraph
+  unfolding builtGraph
   many = length-map (edgesOf kind d rounds) (λ (e : Ends). e .0)
 
   a-is : (k : ℕ) → endA g k ≡ getD (edgesOf kind d rounds) k (0, 0) .0
-  unfolding codeGraph
+  unfolding builtGraph
   a-is k = first-is kind d rounds ok k
 
   b-is : (k : ℕ) → endB g k ≡ getD (edgesOf kind d rounds) k (0, 0) .1
-  unfolding codeGraph
+  unfolding builtGraph
   b-is k = second-is kind d rounds ok k
 
-  in-range : InRange g
-  unfolding codeGraph
+  in-range : GraphInRange g
+  unfolding builtGraph
   in-range = record {
     a-in = λ k h. omega (arith, a-is k, f .rising k (omega (arith, many)), f .within k (omega (arith, many)));
     b-in = λ k h. omega (arith, b-is k, f .within k (omega (arith, many)));
@@ -60,7 +60,7 @@ module _ (kind d rounds : ℕ) (ok : Accepted kind d rounds) where
   }
 
   heights : Potential g (λ e. 1) d (height kind d)
-  unfolding codeGraph
+  unfolding builtGraph
   heights = record {
     left = λ v h e. byte-at kind d rounds ok v h .left e;
     right = λ v h e. omega (arith, byte-at kind d rounds ok v h .right e);
@@ -101,7 +101,7 @@ module _ (kind d rounds : ℕ) (ok : Accepted kind d rounds) where
     walk-to (suc k) h = let z = step-at k (omega arith) in snoc (walk-to k (omega arith)) (row-edge k (omega arith) .1) (inl (z .0, z .1 ∙ omega arith))
 
     row-byte : (j : ℕ) → j < d + 1 → boundaryAt g j ≡ planarBoundary d j
-    unfolding codeGraph rows width
+    unfolding builtGraph rows width
     row-byte j h =
         let w : width kind d ≡ d + 1 = simp (le-leb _ _ low) in
         ap (λ (k : ℕ). boundaryAt g k) (omega (arith, zero-mul (layerSize kind d), zero-mul (width kind d)))
@@ -156,7 +156,7 @@ module _ (kind d rounds : ℕ) (ok : Accepted kind d rounds) where
         ])
 
     turn-byte : (row i : ℕ) → row < 2 → i < w → boundaryAt g (row * w + i) ≡ rotatedBoundary w row i
-    unfolding codeGraph rows width
+    unfolding builtGraph rows width
     turn-byte row i hr hi =
         let v : width kind d ≡ w = simp (lt-leb _ _ high) in
         let r : rows kind d ≡ d + 1 = simp (ne-eqb kind 1 (λ q. omega arith), lt-leb _ _ high) in

@@ -16,7 +16,7 @@ use Rattle.codes_writers.specs.Edges.{firsts, seconds, boundaries}
 use Rattle.codes_layers.specs.Codes.{edgesOf, verticesOf}
 use Rattle.codes_layers.specs.Counts.{vertexNum, edgeNum}
 use Rattle.codes_layers.specs.Accepts.{Buildable}
-use Rattle.codes_graphs.specs.Graphs.{codeGraph, height}
+use Rattle.codes_graphs.specs.Graphs.{builtGraph, height}
 
 -- the neighbour list of a vertex of a built code
 abbrev pub listOf : (kind d rounds v : ℕ) → List ℕ
@@ -44,11 +44,11 @@ CodesAreSound = (kind d rounds : ℕ) → Buildable kind d rounds → BuiltCode 
 
 -- with every weight 1: grounds for the distance, the crossing weight, and that no crossing set has fewer than d edges
 pub record HasDistance (kind d rounds : ℕ) : Type 0 where
-  pub potential : Potential (codeGraph kind d rounds) (λ e. 1) d (height kind d)
-  pub straight : (x : ℕ) × (y : ℕ) × (s : List ℕ) × Left (codeGraph kind d rounds) x × Right (codeGraph kind d rounds) y × Walk (codeGraph kind d rounds) x s y × (length s ≡ d)
-  pub is-crossing : IsCrossing (codeGraph kind d rounds) (λ e. 1) d
-  pub crossing-weight : crossing (codeGraph kind d rounds) (λ e. 1) ≡ some d
-  pub fewest : (s : List ℕ) → CrossingSet (codeGraph kind d rounds) s → d ≤ length s
+  pub potential : Potential (builtGraph kind d rounds) (λ e. 1) d (height kind d)
+  pub straight : (x : ℕ) × (y : ℕ) × (s : List ℕ) × Left (builtGraph kind d rounds) x × Right (builtGraph kind d rounds) y × Walk (builtGraph kind d rounds) x s y × (length s ≡ d)
+  pub is-crossing : IsCrossing (builtGraph kind d rounds) (λ e. 1) d
+  pub crossing-weight : crossing (builtGraph kind d rounds) (λ e. 1) ≡ some d
+  pub fewest : (s : List ℕ) → CrossingSet (builtGraph kind d rounds) s → d ≤ length s
 
 abbrev pub CodesHaveDistance : Type 0
 CodesHaveDistance = (kind d rounds : ℕ) → Buildable kind d rounds → HasDistance kind d rounds

@@ -8,8 +8,8 @@ use Rattle.codes_layers.specs.Codes.{edgesOf, verticesOf}
 use Rattle.codes_layers.specs.Counts.{vertexNum}
 
 -- the columns that a builder writes
-unfoldable pub codeGraph : (kind d rounds : ℕ) → Graph
-codeGraph kind d rounds = record {
+unfoldable pub builtGraph : (kind d rounds : ℕ) → Graph
+builtGraph kind d rounds = record {
   vertices = vertexNum kind d rounds;
   endsA = firsts (edgesOf kind d rounds);
   endsB = seconds (edgesOf kind d rounds);

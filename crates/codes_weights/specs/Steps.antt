@@ -31,8 +31,8 @@ abbrev pub weighedOf : (p : Float) (max : ℕ) (largest : Float) → Weighed
 weighedOf p max largest = record { p = p; half = halfWeight max (edgeWeight p) largest }
 
 -- the number of questions 2 to 6, or where it is 0 that of 8 to 10
-unfoldable pub doorNumber : (q : ℕ) (eight nine ten : Bool) → ℕ
-doorNumber q eight nine ten = cond (eqb q 0) (ask eight 8 (ask nine 9 (ask ten 10 0))) q
+unfoldable pub weightsRefusal : (q : ℕ) (eight nine ten : Bool) → ℕ
+weightsRefusal q eight nine ten = cond (eqb q 0) (ask eight 8 (ask nine 9 (ask ten 10 0))) q
 
 -- whether edge k of two columns of ends is diagonal, by three columns of positions
 unfoldable pub diagonalAt : (a b : List ℕ) (i j t : List Float) (k : ℕ) → Bool

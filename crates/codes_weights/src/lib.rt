@@ -1,5 +1,5 @@
 // The weights of a new code: the largest, questions 8 to 10, and what each edge gets.
-pub mod door;
+pub mod questions;
 pub mod weigh;
 
 use columns::Weight;

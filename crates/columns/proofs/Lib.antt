@@ -1,7 +1,7 @@
 -- Laws that the proofs of this crate and of later crates cite.
 -- Counting: each, joined, layered. Columns: runs of stores, a column afterwards. Tests: a test of every element.
--- Doors: what an accepted question says, and columns by a map.
+-- Refusals: what an accepted question says, and columns by a map.
 pub mod Counting
 pub mod Columns
 pub mod Tests
-pub mod Doors
+pub mod Refusals

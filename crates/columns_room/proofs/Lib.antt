@@ -1,2 +1,2 @@
--- Doors: what a question that is met says.
-pub mod Doors
+-- Refusals: what a question that is met says.
+pub mod Refusals

@@ -11,10 +11,10 @@ use engine_columns::EngineCounts;
 use engine_log::erase_all;
 use engine_log::undo_all;
 use engine_log::weigh_all;
-use engine_questions::erasures_door;
-use engine_questions::open_door;
-use engine_questions::reset_door;
-use engine_questions::weights_door;
+use engine_questions::load_erasures_refusal;
+use engine_questions::load_weights_refusal;
+use engine_questions::open_refusal;
+use engine_questions::reset_refusal;
 
 // Sets each named edge to weight 0, in list order. It needs an empty log, and keeps the earlier weights there.
 pub fn load_erasures(
@@ -32,7 +32,7 @@ pub fn load_erasures(
         r
         (engine (kept c r) (now («ends_a» .entry)) (now («ends_b» .entry)) (now (weights .exit)) (now (boundary .entry)) (now («log_edges» .exit)) (now («log_weights» .exit))) ⌝ }
 {
-    let no = erasures_door(
+    let no = load_erasures_refusal(
         c,
         ends_a,
         ends_b,
@@ -70,7 +70,7 @@ pub fn load_dynamic_weights(
         r
         (engine (kept c r) (now («ends_a» .entry)) (now («ends_b» .entry)) (now (weights .exit)) (now (boundary .entry)) (now («log_edges» .exit)) (now («log_weights» .exit))) ⌝ }
 {
-    let no = weights_door(
+    let no = load_weights_refusal(
         c,
         ends_a,
         ends_b,
@@ -107,7 +107,7 @@ pub fn reset(
         r
         (engine (kept c r) (now («ends_a» .entry)) (now («ends_b» .entry)) (now (weights .exit)) (now (boundary .entry)) (now («log_edges» .entry)) (now («log_weights» .entry))) ⌝ }
 {
-    let no = reset_door(c, ends_a, ends_b, weights, boundary, log_edges, log_weights);
+    let no = reset_refusal(c, ends_a, ends_b, weights, boundary, log_edges, log_weights);
     if no == 0 {
         undo_all(weights, log_edges, log_weights, c.entries);
         return EngineAnswer::Counts(EngineCounts {
@@ -138,7 +138,7 @@ pub fn open(
         r
         (graphColumns (now («ends_a» .exit)) (now («ends_b» .exit)) (now (weights .exit)) (now (boundary .exit))) ⌝ }
 {
-    let no = open_door(
+    let no = open_refusal(
         vertices,
         edges,
         in_a,

@@ -1,2 +1,2 @@
--- Doors: what an accepted call says of its columns, and steps from their parts.
-pub mod Doors
+-- Refusals: what an accepted call says of its columns, and steps from their parts.
+pub mod Refusals

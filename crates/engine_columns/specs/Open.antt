@@ -9,7 +9,7 @@ use Rattle.columns.specs.Questions.{ask}
 use Rattle.columns_answers.specs.Said.{Answered}
 use Rattle.engine_columns.specs.declared.EngineAnswer.{EngineAnswer}
 use Rattle.engine_columns.specs.Records.{counts, noCounts, said}
-use Rattle.engine_columns.specs.Door.{columnsLong, columnsSound}
+use Rattle.engine_columns.specs.Questions.{columnsLong, columnsSound}
 
 -- the columns of a graph without its log
 pub record GraphColumns : Type 0 where
@@ -22,15 +22,15 @@ abbrev pub graphColumns : List ℕ → List ℕ → List ℕ → List ℕ → Gr
 graphColumns a b w m = record { endsA = a; endsB = b; weights = w; boundary = m }
 
 -- the first question that is not met: 6 of what is handed over and of the columns lent, 7 of what is handed over
-abbrev pub openDoor : (v e : ℕ) → GraphColumns → GraphColumns → ℕ
-openDoor v e handed lent =
+abbrev pub openRefusal : (v e : ℕ) → GraphColumns → GraphColumns → ℕ
+openRefusal v e handed lent =
     ask (columnsLong v e (handed .endsA) (handed .endsB) (handed .weights) (handed .boundary) && columnsLong v e (lent .endsA) (lent .endsB) (lent .weights) (lent .boundary)) 6
     (ask (columnsSound v e (handed .endsA) (handed .endsB) (handed .weights) (handed .boundary)) 7 0)
 
 -- the answer, and every column: an accepted open copies, and the log is empty
 pub record OpenStep (v e : ℕ) (handed lent : GraphColumns) (r : EngineAnswer) (opened : GraphColumns) : Type 0 where
-  pub answer : Answered (said r) (openDoor v e handed lent) (counts v e 0) noCounts
-  pub endsA-left : opened .endsA ≡ after (openDoor v e handed lent) (take e (handed .endsA)) (lent .endsA)
-  pub endsB-left : opened .endsB ≡ after (openDoor v e handed lent) (take e (handed .endsB)) (lent .endsB)
-  pub weights-left : opened .weights ≡ after (openDoor v e handed lent) (take e (handed .weights)) (lent .weights)
-  pub boundary-left : opened .boundary ≡ after (openDoor v e handed lent) (take v (handed .boundary)) (lent .boundary)
+  pub answer : Answered (said r) (openRefusal v e handed lent) (counts v e 0) noCounts
+  pub endsA-after : opened .endsA ≡ after (openRefusal v e handed lent) (take e (handed .endsA)) (lent .endsA)
+  pub endsB-after : opened .endsB ≡ after (openRefusal v e handed lent) (take e (handed .endsB)) (lent .endsB)
+  pub weights-after : opened .weights ≡ after (openRefusal v e handed lent) (take e (handed .weights)) (lent .weights)
+  pub boundary-after : opened .boundary ≡ after (openRefusal v e handed lent) (take v (handed .boundary)) (lent .boundary)

@@ -11,7 +11,7 @@ use Rattle.columns_answers.specs.Said.{Answered}
 use Rattle.engine_columns.specs.declared.EngineAnswer.{EngineAnswer}
 use Rattle.engine_columns.specs.Records.{Engine, engine, counts, noCounts, said}
 use Rattle.engine_log.specs.Load.{loaded, earlier, named, undone, erased, given}
-use Rattle.engine_columns.specs.Door.{longEnough, sound}
+use Rattle.engine_columns.specs.Questions.{engineLong, engineSound}
 
 -- a load or a reset, with its arguments
 pub data Call : Type 0 where
@@ -20,20 +20,20 @@ pub data Call : Type 0 where
   reset : Call
 
 -- the number of the first question that is not met, or 0
-abbrev pub door : Call → Engine → ℕ
-door (loadErasures es) e =
-    ask (longEnough (length es) e) 6
-    (ask (sound e) 7
+abbrev pub engineRefusal : Call → Engine → ℕ
+engineRefusal (loadErasures es) e =
+    ask (engineLong (length es) e) 6
+    (ask (engineSound e) 7
     (ask (eqb (e .counts .entries) 0) 12
     (ask (allBelow (e .counts .edges) es) 13 0)))
-door (loadWeights es xs) e =
+engineRefusal (loadWeights es xs) e =
     ask (eqb (length es) (length xs)) 6
-    (ask (longEnough (length es) e) 6
-    (ask (sound e) 7
+    (ask (engineLong (length es) e) 6
+    (ask (engineSound e) 7
     (ask (eqb (e .counts .entries) 0) 12
     (ask (allBelow (e .counts .edges) es) 13
     (ask (allWithin weightLimit xs) 15 0)))))
-door reset e = ask (longEnough 0 e) 6 (ask (sound e) 7 0)
+engineRefusal reset e = ask (engineLong 0 e) 6 (ask (engineSound e) 7 0)
 
 -- the columns after an accepted load
 abbrev pub loadedBy : List ℕ → (ℕ → ℕ) → Engine → Engine
@@ -52,5 +52,5 @@ changed reset e =
 
 -- the answer, and every column left, refusals included
 pub record Step (call : Call) (before : Engine) (r : EngineAnswer) (after : Engine) : Type 0 where
-  pub answer : Answered (said r) (door call before) (changed call before .counts) noCounts
-  pub left : after ≡ cond (eqb (door call before) 0) (changed call before) before
+  pub answer : Answered (said r) (engineRefusal call before) (changed call before .counts) noCounts
+  pub left : after ≡ cond (eqb (engineRefusal call before) 0) (changed call before) before

@@ -1,15 +1,15 @@
 // The engine graph over lent columns, and questions 6 and 7 of it.
 ghost use mathlib.Core.Path.{_≡_};
 ghost use Rattle.engine_columns.specs.Records.{engine};
-ghost use Rattle.engine_columns.specs.Door.{columnsLong, longEnough, columnsSound, sound};
+ghost use Rattle.engine_columns.specs.Questions.{columnsLong, engineLong, columnsSound, engineSound};
 use columns::Weight;
 use columns::questions::at_most;
 use columns::questions::both;
 use columns::questions::boundaries_sound;
 use columns::questions::has_room;
 use columns::questions::weights_sound;
-use columns_neighbors::sound::graph_sound;
-use columns_neighbors::sound::log_sound;
+use columns_neighbors::engineSound::graph_sound;
+use columns_neighbors::engineSound::log_sound;
 
 // How many vertices, edges and log entries the engine's columns hold. A log may hold more entries than there are edges.
 pub struct EngineCounts {
@@ -54,7 +54,7 @@ pub fn long_enough(
     log_weights: &[Weight],
     n: usize,
 ) -> bool
-    ensures { λ r. ⌜ r ≡ longEnough n (engine c (now («ends_a» .entry)) (now («ends_b» .entry)) (now (weights .entry)) (now (boundary .entry)) (now («log_edges» .entry)) (now («log_weights» .entry))) ⌝ }
+    ensures { λ r. ⌜ r ≡ engineLong n (engine c (now («ends_a» .entry)) (now («ends_b» .entry)) (now (weights .entry)) (now (boundary .entry)) (now («log_edges» .entry)) (now («log_weights» .entry))) ⌝ }
 {
     let long = columns_long(c.vertices, c.edges, ends_a, ends_b, weights, boundary);
     let e = has_room(c.entries, n, log_edges.len());
@@ -89,7 +89,7 @@ pub fn engine_sound(
     log_edges: &[u32],
     log_weights: &[Weight],
 ) -> bool
-    ensures { λ r. ⌜ r ≡ sound (engine c (now («ends_a» .entry)) (now («ends_b» .entry)) (now (weights .entry)) (now (boundary .entry)) (now («log_edges» .entry)) (now («log_weights» .entry))) ⌝ }
+    ensures { λ r. ⌜ r ≡ engineSound (engine c (now («ends_a» .entry)) (now («ends_b» .entry)) (now (weights .entry)) (now (boundary .entry)) (now («log_edges» .entry)) (now («log_weights» .entry))) ⌝ }
 {
     let graph = columns_sound(c.vertices, c.edges, ends_a, ends_b, weights, boundary);
     let log = log_sound(c.edges, c.entries, log_edges, log_weights);

@@ -1,8 +1,8 @@
 // The questions of open, the loads and reset.
 ghost use mathlib.Core.Path.{_≡_};
 ghost use Rattle.engine_columns.specs.Records.{engine};
-ghost use Rattle.engine_columns.specs.Step.{door, loadErasures, loadWeights, reset};
-ghost use Rattle.engine_columns.specs.Open.{openDoor, graphColumns};
+ghost use Rattle.engine_columns.specs.Step.{engineRefusal, loadErasures, loadWeights, reset};
+ghost use Rattle.engine_columns.specs.Open.{openRefusal, graphColumns};
 use columns::Weight;
 use columns::questions::asked;
 use columns::questions::both;
@@ -16,7 +16,7 @@ use engine_columns::engine_sound;
 use engine_columns::long_enough;
 
 // The first question of load_erasures that is not met, or 0.
-pub fn erasures_door(
+pub fn load_erasures_refusal(
     c: EngineCounts,
     ends_a: &[u32],
     ends_b: &[u32],
@@ -26,7 +26,7 @@ pub fn erasures_door(
     log_weights: &[Weight],
     list: &[u32],
 ) -> u32
-    ensures { λ r. ⌜ r ≡ door (loadErasures (now (list .entry))) (engine c (now («ends_a» .entry)) (now («ends_b» .entry)) (now (weights .entry)) (now (boundary .entry)) (now («log_edges» .entry)) (now («log_weights» .entry))) ⌝ }
+    ensures { λ r. ⌜ r ≡ engineRefusal (loadErasures (now (list .entry))) (engine c (now («ends_a» .entry)) (now («ends_b» .entry)) (now (weights .entry)) (now (boundary .entry)) (now («log_edges» .entry)) (now («log_weights» .entry))) ⌝ }
 {
     let long = long_enough(
         c,
@@ -49,7 +49,7 @@ pub fn erasures_door(
 }
 
 // The first question of load_dynamic_weights that is not met, or 0.
-pub fn weights_door(
+pub fn load_weights_refusal(
     c: EngineCounts,
     ends_a: &[u32],
     ends_b: &[u32],
@@ -60,7 +60,7 @@ pub fn weights_door(
     list: &[u32],
     values: &[Weight],
 ) -> u32
-    ensures { λ r. ⌜ r ≡ door (loadWeights (now (list .entry)) (now (values .entry))) (engine c (now («ends_a» .entry)) (now («ends_b» .entry)) (now (weights .entry)) (now (boundary .entry)) (now («log_edges» .entry)) (now («log_weights» .entry))) ⌝ }
+    ensures { λ r. ⌜ r ≡ engineRefusal (loadWeights (now (list .entry)) (now (values .entry))) (engine c (now («ends_a» .entry)) (now («ends_b» .entry)) (now (weights .entry)) (now (boundary .entry)) (now («log_edges» .entry)) (now («log_weights» .entry))) ⌝ }
 {
     let many = equal(list.len(), values.len());
     let long = long_enough(
@@ -93,7 +93,7 @@ pub fn weights_door(
 }
 
 // The first question of reset that is not met, or 0.
-pub fn reset_door(
+pub fn reset_refusal(
     c: EngineCounts,
     ends_a: &[u32],
     ends_b: &[u32],
@@ -102,7 +102,7 @@ pub fn reset_door(
     log_edges: &[u32],
     log_weights: &[Weight],
 ) -> u32
-    ensures { λ r. ⌜ r ≡ door reset (engine c (now («ends_a» .entry)) (now («ends_b» .entry)) (now (weights .entry)) (now (boundary .entry)) (now («log_edges» .entry)) (now («log_weights» .entry))) ⌝ }
+    ensures { λ r. ⌜ r ≡ engineRefusal reset (engine c (now («ends_a» .entry)) (now («ends_b» .entry)) (now (weights .entry)) (now (boundary .entry)) (now («log_edges» .entry)) (now («log_weights» .entry))) ⌝ }
 {
     let long = long_enough(
         c,
@@ -119,7 +119,7 @@ pub fn reset_door(
 }
 
 // The first question of open that is not met, or 0.
-pub fn open_door(
+pub fn open_refusal(
     vertices: u32,
     edges: u32,
     in_a: &[u32],
@@ -131,7 +131,7 @@ pub fn open_door(
     weights: &[Weight],
     boundary: &[u8],
 ) -> u32
-    ensures { λ r. ⌜ r ≡ openDoor vertices edges
+    ensures { λ r. ⌜ r ≡ openRefusal vertices edges
         (graphColumns (now («in_a» .entry)) (now («in_b» .entry)) (now («in_weights» .entry)) (now («in_boundary» .entry)))
         (graphColumns (now («ends_a» .entry)) (now («ends_b» .entry)) (now (weights .entry)) (now (boundary .entry))) ⌝ }
 {

@@ -19,12 +19,12 @@ use Rattle.engine_columns.specs.declared.EngineCounts.{EngineCounts}
 use Rattle.engine_columns.specs.declared.EngineAnswer.{EngineAnswer}
 use Rattle.engine_columns.specs.Records.{Engine, engine, counts, said}
 use Rattle.engine_log.specs.Load.{loaded, earlier, named, undone, erased, given}
-use Rattle.engine_columns.specs.Door.{columnsLong, longEnough, columnsSound, sound}
-use Rattle.engine_columns.specs.Step.{Call, loadErasures, loadWeights, reset, door, changed, loadedBy, Step}
-use Rattle.engine_columns.specs.Open.{GraphColumns, graphColumns, openDoor, OpenStep}
-use Rattle.engine_tally.specs.Tally.{Lengths, lengthsOf, Tally, tallyOf, tallyLong, tallyDoor, withWeights, tallied, Fed, accepts, tallyStep, tallyAfter, tallyNumbers}
+use Rattle.engine_columns.specs.Questions.{columnsLong, engineLong, columnsSound, engineSound}
+use Rattle.engine_columns.specs.Step.{Call, loadErasures, loadWeights, reset, engineRefusal, changed, loadedBy, Step}
+use Rattle.engine_columns.specs.Open.{GraphColumns, graphColumns, openRefusal, OpenStep}
+use Rattle.engine_tally.specs.Tally.{Lengths, lengthsOf, Tally, tallyOf, tallyLong, tallyRefusal, withWeights, tallied, Fed, isAccepted, tallyStep, tallyAfter, tallyNumbers}
 use Rattle.engine_log.proofs.Loads.{loaded-length, named-length, earlier-length, undone-length, undo-load, take-loaded, within-loaded, named-at, earlier-at}
-use Rattle.engine_columns.proofs.Doors.{ColumnsLong, Long, ColumnsSound, Sound, Opens, opens-of, long-of, long-from, sound-of, sound-from, Loads, loads-of, named-of, Weighed, weighed-of}
+use Rattle.engine_columns.proofs.Refusals.{ColumnsLong, Long, ColumnsSound, Sound, Opens, opens-of, long-of, long-from, sound-of, sound-from, Loads, loads-of, named-of, Weighed, weighed-of}
 
 -- what holds of the columns after every list of calls
 pub record Agrees (t : Tally) (e : Engine) : Type 0 where
@@ -37,17 +37,17 @@ pub record Agrees (t : Tally) (e : Engine) : Type 0 where
   pub back : take (t .counts .edges) (undone (e .logEdges) (e .logWeights) (e .counts .entries) (e .weights)) ≡ t .opening
   pub opening-sound : allWithin weightLimit (t .opening) ≡ true
   pub long : Long 0 e
-  pub sound : Sound e
+  pub engineSound : Sound e
 
-pub long-same : (n : ℕ) (e : Engine) (c : EngineCounts) → e .counts ≡ c → longEnough n e ≡ tallyLong n (lengthsOf e) c
-unfolding longEnough columnsLong
+pub long-same : (n : ℕ) (e : Engine) (c : EngineCounts) → e .counts ≡ c → engineLong n e ≡ tallyLong n (lengthsOf e) c
+unfolding engineLong columnsLong
 long-same n e c h = rw h
 
 -- the engine's questions are the tally's
-pub door-same : (call : Call) (t : Tally) (e : Engine) → Agrees t e → door call e ≡ tallyDoor call (lengthsOf e) t
-door-same (loadErasures es) t e a = rw (sound-from e (a .sound), long-same (length es) e (t .counts) (a .counts-are), a .counts-are)
-door-same (loadWeights es xs) t e a = rw (sound-from e (a .sound), long-same (length es) e (t .counts) (a .counts-are), a .counts-are)
-door-same reset t e a = rw (sound-from e (a .sound), long-same 0 e (t .counts) (a .counts-are))
+pub refusal-same : (call : Call) (t : Tally) (e : Engine) → Agrees t e → engineRefusal call e ≡ tallyRefusal call (lengthsOf e) t
+refusal-same (loadErasures es) t e a = rw (sound-from e (a .sound), long-same (length es) e (t .counts) (a .counts-are), a .counts-are)
+refusal-same (loadWeights es xs) t e a = rw (sound-from e (a .sound), long-same (length es) e (t .counts) (a .counts-are), a .counts-are)
+refusal-same reset t e a = rw (sound-from e (a .sound), long-same 0 e (t .counts) (a .counts-are))
 
 -- an accepted load keeps the agreement
 module _ (es : List ℕ) (x : ℕ → ℕ) (t : Tally) (e : Engine) (a : Agrees t e) (l : Long (length es) e) (z : e .counts .entries ≡ 0)
@@ -145,7 +145,7 @@ reset-agrees t e a =
     none-within = at-within weightLimit [] (λ i h. absurd (omega arith))
 
 -- an accepted call keeps the agreement
-pub accepted-agrees : (call : Call) (t : Tally) (e : Engine) → Agrees t e → door call e ≡ 0 → Agrees (tallied call t) (changed call e)
+pub accepted-agrees : (call : Call) (t : Tally) (e : Engine) → Agrees t e → engineRefusal call e ≡ 0 → Agrees (tallied call t) (changed call e)
 accepted-agrees (loadErasures es) t e a z =
     let l : Loads es e 0 = loads-of es e 0 z in
     load-agrees es erased t e a (l .long) (l .empty) (named-of es e 0 l) (λ i h. omega arith)
@@ -157,13 +157,13 @@ accepted-agrees reset t e a z = reset-agrees t e a
 
 -- one call
 pub step-agrees : (call : Call) (t : Tally) (e e₁ : Engine) (r : EngineAnswer) → Agrees t e → Step call e r e₁
-    → (said r .number ≡ tallyDoor call (lengthsOf e) t) × Agrees (tallyStep (record { call = call; lent = lengthsOf e }) t) e₁
+    → (said r .number ≡ tallyRefusal call (lengthsOf e) t) × Agrees (tallyStep (record { call = call; lent = lengthsOf e }) t) e₁
 step-agrees call t e e₁ r a s = (
-  s .answer .number-is ∙ door-same call t e a,
-  rw (s .left, ← door-same call t e a) (go (eqb (door call e) 0) refl),
+  s .answer .number-is ∙ refusal-same call t e a,
+  rw (s .left, ← refusal-same call t e a) (go (eqb (engineRefusal call e) 0) refl),
 )
   where
-    go : (b : Bool) → eqb (door call e) 0 ≡ b → Agrees (cond b (tallied call t) t) (cond b (changed call e) e)
+    go : (b : Bool) → eqb (engineRefusal call e) 0 ≡ b → Agrees (cond b (tallied call t) t) (cond b (changed call e) e)
     go true h = accepted-agrees call t e a (eqb-true _ _ h)
     go false h = a
 
@@ -198,14 +198,14 @@ copied-graph v e a b a′ b′ la lb s =
 pub opened-agrees : (v e : ℕ) (h l o : GraphColumns) (r : EngineAnswer) (le lw : List ℕ) → OpenStep v e h l r o → said r .number ≡ 0
     → Agrees (tallyOf v e h) (engine (counts v e 0) (o .endsA) (o .endsB) (o .weights) (o .boundary) le lw)
 opened-agrees v e h l o r le lw s z =
-    let d : openDoor v e h l ≡ 0 = sym (s .answer .number-is) ∙ z in
+    let d : openRefusal v e h l ≡ 0 = sym (s .answer .number-is) ∙ z in
     let p : Opens v e h l = opens-of v e h l d in
     let f = p .from in
     let g = p .to in
-    let a-is : o .endsA ≡ over (take e (h .endsA)) (l .endsA) = s .endsA-left ∙ after-accepted (openDoor v e h l) (take e (h .endsA)) (l .endsA) d in
-    let b-is : o .endsB ≡ over (take e (h .endsB)) (l .endsB) = s .endsB-left ∙ after-accepted (openDoor v e h l) (take e (h .endsB)) (l .endsB) d in
-    let w-is : o .weights ≡ over (take e (h .weights)) (l .weights) = s .weights-left ∙ after-accepted (openDoor v e h l) (take e (h .weights)) (l .weights) d in
-    let m-is : o .boundary ≡ over (take v (h .boundary)) (l .boundary) = s .boundary-left ∙ after-accepted (openDoor v e h l) (take v (h .boundary)) (l .boundary) d in
+    let a-is : o .endsA ≡ over (take e (h .endsA)) (l .endsA) = s .endsA-after ∙ after-accepted (openRefusal v e h l) (take e (h .endsA)) (l .endsA) d in
+    let b-is : o .endsB ≡ over (take e (h .endsB)) (l .endsB) = s .endsB-after ∙ after-accepted (openRefusal v e h l) (take e (h .endsB)) (l .endsB) d in
+    let w-is : o .weights ≡ over (take e (h .weights)) (l .weights) = s .weights-after ∙ after-accepted (openRefusal v e h l) (take e (h .weights)) (l .weights) d in
+    let m-is : o .boundary ≡ over (take v (h .boundary)) (l .boundary) = s .boundary-after ∙ after-accepted (openRefusal v e h l) (take v (h .boundary)) (l .boundary) d in
     rw (a-is, b-is, w-is, m-is) (record {
       counts-are = refl;
       endsA-are = copied e (h .endsA) (l .endsA) (f .endsA);

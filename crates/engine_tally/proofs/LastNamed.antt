@@ -14,10 +14,10 @@ use Rattle.columns.specs.Questions.{ask, allBelow, allWithin}
 use Rattle.engine_log.specs.Load.{loaded, erased, given}
 use Rattle.engine_columns.specs.Step.{Call, loadErasures, loadWeights, reset}
 use Rattle.engine_columns.specs.Open.{GraphColumns}
-use Rattle.engine_tally.specs.Tally.{Tally, Lengths, Fed, tallyOf, tallyLong, tallyDoor, tallied, accepts, tallyStep, tallyAfter, tallyNumbers}
+use Rattle.engine_tally.specs.Tally.{Tally, Lengths, Fed, tallyOf, tallyLong, tallyRefusal, tallied, isAccepted, tallyStep, tallyAfter, tallyNumbers}
 use Rattle.engine_tally.specs.Readers.{Word, weighs, opensAgain, nothing, lastOf, entrySays, erasuresSay, weightsSay, acceptedSays, callSays, callsSay, weightBy, WeighsLastNamed}
 use Rattle.engine_log.proofs.Loads.{loaded-length}
-use Rattle.engine_columns.proofs.Doors.{met-of}
+use Rattle.engine_columns.proofs.Refusals.{met-of}
 
 -- the weight after a word, from the opening weight o and the weight c before it
 abbrev from : Word → (o c : ℕ) → ℕ
@@ -71,7 +71,7 @@ record Holds (k : ℕ) (t : Tally) : Type 0 where
 
 module _ (k : ℕ) where
   -- an accepted call
-  tallied-law : (call : Call) (l : Lengths) (t : Tally) → tallyDoor call l t ≡ 0 → Holds k t
+  tallied-law : (call : Call) (l : Lengths) (t : Tally) → tallyRefusal call l t ≡ 0 → Holds k t
       → getD (tallied call t .weights) k 0 ≡ from (acceptedSays call k) (getD (t .opening) k 0) (getD (t .weights) k 0)
   tallied-law (loadErasures es) l t z h = erasures-law k (getD (t .opening) k 0) es (t .weights) (h .in-weights)
   tallied-law (loadWeights es xs) l t z h =
@@ -96,7 +96,7 @@ module _ (k : ℕ) where
     opening-same : after .opening ≡ t .opening
     weight-is : getD (after .weights) k 0 ≡ from (callSays number (f .call) k) (getD (t .opening) k 0) (getD (t .weights) k 0)
 
-  one-call : (f : Fed) (t : Tally) → Holds k t → (n : ℕ) → tallyDoor (f .call) (f .lent) t ≡ n → OneCall f t (cond (eqb n 0) (tallied (f .call) t) t) n
+  one-call : (f : Fed) (t : Tally) → Holds k t → (n : ℕ) → tallyRefusal (f .call) (f .lent) t ≡ n → OneCall f t (cond (eqb n 0) (tallied (f .call) t) t) n
   one-call f t h zero z = record { holds = tallied-holds (f .call) t h; opening-same = tallied-opening (f .call) t; weight-is = tallied-law (f .call) (f .lent) t z h }
   one-call f t h (suc n) z =
       subst (λ b. OneCall f t (cond b (tallied (f .call) t) t) (suc n)) (sym (ne-eqb (suc n) 0 (λ e. omega (arith, e)))) (record { holds = h; opening-same = refl; weight-is = refl })
@@ -105,7 +105,7 @@ module _ (k : ℕ) where
       → getD (tallyAfter calls t .weights) k 0 ≡ from (callsSay calls (tallyNumbers calls t) k) (getD (t .opening) k 0) (getD (t .weights) k 0)
   calls-law [] t h = refl
   calls-law (f ∷ fs) t h =
-      let n = tallyDoor (f .call) (f .lent) t in
+      let n = tallyRefusal (f .call) (f .lent) t in
       let s = one-call f t h n refl in
       let t′ = tallyStep f t in
       let said = callsSay fs (tallyNumbers fs t′) k in

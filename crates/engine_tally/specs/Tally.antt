@@ -59,18 +59,18 @@ tallyLong n k c =
     && (leb (c .entries + n) (k .logEdges) && leb (c .entries + n) (k .logWeights))
 
 -- the tally's answer to a call's questions: 7 is always met
-abbrev pub tallyDoor : Call → Lengths → Tally → ℕ
-tallyDoor (loadErasures es) k t =
+abbrev pub tallyRefusal : Call → Lengths → Tally → ℕ
+tallyRefusal (loadErasures es) k t =
     ask (tallyLong (length es) k (t .counts)) 6
     (ask (eqb (t .counts .entries) 0) 12
     (ask (allBelow (t .counts .edges) es) 13 0))
-tallyDoor (loadWeights es xs) k t =
+tallyRefusal (loadWeights es xs) k t =
     ask (eqb (length es) (length xs)) 6
     (ask (tallyLong (length es) k (t .counts)) 6
     (ask (eqb (t .counts .entries) 0) 12
     (ask (allBelow (t .counts .edges) es) 13
     (ask (allWithin weightLimit xs) 15 0))))
-tallyDoor reset k t = ask (tallyLong 0 k (t .counts)) 6 0
+tallyRefusal reset k t = ask (tallyLong 0 k (t .counts)) 6 0
 
 abbrev pub withWeights : Tally → ℕ → List ℕ → Tally
 withWeights t n w = record {
@@ -93,12 +93,12 @@ pub record Fed : Type 0 where
   pub call : Call
   pub lent : Lengths
 
-abbrev pub accepts : Fed → Tally → Bool
-accepts f t = eqb (tallyDoor (f .call) (f .lent) t) 0
+abbrev pub isAccepted : Fed → Tally → Bool
+isAccepted f t = eqb (tallyRefusal (f .call) (f .lent) t) 0
 
 -- refused calls leave the tally
 abbrev pub tallyStep : Fed → Tally → Tally
-tallyStep f t = cond (accepts f t) (tallied (f .call) t) t
+tallyStep f t = cond (isAccepted f t) (tallied (f .call) t) t
 
 abbrev pub tallyAfter : List Fed → Tally → Tally
 tallyAfter [] t = t
@@ -107,4 +107,4 @@ tallyAfter (f ∷ fs) t = tallyAfter fs (tallyStep f t)
 -- each call's number, 0 where it is accepted
 abbrev pub tallyNumbers : List Fed → Tally → List ℕ
 tallyNumbers [] t = []
-tallyNumbers (f ∷ fs) t = tallyDoor (f .call) (f .lent) t ∷ tallyNumbers fs (tallyStep f t)
+tallyNumbers (f ∷ fs) t = tallyRefusal (f .call) (f .lent) t ∷ tallyNumbers fs (tallyStep f t)

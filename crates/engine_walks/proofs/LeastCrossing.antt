@@ -12,9 +12,9 @@ use lib.ListN.{length}
 use lib.IntN.{ℤ, pos, negsuc}
 use lib.Dec.{eqb}
 use borrow.Author.Tests.{eqb-true, eq-eqb}
-use Rattle.engine_walks.specs.Graph.{Graph, endA, endB, edges, boundaryAt, InRange, Left, Right, Joins, Walk, CrossingSet, CrossingWeight}
+use Rattle.engine_walks.specs.Graph.{Graph, endA, endB, edges, boundaryAt, GraphInRange, Left, Right, Joins, Walk, CrossingSet, CrossingWeight}
 use Rattle.engine_walks.specs.Settling.{State, statusAt, weightAt}
-use Rattle.engine_walks.specs.Answers.{left, taken, weightIn, tableWeight, fromLeft, leastFromLeft, nearestRight, crossing, weightOf}
+use Rattle.engine_walks.specs.Answers.{isLeft, taken, weightIn, tableWeight, fromLeft, leastFromLeft, nearestRight, crossing, weightOf}
 use Rattle.engine_walks.specs.Claims.{IsCrossing, CrossingAnswer, LeftWeight, CrossingIsLeast, Potential, cutOff, CrossingIsBounded, CertificateDecides}
 use Rattle.columns.proofs.Counting.{length-each}
 use Rattle.engine_walks.proofs.LowerBound.{lower-bound, rises-at-most}
@@ -27,7 +27,7 @@ use Rattle.engine_walks.proofs.TableAndPath.{column-taken, column-other
 -- ---- from walks to sets
 
 -- where a potential reaches the crossing weight, that is also the least weight of a crossing set
-pub sets-of : {g : Graph} {w : ℕ → ℕ} {W : ℕ} {f : ℕ → ℕ} → InRange g → Potential g w W f → CrossingWeight g w W → IsCrossing g w W
+pub sets-of : {g : Graph} {w : ℕ → ℕ} {W : ℕ} {f : ℕ → ℕ} → GraphInRange g → Potential g w W f → CrossingWeight g w W → IsCrossing g w W
 sets-of {g} {w} {W} {f} ok p c =
     let (x, y, s, l, r, q, e) = c .a-walk in
     let u : CrossingSet g (cancel s) = upper-bound l r q in
@@ -39,7 +39,7 @@ sets-of {g} {w} {W} {f} ok p c =
 
 -- ---- settling from the left
 
-pub left-sources : (g : Graph) → Sources g (left g) (Left g)
+pub left-sources : (g : Graph) → Sources g (isLeft g) (Left g)
 left-sources g = record { inside = λ v p. p .0; passes = λ v p. eq-eqb (boundaryAt g v) 1 (p .1); named = λ v h e. (h, eqb-true (boundaryAt g v) 1 e) }
 
 cutOff-le : (W : ℕ) (z : ℤ) → cutOff W z ≤ W
@@ -50,7 +50,7 @@ and-true : (a b : Bool) → (a && b) ≡ true → (a ≡ true) × (b ≡ true)
 and-true true b e = (refl, e)
 and-true false b e = absurd (true≢false (sym e))
 
-module _ {g : Graph} (ok : InRange g) (w : ℕ → ℕ) where
+module _ {g : Graph} (ok : GraphInRange g) (w : ℕ → ℕ) where
   abbrev S : State
   S = fromLeft g w
 
@@ -61,7 +61,7 @@ module _ {g : Graph} (ok : InRange g) (w : ℕ → ℕ) where
   -- nothing waits in the end
   nothing-waits : (v : ℕ) → statusAt S v ≢ 1
   unfolding fromLeft
-  nothing-waits = ⊎-elim (λ d. d) (λ e. absurd (end-taken (left g) none S e)) (settled-rests ok w (left-sources g) none .0)
+  nothing-waits = ⊎-elim (λ d. d) (λ e. absurd (end-taken (isLeft g) none S e)) (settled-rests ok w (left-sources g) none .0)
 
   -- a vertex that waits or was taken was taken
   is-taken : (v : ℕ) → 1 ≤ statusAt S v → statusAt S v ≡ 2

@@ -10,7 +10,7 @@ use native.Mathlib.Decide.{ℕ-discrete}
 use native.Mathlib.Omega.{arith}
 use lib.ListN.{length}
 use Rattle.engine_walks.specs.Lists.{sum, All, Distinct}
-use Rattle.engine_walks.specs.Graph.{Graph, edges, InRange}
+use Rattle.engine_walks.specs.Graph.{Graph, edges, GraphInRange}
 use Rattle.engine_walks.specs.Settling.{State, statusAt, weightAt, settle}
 use Rattle.engine_walks.specs.Claims.{Route, arrived, onto, SumsAtMost, SumsFit}
 use Rattle.engine_walks.proofs.Sums.{distinct-length}
@@ -49,7 +49,7 @@ bounded-step {g} {w} {σ} {σ′} {x} {limit} {k} m small t b = record {
     open-still (same z) p f = f (sym (z .0) ∙ p)
     open-still (new e l j s q r z) p f = omega arith
 
-pub bounded-settle : {g : Graph} → InRange g → (w : ℕ → ℕ) {limit : ℕ} → ((e : ℕ) → e < edges g → w e ≤ limit)
+pub bounded-settle : {g : Graph} → GraphInRange g → (w : ℕ → ℕ) {limit : ℕ} → ((e : ℕ) → e < edges g → w e ≤ limit)
     → (source : ℕ → Bool) (end : Option ℕ) (k : ℕ) → Bounded limit k (settle g w source end k)
 bounded-settle {g} ok w {limit} m source end k = after-turns ok w (test-sources g source) end (Bounded limit)
     (record {
@@ -61,7 +61,7 @@ bounded-settle {g} ok w {limit} m source end k = after-turns ok w (test-sources 
 
 -- ---- a walk that meets no vertex twice
 
-route-inside : {g : Graph} {w : ℕ → ℕ} {x y : ℕ} {vs cs : List ℕ} → InRange g → Route g w x vs cs y → All (λ v. v < g .vertices) vs
+route-inside : {g : Graph} {w : ℕ → ℕ} {x y : ℕ} {vs cs : List ℕ} → GraphInRange g → Route g w x vs cs y → All (λ v. v < g .vertices) vs
 route-inside ok arrived = tt
 route-inside ok (onto e h (inl j) q r) = (omega (arith, ok .b-in e h, j .1), route-inside ok r)
 route-inside ok (onto e h (inr j) q r) = (omega (arith, ok .a-in e h, j .0), route-inside ok r)
@@ -71,7 +71,7 @@ route-weight : {g : Graph} {w : ℕ → ℕ} {x y limit : ℕ} {vs cs : List ℕ
 route-weight m arrived = zero-le
 route-weight m (onto e h j q r) = omega (arith, route-weight m r, m e h)
 
-module _ {g : Graph} (ok : InRange g) (w : ℕ → ℕ) where
+module _ {g : Graph} (ok : GraphInRange g) (w : ℕ → ℕ) where
   pub sums-within : (limit : ℕ) → ((e : ℕ) → e < edges g → w e ≤ limit) → SumsAtMost g w ((g .vertices - 1) * limit) (g .vertices * limit)
   sums-within limit m = record {
     along-walk = λ x y vs cs h r o. omega (arith, route-weight m r, mul-le-mul-right limit (short x vs h o (route-inside ok r)));

@@ -9,7 +9,7 @@ use native.Mathlib.Omega.{arith}
 use lib.Dec.{ltb}
 use borrow.Author.Tests.{lt-ltb, le-ltb}
 use Rattle.engine_walks.specs.Lists.{bit, delta, sum, All}
-use Rattle.engine_walks.specs.Graph.{Graph, edges, endA, endB, boundaryAt, InRange, Walk, stay, step, degree, CrossingSet}
+use Rattle.engine_walks.specs.Graph.{Graph, edges, endA, endB, boundaryAt, GraphInRange, Walk, stay, step, degree, CrossingSet}
 use Rattle.engine_walks.specs.Claims.{Potential}
 use Rattle.engine_walks.proofs.Sums.{delta-other, bit-suc, sum-add, sum-zero, sum-same, sum-even}
 
@@ -65,7 +65,7 @@ module _ (g : Graph) (d : ℕ → ℕ) (s : List ℕ) where
   ends-even (suc k) h = rw ends-suc (omega (arith, ends-even k (λ v l. h v (omega arith)), even-mul (degree g s k) (d k) (h k (omega arith))))
 
 -- d is even where the degree is odd: its sum over the ends of the listed edges is even
-even-ends : (g : Graph) → InRange g → (d : ℕ → ℕ) (s : List ℕ) → All (λ e. e < edges g) s
+even-ends : (g : Graph) → GraphInRange g → (d : ℕ → ℕ) (s : List ℕ) → All (λ e. e < edges g) s
     → ((v : ℕ) → v < g .vertices → (d v % 2 ≡ 0) ⊎ (degree g s v % 2 ≡ 0))
     → sum s (λ e. d (endA g e) + d (endB g e)) % 2 ≡ 0
 unfolding ends
@@ -108,7 +108,7 @@ regroup : (s : List ℕ) (a b c d k : ℕ → ℕ)
 regroup [] a b c d k = refl
 regroup (e ∷ s) a b c d k = omega (arith, regroup s a b c d k)
 
-module _ {g : Graph} (ok : InRange g) {s : List ℕ} (c : CrossingSet g s) where
+module _ {g : Graph} (ok : GraphInRange g) {s : List ℕ} (c : CrossingSet g s) where
   module _ (f : ℕ → ℕ) (l : (v : ℕ) → v < g .vertices → boundaryAt g v ≡ 1 → f v ≡ 0)
       (r : (v : ℕ) → v < g .vertices → boundaryAt g v ≡ 2 → 1 ≤ f v) where
     cut-vertex : (v : ℕ) → v < g .vertices → ((isZero (f v) + delta (boundaryAt g v) 1) % 2 ≡ 0) ⊎ (degree g s v % 2 ≡ 0)

@@ -7,7 +7,7 @@ use Prim.Native.Nat.{ℕ, _≤_}
 use native.Mathlib.Decide.{ℕ-discrete}
 use native.Mathlib.Omega.{arith}
 use borrow.Author.Tests.{eq-eqb}
-use Rattle.engine_walks.specs.Graph.{Graph, InRange}
+use Rattle.engine_walks.specs.Graph.{Graph, GraphInRange}
 use Rattle.engine_walks.specs.Settling.{State, statusAt, weightAt, stopped, settle}
 use Rattle.engine_walks.proofs.LeastWeights.{Takes, Inv}
 use Rattle.engine_walks.proofs.Offers.{outcome-open}
@@ -43,7 +43,7 @@ module _ {g : Graph} {w : ℕ → ℕ} {Source : ℕ → Type 0} {σ σ′ : Sta
     | no z ↦ let s = stops source end b σ e f (taken-before b z p) in absurd (let x : _≡_ {A = ℕ} 0 1 = cc in omega arith)
   ]
 
-module _ {g : Graph} (ok : InRange g) (w : ℕ → ℕ) {source : ℕ → Bool} {Source : ℕ → Type 0} (n : Sources g source Source) (end : Option ℕ) where
+module _ {g : Graph} (ok : GraphInRange g) (w : ℕ → ℕ) {source : ℕ → Bool} {Source : ℕ → Type 0} (n : Sources g source Source) (end : Option ℕ) where
   pub end-last : (k : ℕ) → EndLast source end (settle g w source end k)
   end-last k = after-turns ok w n end (λ k s. EndLast source end s)
       (λ b v e f p q. absurd (⊎-elim (λ z. omega arith) (λ z. omega arith) (start-each n b)))

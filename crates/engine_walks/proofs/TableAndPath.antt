@@ -11,7 +11,7 @@ use lib.ListN.{length, getD, List·getD-eq-default}
 use lib.IntN.{pos, negsuc}
 use borrow.Author.Tests.{eqb-true, eqb-false, eq-eqb, ne-eqb}
 use Rattle.columns.specs.Lists.{each}
-use Rattle.engine_walks.specs.Graph.{Graph, InRange, Joined, LeastWeight}
+use Rattle.engine_walks.specs.Graph.{Graph, GraphInRange, Joined, LeastWeight}
 use Rattle.engine_walks.specs.Settling.{State, statusAt, weightAt, previousAt, settled}
 use Rattle.engine_walks.specs.Answers.{only, taken, weightIn, tableWeight, tablePrevious, TableColumns, table, readBack, stepInto, pathIn, path}
 use Rattle.engine_walks.specs.Claims.{EndTaken, SettlingIsLeast, LastStep, LeadsBack, Row, Unstopped, EndRow, IsTable, TableIsLeast, IsPath, PathAnswer, PathIsLeast}
@@ -45,7 +45,7 @@ module _ {A : Type 0} (n : ℕ) (s : State) (f : ℕ → A) (d : A) where
   pub column-other : (v : ℕ) → v < n → statusAt s v ≢ 2 → getD (each n (λ v. cond (taken s v) (f v) d)) v d ≡ d
   column-other v h e = getD-each n (λ v. cond (taken s v) (f v) d) d v h ∙ ap (λ b. cond b (f v) d) (ne-eqb (statusAt s v) 2 e)
 
-module _ {g : Graph} (ok : InRange g) (w : ℕ → ℕ) {a : ℕ} (h : a < g .vertices) (end : Option ℕ) where
+module _ {g : Graph} (ok : GraphInRange g) (w : ℕ → ℕ) {a : ℕ} (h : a < g .vertices) (end : Option ℕ) where
   abbrev S : State
   S = settled g w (only a) end
 
@@ -186,7 +186,7 @@ table-is-least g w a end ok h = table-is ok w h end
 
 -- ---- the path
 
-module _ {g : Graph} (ok : InRange g) (w : ℕ → ℕ) {a : ℕ} (h : a < g .vertices) (b : ℕ) where
+module _ {g : Graph} (ok : GraphInRange g) (w : ℕ → ℕ) {a : ℕ} (h : a < g .vertices) (b : ℕ) where
   abbrev R : State
   R = settled g w (only a) (some b)
 

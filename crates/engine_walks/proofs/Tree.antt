@@ -9,7 +9,7 @@ use native.Mathlib.Decide.{ℕ-discrete}
 use native.Mathlib.Omega.{arith}
 use borrow.Author.Tests.{eq-eqb, ne-eqb}
 use Rattle.engine_walks.specs.Lists.{bit, sum, All, Distinct}
-use Rattle.engine_walks.specs.Graph.{Graph, edges, Joins, InRange}
+use Rattle.engine_walks.specs.Graph.{Graph, edges, Joins, GraphInRange}
 use Rattle.engine_walks.specs.Settling.{State, statusAt, weightAt, previousAt, start, settle}
 use Rattle.engine_walks.specs.Answers.{readBack, stepInto}
 use Rattle.engine_walks.specs.Claims.{Route, arrived, onto}
@@ -117,7 +117,7 @@ rooted-step {σ = σ} {σ′ = σ′} {x = x} {a = a} t (at-start p q f) = elim 
 ]
 rooted-step {a = a} t (later p q) = let k = t .kept a p in later (k .0 ∙ p) (k .2 ∙ q)
 
-module _ {g : Graph} (ok : InRange g) (w : ℕ → ℕ) {source : ℕ → Bool} {a : ℕ} (n : Sources g source (λ v. v ≡ a)) (end : Option ℕ) where
+module _ {g : Graph} (ok : GraphInRange g) (w : ℕ → ℕ) {source : ℕ → Bool} {a : ℕ} (n : Sources g source (λ v. v ≡ a)) (end : Option ℕ) where
   start-other : (v : ℕ) → v ≢ a → statusAt (start g source) v ≡ 0
   start-other v f = ⊎-elim (λ e. e) (λ e. absurd (f (e .1))) (start-each n v)
 

@@ -13,7 +13,7 @@ use lib.Dec.{eqb, lit<}
 use lib.IntN.{pos, negsuc}
 use borrow.Author.Tests.{eqb-true, eqb-false, eq-eqb, ne-eqb, lt-ltb, le-ltb}
 use Rattle.engine_walks.specs.Lists.{bit}
-use Rattle.engine_walks.specs.Graph.{Graph, edges, endA, endB, InRange, Joins, stay}
+use Rattle.engine_walks.specs.Graph.{Graph, edges, endA, endB, GraphInRange, Joins, stay}
 use Rattle.engine_walks.specs.Settling.{State, statusAt, weightAt, previousAt, toTake, start, changes, waits, byStatus, offer, relaxEdge, relax, mark, take, takeChosen, stopped, next, settle, settled}
 use Rattle.engine_walks.specs.Answers.{tableWeight, tablePrevious}
 use Rattle.engine_walks.specs.Claims.{IsSource, EndTaken}
@@ -100,7 +100,7 @@ offer-is : (n a q u k : ℕ) (s : State) → Fits n s → u < n → OfferedFits 
 unfolding offer
 offer-is n a q u k s f h = byStatus-is a u k f h (statusAt s u) refl _ (changes-fair u k _ (weightAt s u) _)
 
-module _ {g : Graph} (ok : InRange g) {w : ℕ → ℕ} {a W : ℕ} (q : ℕ) where
+module _ {g : Graph} (ok : GraphInRange g) {w : ℕ → ℕ} {a W : ℕ} (q : ℕ) where
   -- one edge
   edge-is : (n : ℕ) {σ : State} (s : State) → n < edges g → Fits (g .vertices) s → Relaxed g w a W n σ s
       → Relaxed g w a W (suc n) σ (relaxEdge g w a q W n s) × Fits (g .vertices) (relaxEdge g w a q W n s)
@@ -276,7 +276,7 @@ no-row : (s s′ : State) (v : ℕ) → statusAt s′ v ≢ 2 → statusAt s v �
 no-row s s′ v p q =
     (rw (ne-eqb (statusAt s v) 2 q, ne-eqb (statusAt s′ v) 2 p), rw (ne-eqb (statusAt s v) 2 q, ne-eqb (statusAt s′ v) 2 p))
 
-module _ {g : Graph} (ok : InRange g) (w : ℕ → ℕ) where
+module _ {g : Graph} (ok : GraphInRange g) (w : ℕ → ℕ) where
   taken-relaxed : (a : ℕ) (s : State) → Fits (g .vertices) s
       → Relaxed g w a (weightAt s a) (edges g) (mark s a) (take g w a s) × Fits (g .vertices) (take g w a s)
   unfolding take

@@ -11,7 +11,7 @@ use lib.ListN.{length}
 use lib.Seq.{ext-getD}
 use lib.IntN.{ℤ, pos, negsuc}
 use Rattle.engine_walks.specs.Lists.{sum}
-use Rattle.engine_walks.specs.Graph.{Graph, edges, boundaryAt, InRange, Joins, Walk, stay, step, Joined, LeastWeight}
+use Rattle.engine_walks.specs.Graph.{Graph, edges, boundaryAt, GraphInRange, Joins, Walk, stay, step, Joined, LeastWeight}
 use Rattle.engine_walks.specs.Answers.{weightIn, table, leastFromLeft, crossing}
 use Rattle.engine_walks.specs.Claims.{WeightOrNone, Row, IsCrossing, CrossingAnswer, Alike, NotGreater, unreached, reached, signed, EqualAnswers, NoGreaterAnswers, WeightsCompare}
 use Rattle.engine_walks.proofs.Sums.{sum-le}
@@ -31,7 +31,7 @@ alike-sym k = record {
 }
 
 module _ {g g′ : Graph} (k : Alike g g′) where
-  pub alike-range : InRange g → InRange g′
+  pub alike-range : GraphInRange g → GraphInRange g′
   alike-range ok = record {
     a-in = λ e h. let l : e < edges g = omega (arith, k .same-edges) in omega (arith, k .same-a e l, ok .a-in e l, k .same-vertices);
     b-in = λ e h. let l : e < edges g = omega (arith, k .same-edges) in omega (arith, k .same-b e l, ok .b-in e l, k .same-vertices);
@@ -86,7 +86,7 @@ signed-one (some k) none e = absurd (let z : _≡_ {A = ℕ} 0 1 = cc in omega a
 signed-one (some k) (some m) e = cc
 
 -- a weight of the table without end
-table-says : {g : Graph} → InRange g → (w : ℕ → ℕ) {a : ℕ} → a < g .vertices → (v : ℕ) → v < g .vertices
+table-says : {g : Graph} → GraphInRange g → (w : ℕ → ℕ) {a : ℕ} → a < g .vertices → (v : ℕ) → v < g .vertices
     → WeightOrNone (LeastWeight g w (λ x. x ≡ a) v) (¬ Joined g a v) (weightIn (table g w a none .weights) v)
 table-says {g} ok w {a} h v l = go (table-is ok w h none .rows v l)
   where
@@ -99,8 +99,8 @@ table-says {g} ok w {a} h v l = go (table-is ok w h none .rows v l)
 
 -- ---- nowhere greater
 
-module _ {g g′ : Graph} (ok : InRange g) (k : Alike g g′) {w w′ : ℕ → ℕ} (m : (e : ℕ) → e < edges g → w e ≤ w′ e) where
-  ok′ : InRange g′
+module _ {g g′ : Graph} (ok : GraphInRange g) (k : Alike g g′) {w w′ : ℕ → ℕ} (m : (e : ℕ) → e < edges g → w e ≤ w′ e) where
+  ok′ : GraphInRange g′
   ok′ = alike-range k ok
 
   back : Alike g′ g
@@ -144,7 +144,7 @@ module _ {g g′ : Graph} (ok : InRange g) (k : Alike g g′) {w w′ : ℕ → 
 
 -- ---- equal
 
-module _ {g g′ : Graph} (ok : InRange g) (k : Alike g g′) {w w′ : ℕ → ℕ} (m : (e : ℕ) → e < edges g → w e ≡ w′ e) where
+module _ {g g′ : Graph} (ok : GraphInRange g) (k : Alike g g′) {w w′ : ℕ → ℕ} (m : (e : ℕ) → e < edges g → w e ≡ w′ e) where
   first-below : NoGreaterAnswers g g′ w w′
   first-below = below ok k (λ e h. omega (arith, m e h))
 

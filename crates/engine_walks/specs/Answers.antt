@@ -15,8 +15,8 @@ abbrev pub only : ℕ → ℕ → Bool
 only a v = eqb v a
 
 -- Engine, Crossing, sentence 1: every left vertex is a source.
-abbrev pub left : Graph → ℕ → Bool
-left g v = eqb (boundaryAt g v) 1
+abbrev pub isLeft : Graph → ℕ → Bool
+isLeft g v = eqb (boundaryAt g v) 1
 
 -- Engine, Table: whether v was taken.
 abbrev pub taken : State → ℕ → Bool
@@ -84,7 +84,7 @@ path g w a b = cond (taken (settled g w (only a) (some b)) b) (some (pathIn g (s
 
 -- Engine, Crossing: the state after settling from the left with no end.
 unfoldable pub fromLeft : (g : Graph) (w : ℕ → ℕ) → State
-fromLeft g w = settled g w (left g) none
+fromLeft g w = settled g w (isLeft g) none
 
 -- Engine, Crossing, sentence 2: the weight column.
 unfoldable pub leastFromLeft : (g : Graph) (w : ℕ → ℕ) → List ℤ

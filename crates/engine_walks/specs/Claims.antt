@@ -8,7 +8,7 @@ use Prim.Native.Nat.{ℕ, suc, _+_, _-_, _*_, _^_, _≤_, _<_, min}
 use lib.ListN.{getD, length}
 use lib.IntN.{ℤ, pos, negsuc}
 use Rattle.engine_walks.specs.Lists.{sum, Distinct}
-use Rattle.engine_walks.specs.Graph.{Graph, edges, endA, endB, boundaryAt, InRange, Left, Right, Joins, Walk, Joined, CrossingSet, LeastWeight, CrossingWeight}
+use Rattle.engine_walks.specs.Graph.{Graph, edges, endA, endB, boundaryAt, GraphInRange, Left, Right, Joins, Walk, Joined, CrossingSet, LeastWeight, CrossingWeight}
 use Rattle.engine_walks.specs.Settling.{State, statusAt, weightAt, settle, settled}
 use Rattle.engine_walks.specs.Answers.{weightIn, TableColumns, table, FoundPath, path, leastFromLeft, crossing}
 
@@ -32,7 +32,7 @@ pub record IsSettled (g : Graph) (w : ℕ → ℕ) (source : ℕ → Bool) (end 
 -- Engine, Settling: for every graph, weights, sources and end.
 abbrev pub SettlingIsLeast : Type 0
 SettlingIsLeast =
-    (g : Graph) (w : ℕ → ℕ) (source : ℕ → Bool) (end : Option ℕ) → InRange g → IsSettled g w source end (settled g w source end)
+    (g : Graph) (w : ℕ → ℕ) (source : ℕ → Bool) (end : Option ℕ) → GraphInRange g → IsSettled g w source end (settled g w source end)
 
 -- ---- the table
 
@@ -81,7 +81,7 @@ pub record IsTable (g : Graph) (w : ℕ → ℕ) (a : ℕ) (end : Option ℕ) (t
 
 -- Engine, Table: for every graph, weights, source and end.
 abbrev pub TableIsLeast : Type 0
-TableIsLeast = (g : Graph) (w : ℕ → ℕ) (a : ℕ) (end : Option ℕ) → InRange g → a < g .vertices → IsTable g w a end (table g w a end)
+TableIsLeast = (g : Graph) (w : ℕ → ℕ) (a : ℕ) (end : Option ℕ) → GraphInRange g → a < g .vertices → IsTable g w a end (table g w a end)
 
 -- ---- the path
 
@@ -105,7 +105,7 @@ PathAnswer g w a b (some p) = IsPath g w a b p
 
 -- Engine, Path: for every graph, weights and two vertices.
 abbrev pub PathIsLeast : Type 0
-PathIsLeast = (g : Graph) (w : ℕ → ℕ) (a b : ℕ) → InRange g → a < g .vertices → PathAnswer g w a b (path g w a b)
+PathIsLeast = (g : Graph) (w : ℕ → ℕ) (a b : ℕ) → GraphInRange g → a < g .vertices → PathAnswer g w a b (path g w a b)
 
 -- ---- the size of sums
 
@@ -122,7 +122,7 @@ pub record SumsAtMost (g : Graph) (w : ℕ → ℕ) (kept offered : ℕ) : Type 
 -- Records, last sentence: under any limit on the weights, one limit for each vertex but one; under the limits given there, below 2³¹.
 abbrev pub SumsFit : Type 0
 SumsFit =
-    (g : Graph) (w : ℕ → ℕ) → InRange g
+    (g : Graph) (w : ℕ → ℕ) → GraphInRange g
     → ((limit : ℕ) → ((e : ℕ) → e < edges g → w e ≤ limit) → SumsAtMost g w ((g .vertices - 1) * limit) (g .vertices * limit))
     × (g .vertices ≤ 4096 → ((e : ℕ) → e < edges g → w e ≤ 500000) → SumsAtMost g w (2 ^ 31 - 1) (2 ^ 31 - 1))
 
@@ -151,7 +151,7 @@ LeftWeight g w v = WeightOrNone (LeastWeight g w (Left g) v) ((x : ℕ) → Left
 -- Demand 3 and Engine, Crossing: for every graph and weights.
 abbrev pub CrossingIsLeast : Type 0
 CrossingIsLeast =
-    (g : Graph) (w : ℕ → ℕ) → InRange g
+    (g : Graph) (w : ℕ → ℕ) → GraphInRange g
     → CrossingAnswer g w (crossing g w)
     × (length (leastFromLeft g w) ≡ g .vertices)
     × ((v : ℕ) → v < g .vertices → LeftWeight g w v (weightIn (leastFromLeft g w) v))
@@ -183,13 +183,13 @@ pub record Bounds (g : Graph) (w : ℕ → ℕ) : Type 0 where
 
 -- Demand 3: for every graph and weights.
 abbrev pub CrossingIsBounded : Type 0
-CrossingIsBounded = (g : Graph) (w : ℕ → ℕ) → InRange g → Bounds g w
+CrossingIsBounded = (g : Graph) (w : ℕ → ℕ) → GraphInRange g → Bounds g w
 
 -- Demand 3, the clause about d: a potential and a walk of the same weight determine the crossing weight.
 abbrev pub CertificateDecides : Type 0
 CertificateDecides =
     (g : Graph) (w : ℕ → ℕ) (W : ℕ) (f : ℕ → ℕ) (x y : ℕ) (s : List ℕ)
-    → InRange g → Potential g w W f → Left g x → Right g y → Walk g x s y → sum s w ≡ W
+    → GraphInRange g → Potential g w W f → Left g x → Right g y → Walk g x s y → sum s w ≡ W
     → IsCrossing g w W × (crossing g w ≡ some W)
 
 -- ---- two graphs
@@ -229,7 +229,7 @@ pub record EqualAnswers (g g′ : Graph) (w w′ : ℕ → ℕ) : Type 0 where
 -- Demand 3, on two lists of calls: which vertices are joined depends on the ends alone; equal weights; nowhere greater weights.
 abbrev pub WeightsCompare : Type 0
 WeightsCompare =
-    (g g′ : Graph) (w w′ : ℕ → ℕ) → InRange g → Alike g g′
+    (g g′ : Graph) (w w′ : ℕ → ℕ) → GraphInRange g → Alike g g′
     → ((x y : ℕ) → Joined g x y ↔ Joined g′ x y)
     × (((e : ℕ) → e < edges g → w e ≡ w′ e) → EqualAnswers g g′ w w′)
     × (((e : ℕ) → e < edges g → w e ≤ w′ e) → NoGreaterAnswers g g′ w w′)

@@ -30,7 +30,7 @@ abbrev pub boundaryAt : Graph → ℕ → ℕ
 boundaryAt g v = getD (g .boundary) v 0
 
 -- Questions at the door, 7, as far as the claims need it: each end is a vertex, each boundary byte is 0, 1 or 2.
-pub record InRange (g : Graph) : Type 0 where
+pub record GraphInRange (g : Graph) : Type 0 where
   pub a-in : (e : ℕ) → e < edges g → endA g e < g .vertices
   pub b-in : (e : ℕ) → e < edges g → endB g e < g .vertices
   pub byte : (v : ℕ) → v < g .vertices → boundaryAt g v < 3

@@ -7,13 +7,13 @@ use lib.Dec.{leb}
 use borrow.Author.Tests.{lt-ltb, le-leb, leb-true}
 use Rattle.columns.proofs.Tests.{and-both}
 use Rattle.engine_columns.specs.Records.{Engine}
-use Rattle.engine_columns.proofs.Doors.{long-from, sound-from}
+use Rattle.engine_columns.proofs.Refusals.{long-from, sound-from}
 use Rattle.query_tables.specs.declared.End.the-variants.{None}
 use Rattle.query_questions.specs.Queries.{scratchLong}
-use Rattle.query_tables.specs.Steps.{tableDoor}
+use Rattle.query_tables.specs.Steps.{tableRefusal}
 use Rattle.query_search.proofs.Asked.{query-of}
 use Rattle.prebuilt_calls.specs.Steps.{Fillable}
-use Rattle.prebuilt_calls.specs.Boundaries.{boundariesDoor}
+use Rattle.prebuilt_calls.specs.Boundaries.{boundariesRefusal}
 
 module _ (e : Engine) (weights vertices least before numbers ends status weight previous node leaf : ℕ) where
   abbrev scratch : Bool
@@ -21,12 +21,12 @@ module _ (e : Engine) (weights vertices least before numbers ends status weight 
 
   -- a search from v is accepted
   pub search-accepted : Fillable e weights vertices least before numbers ends status weight previous node leaf → (v : ℕ) → v < e .counts .vertices
-      → tableDoor e scratch v None least before ≡ 0
+      → tableRefusal e scratch v None least before ≡ 0
   search-accepted f v h =
       rw (f .long, f .is-sound, le-leb (e .counts .vertices) least (f .least-fits), le-leb (e .counts .vertices) before (f .before-fits), f .scratch-fits, lt-ltb v (e .counts .vertices) h)
 
   -- what an accepted call says
-  pub fillable : boundariesDoor e scratch weights vertices least before ≡ 0 → Fillable e weights vertices least before numbers ends status weight previous node leaf
+  pub fillable : boundariesRefusal e scratch weights vertices least before ≡ 0 → Fillable e weights vertices least before numbers ends status weight previous node leaf
   fillable z =
       let n = e .counts .vertices in
       let q = query-of e _ true 0 z in

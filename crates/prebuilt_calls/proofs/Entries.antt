@@ -16,14 +16,14 @@ use Rattle.columns.specs.Questions.{ask}
 use Rattle.columns.proofs.Tests.{and-both, both-and}
 use Rattle.engine_walks.specs.Answers.{weightIn}
 use Rattle.engine_columns.specs.Records.{Engine}
-use Rattle.engine_columns.proofs.Doors.{Long, long-from, Sound, sound-from}
+use Rattle.engine_columns.proofs.Refusals.{Long, long-from, Sound, sound-from}
 use Rattle.query_tables.specs.declared.End.the-variants.{None}
-use Rattle.query_questions.specs.Queries.{queryDoor}
-use Rattle.query_tables.specs.Steps.{tableDoor}
+use Rattle.query_questions.specs.Queries.{queryRefusal}
+use Rattle.query_tables.specs.Steps.{tableRefusal}
 use Rattle.query_search.proofs.Asked.{query-of}
 use Rattle.prebuilt_entries.specs.Entries.{isVirtual, entryBy, rowEntry}
 use Rattle.prebuilt_entries.proofs.Stored.{over-over}
-use Rattle.prebuilt_calls.specs.Rows.{rowDoor}
+use Rattle.prebuilt_calls.specs.Rows.{rowRefusal}
 
 -- the row, from the table that stands in its column
 pub row-over : (bytes : List ℕ) (nearest : List ℤ) (v : ℕ) (weights column : List ℤ) (n : ℕ) → length weights ≡ n → n ≤ length column
@@ -44,7 +44,7 @@ pub record RowAsked (e : Engine) (scratch : Bool) (v nearest out before : ℕ) :
   pub v-in : v < e .counts .vertices
 
 module _ (e : Engine) (scratch : Bool) (v nearest out before : ℕ) where
-  pub row-asked : rowDoor e scratch v nearest out before ≡ 0 → RowAsked e scratch v nearest out before
+  pub row-asked : rowRefusal e scratch v nearest out before ≡ 0 → RowAsked e scratch v nearest out before
   row-asked z =
       let n = e .counts .vertices in
       let q = query-of e _ _ _ z in
@@ -62,7 +62,7 @@ module _ (e : Engine) (scratch : Bool) (v nearest out before : ℕ) where
       }
 
   -- the table query inside is accepted too
-  pub table-met : RowAsked e scratch v nearest out before → tableDoor e scratch v None out before ≡ 0
+  pub table-met : RowAsked e scratch v nearest out before → tableRefusal e scratch v None out before ≡ 0
   table-met k =
       let n = e .counts .vertices in
       let f : (leb n out && (leb n before && scratch)) ≡ true = both-and (le-leb n out (k .out-long)) (both-and (le-leb n before (k .before-long)) (k .scratch-is)) in
@@ -72,7 +72,7 @@ module _ (e : Engine) (scratch : Bool) (v nearest out before : ℕ) where
       (λ j. ask (l j && f j) 6 (ask (s j) 7 (ask (i j) 13 0)))
 
   -- the number, from the tests as the code makes them
-  pub row-number : {no : ℕ} {fits i₂ i₃ x y w sc : Bool} → no ≡ queryDoor e fits (ltb v (e .counts .vertices)) 0 → fits ≡ (x && i₂) → i₂ ≡ (y && i₃) → i₃ ≡ (w && sc)
-      → x ≡ leb (e .counts .vertices) nearest → y ≡ leb (e .counts .vertices) out → w ≡ leb (e .counts .vertices) before → sc ≡ scratch → no ≡ rowDoor e scratch v nearest out before
+  pub row-number : {no : ℕ} {fits i₂ i₃ x y w sc : Bool} → no ≡ queryRefusal e fits (ltb v (e .counts .vertices)) 0 → fits ≡ (x && i₂) → i₂ ≡ (y && i₃) → i₃ ≡ (w && sc)
+      → x ≡ leb (e .counts .vertices) nearest → y ≡ leb (e .counts .vertices) out → w ≡ leb (e .counts .vertices) before → sc ≡ scratch → no ≡ rowRefusal e scratch v nearest out before
   row-number p a b d x y w s =
-      p ∙ (λ i. queryDoor e ((a ∙ (λ j. x j && (b ∙ (λ k. y k && (d ∙ (λ m. w m && s m)) k)) j)) i) (ltb v (e .counts .vertices)) 0)
+      p ∙ (λ i. queryRefusal e ((a ∙ (λ j. x j && (b ∙ (λ k. y k && (d ∙ (λ m. w m && s m)) k)) j)) i) (ltb v (e .counts .vertices)) 0)

@@ -15,7 +15,7 @@ use Rattle.columns.specs.declared.Done.the-variants.{Accepted, Refused}
 use Rattle.engine_columns.specs.Records.{Engine}
 use Rattle.engine_walks.specs.Graph.{Graph}
 use Rattle.engine_walks.specs.Answers.{table}
-use Rattle.query_questions.specs.Queries.{graphIn, weightsIn, queryDoor}
+use Rattle.query_questions.specs.Queries.{graphIn, weightsIn, queryRefusal}
 use Rattle.prebuilt_entries.specs.Nearest.{boundaryIn, weightTo, vertexTo}
 
 -- the weights from v with no end, and in them the nearest virtual vertex of v, as `get_boundary_weight` reports it
@@ -32,17 +32,17 @@ abbrev pub boundaryVertex : (g : Graph) (w : ℕ → ℕ) (v : ℕ) → ℕ
 boundaryVertex g w v = vertexTo (nearestOf g w v)
 
 -- the number of the first question that is not met, or 0: 6, 7; `scratch` says whether scratch is long enough
-abbrev pub boundariesDoor : Engine → (scratch : Bool) (weights vertices least before : ℕ) → ℕ
-boundariesDoor e scratch weights vertices least before =
-    queryDoor e (leb (e .counts .vertices) weights && (leb (e .counts .vertices) vertices && (leb (e .counts .vertices) least && (leb (e .counts .vertices) before && scratch)))) true 0
+abbrev pub boundariesRefusal : Engine → (scratch : Bool) (weights vertices least before : ℕ) → ℕ
+boundariesRefusal e scratch weights vertices least before =
+    queryRefusal e (leb (e .counts .vertices) weights && (leb (e .counts .vertices) vertices && (leb (e .counts .vertices) least && (leb (e .counts .vertices) before && scratch)))) true 0
 
 -- the answer, and both columns
 pub record BoundariesStep (e : Engine) (scratch : Bool) (least before : ℕ) (r : Done) (weights₀ : List ℤ) (vertices₀ : List ℕ) (weights : List ℤ) (vertices : List ℕ) : Type 0 where
-  pub answer : Answered (said r) (boundariesDoor e scratch (length weights₀) (length vertices₀) least before) tt tt
-  pub weights-left : weights
-      ≡ after (boundariesDoor e scratch (length weights₀) (length vertices₀) least before) (each (e .counts .vertices) (boundaryWeight (graphIn e) (weightsIn e))) weights₀
-  pub vertices-left : vertices
-      ≡ after (boundariesDoor e scratch (length weights₀) (length vertices₀) least before) (each (e .counts .vertices) (boundaryVertex (graphIn e) (weightsIn e))) vertices₀
+  pub answer : Answered (said r) (boundariesRefusal e scratch (length weights₀) (length vertices₀) least before) tt tt
+  pub weights-after : weights
+      ≡ after (boundariesRefusal e scratch (length weights₀) (length vertices₀) least before) (each (e .counts .vertices) (boundaryWeight (graphIn e) (weightsIn e))) weights₀
+  pub vertices-after : vertices
+      ≡ after (boundariesRefusal e scratch (length weights₀) (length vertices₀) least before) (each (e .counts .vertices) (boundaryVertex (graphIn e) (weightsIn e))) vertices₀
 
 -- a refused call leaves the two first scratch columns as they were
 abbrev pub FirstKept : Done → (least₀ least : List ℤ) (before₀ before : List ℕ) → Type 0

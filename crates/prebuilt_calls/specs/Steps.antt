@@ -6,13 +6,13 @@ use mathlib.Core.List.{List}
 use lib.ListN.{length}
 use lib.IntN.{ℤ}
 use Rattle.engine_columns.specs.Records.{Engine}
-use Rattle.engine_columns.specs.Door.{longEnough, sound}
+use Rattle.engine_columns.specs.Questions.{engineLong, engineSound}
 use Rattle.query_questions.specs.Queries.{scratchLong}
 
 -- an engine graph that 6 and 7 accept, with room in every column lent
 pub record Fillable (e : Engine) (weights vertices least before numbers ends status weight previous node leaf : ℕ) : Type 0 where
-  pub long : longEnough 0 e ≡ true
-  pub is-sound : sound e ≡ true
+  pub long : engineLong 0 e ≡ true
+  pub is-sound : engineSound e ≡ true
   pub weights-fit : e .counts .vertices ≤ weights
   pub vertices-fit : e .counts .vertices ≤ vertices
   pub least-fits : e .counts .vertices ≤ least

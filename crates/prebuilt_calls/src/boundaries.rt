@@ -16,7 +16,7 @@ use columns::questions::at_most;
 use columns::questions::both;
 use engine_columns::EngineCounts;
 use prebuilt_entries::boundaries::store_boundary;
-use query_questions::query_door;
+use query_questions::query_refusal;
 use query_questions::scratch_long;
 use query_tables::all_edges;
 
@@ -178,7 +178,7 @@ pub fn fill_boundaries(
         at_most(v, out_weight.len()),
         both(at_most(v, out_vertex.len()), search),
     );
-    let no = query_door(
+    let no = query_refusal(
         c,
         ends_a,
         ends_b,

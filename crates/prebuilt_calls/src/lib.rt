@@ -14,7 +14,7 @@ use columns::questions::at_most;
 use columns::questions::both;
 use engine_columns::EngineCounts;
 use prebuilt_entries::rows::write_row;
-use query_questions::query_door;
+use query_questions::query_refusal;
 use query_questions::scratch_long;
 use query_tables::all_edges;
 
@@ -67,7 +67,7 @@ pub fn fill_row(
             both(at_most(v, before.len()), scratch),
         ),
     );
-    let no = query_door(
+    let no = query_refusal(
         c,
         ends_a,
         ends_b,

@@ -7,7 +7,7 @@ ghost use Rattle.columns_answers.specs.Done.{said};
 ghost use Rattle.engine_columns.specs.Records.{engine};
 ghost use Rattle.query_tables.specs.declared.End.the-variants.{None};
 ghost use Rattle.query_questions.specs.Queries.{scratchLong, graphIn, weightsIn};
-ghost use Rattle.query_tables.specs.Steps.{tableDoor};
+ghost use Rattle.query_tables.specs.Steps.{tableRefusal};
 ghost use Rattle.query_questions.specs.Scratch.{scratchOf};
 ghost use Rattle.prebuilt_entries.specs.Nearest.{boundaryIn};
 ghost use Rattle.prebuilt_calls.specs.Nearest.{said as boundary-said, boundaryFound, BoundarySaid, BoundaryKept};
@@ -72,7 +72,7 @@ pub fn get_boundary_weight(
     node: &mut [u64],
     leaf: &mut [u64],
 ) -> BoundaryAnswer
-    ensures { λ r. ⌜ BoundarySaid (tableDoor (engine c (now («ends_a» .entry)) (now («ends_b» .entry)) (now (weights .entry)) (now (boundary .entry)) (now («log_edges» .entry)) (now («log_weights» .entry)))
+    ensures { λ r. ⌜ BoundarySaid (tableRefusal (engine c (now («ends_a» .entry)) (now («ends_b» .entry)) (now (weights .entry)) (now (boundary .entry)) (now («log_edges» .entry)) (now («log_weights» .entry)))
         (scratchLong (c .vertices) (c .edges) (length (now (numbers .entry))) (length (now («list_ends» .entry))) (length (now (status .entry))) (length (now (weight .entry))) (length (now (previous .entry))) (length (now (node .entry))) (length (now (leaf .entry))))
         (vertex .0) None (length (now (least .entry))) (length (now (before .entry))))
         (graphIn (engine c (now («ends_a» .entry)) (now («ends_b» .entry)) (now (weights .entry)) (now (boundary .entry)) (now («log_edges» .entry)) (now («log_weights» .entry))))

@@ -11,7 +11,7 @@ use Rattle.columns.specs.Lists.{after}
 use Rattle.columns.specs.Questions.{ask}
 use Rattle.columns_answers.specs.Said.{Said, accepts, refuses, Answered}
 use Rattle.engine_columns.specs.Records.{Engine}
-use Rattle.engine_columns.specs.Door.{longEnough, sound}
+use Rattle.engine_columns.specs.Questions.{engineLong, engineSound}
 use Rattle.engine_walks.specs.Answers.{crossing, fromLeft, leastFromLeft}
 use Rattle.query_crossing_answer.specs.declared.CrossingReply.{CrossingReply}
 use Rattle.query_crossing_answer.specs.declared.CrossingReply.the-variants.{Crossed, Refused}
@@ -40,17 +40,17 @@ weightFound none = 0
 weightFound (some weight) = weight
 
 -- 6 and 7 of a crossing, and the question after them; `scratch` says whether scratch is long enough
-abbrev pub crossingDoor : Engine → (scratch : Bool) (weights next : ℕ) → ℕ
-crossingDoor e scratch weights next = ask (longEnough 0 e && (leb (e .counts .vertices) weights && scratch)) 6 (ask (sound e) 7 next)
+abbrev pub crossingAsked : Engine → (scratch : Bool) (weights next : ℕ) → ℕ
+crossingAsked e scratch weights next = ask (engineLong 0 e && (leb (e .counts .vertices) weights && scratch)) 6 (ask (engineSound e) 7 next)
 
 -- the number of the first question of a crossing that is not met, or 0
-abbrev pub crossingNumber : Engine → (scratch : Bool) (weights : ℕ) → ℕ
-crossingNumber e scratch weights = crossingDoor e scratch weights (ask (isJoined (crossing (graphIn e) (weightsIn e))) 18 0)
+abbrev pub crossingRefusal : Engine → (scratch : Bool) (weights : ℕ) → ℕ
+crossingRefusal e scratch weights = crossingAsked e scratch weights (ask (isJoined (crossing (graphIn e) (weightsIn e))) 18 0)
 
 -- the answer, and the weight column
 pub record CrossingStep (e : Engine) (scratch : Bool) (r : CrossingReply) (weights₀ weights : List ℤ) : Type 0 where
-  pub answer : Answered (said r) (crossingNumber e scratch (length weights₀)) (weightFound (crossing (graphIn e) (weightsIn e))) 0
-  pub weights-left : weights ≡ after (crossingNumber e scratch (length weights₀)) (leastFromLeft (graphIn e) (weightsIn e)) weights₀
+  pub answer : Answered (said r) (crossingRefusal e scratch (length weights₀)) (weightFound (crossing (graphIn e) (weightsIn e))) 0
+  pub weights-after : weights ≡ after (crossingRefusal e scratch (length weights₀)) (leastFromLeft (graphIn e) (weightsIn e)) weights₀
 
 -- scratch: what the search from the left leaves, after success and after 18; a call that 6 or 7 refuses leaves it as it was
 abbrev pub CrossingScratch : Engine → CrossingReply → ScratchColumns → ScratchColumns → Type 0

@@ -10,12 +10,12 @@ ghost use Rattle.engine_walks.specs.Settling.{firstLeast, weightAt};
 ghost use Rattle.engine_walks.specs.Answers.{taken, weightOf};
 ghost use Rattle.query_relaxing.specs.Ready.{stateOf, sumLimit};
 ghost use Rattle.query_crossing_answer.specs.Codes.{codeOf};
-ghost use Rattle.query_crossing_answer.specs.Crossing.{crossingDoor};
+ghost use Rattle.query_crossing_answer.specs.Crossing.{crossingAsked};
 use columns::Weight;
 use columns::questions::at_most;
 use columns::questions::both;
 use engine_columns::EngineCounts;
-use query_questions::query_door;
+use query_questions::query_refusal;
 
 // The crossing weight, or the number of the question that is not met.
 pub enum CrossingReply {
@@ -55,7 +55,7 @@ pub fn nearest_right(status: &[u8], weight: &[Weight], boundary: &[u8]) -> Weigh
 }
 
 // Questions 6 and 7 of a crossing.
-pub fn crossing_door(
+pub fn crossing_asked(
     c: EngineCounts,
     ends_a: &[u32],
     ends_b: &[u32],
@@ -66,10 +66,10 @@ pub fn crossing_door(
     out: usize,
     scratch: bool,
 ) -> u32
-    ensures { λ r. ⌜ r ≡ crossingDoor (engine c (now («ends_a» .entry)) (now («ends_b» .entry)) (now (weights .entry)) (now (boundary .entry)) (now («log_edges» .entry)) (now («log_weights» .entry))) scratch out 0 ⌝ }
+    ensures { λ r. ⌜ r ≡ crossingAsked (engine c (now («ends_a» .entry)) (now («ends_b» .entry)) (now (weights .entry)) (now (boundary .entry)) (now («log_edges» .entry)) (now («log_weights» .entry))) scratch out 0 ⌝ }
 {
     let fits = both(at_most(c.vertices as usize, out), scratch);
-    query_door(
+    query_refusal(
         c,
         ends_a,
         ends_b,

@@ -1,4 +1,4 @@
--- What the nearest right vertex says of a crossing, and the door. Assumes nothing.
+-- What the nearest right vertex says of a crossing, and its questions. Assumes nothing.
 use mathlib.Core.Path.{_≡_, refl, sym, ap, _∙_, subst}
 use mathlib.Core.Bool.{Bool, true, false, _&&_, cond}
 use mathlib.Core.List.{List}
@@ -19,17 +19,17 @@ use Rattle.columns.proofs.Tests.{and-both}
 use Rattle.engine_columns.specs.Records.{Engine}
 use Rattle.columns_answers.specs.Said.{Answered}
 use Rattle.columns_answers.proofs.Said.{accepts-of, refuses-of}
-use Rattle.engine_columns.specs.Door.{longEnough, sound}
-use Rattle.engine_columns.proofs.Doors.{Long, long-of, Sound, sound-of, met-of, next-of}
+use Rattle.engine_columns.specs.Questions.{engineLong, engineSound}
+use Rattle.engine_columns.proofs.Refusals.{Long, long-of, Sound, sound-of, met-of, next-of}
 use Rattle.engine_walks.specs.Lists.{bit, delta}
 use Rattle.engine_walks.specs.Graph.{Graph}
 use Rattle.engine_walks.specs.Settling.{State, weightAt, lesser, firstLeast, settled}
-use Rattle.engine_walks.specs.Answers.{left, taken, tableWeight, weightOf, fromLeft, leastFromLeft, nearestRight, crossing}
+use Rattle.engine_walks.specs.Answers.{isLeft, taken, tableWeight, weightOf, fromLeft, leastFromLeft, nearestRight, crossing}
 use Rattle.query_relaxing.specs.Ready.{graphOf, sources, endOf, sumLimit}
 use Rattle.query_crossing_answer.specs.declared.CrossingReply.{CrossingReply}
 use Rattle.query_crossing_answer.specs.declared.CrossingReply.the-variants.{Crossed, Refused}
 use Rattle.query_search.specs.Search.{Waiting, Searched}
-use Rattle.query_crossing_answer.specs.Crossing.{isJoined, weightFound, said, crossingDoor}
+use Rattle.query_crossing_answer.specs.Crossing.{isJoined, weightFound, said, crossingAsked}
 use Rattle.query_crossing_answer.specs.Codes.{Coded, wherever, codeOf}
 use Rattle.query_questions.specs.Scratch.{isFree}
 
@@ -72,7 +72,7 @@ module _ (n : ℕ) (a b m : List ℕ) (fits : length m ≡ n) where
       go true = refl
       go false = refl
 
-  pub sources-left : sources first ≡ left (graphOf n a b m)
+  pub sources-left : sources first ≡ isLeft (graphOf n a b m)
   sources-left = λ i v. one v i
     where
       one : (v : ℕ) → eqb (getD first v 0) 1 ≡ eqb (getD m v 0) 1
@@ -101,20 +101,20 @@ module _ (n : ℕ) (a b m : List ℕ) (fits : length m ≡ n) where
   pub settled-left : (w : ℕ → ℕ) → settled (graphOf n a b m) w (sources first) (endOf n n) ≡ fromLeft (graphOf n a b m) w
   unfolding fromLeft
   settled-left w = ap (λ f. settled (graphOf n a b m) w f (endOf n n)) sources-left
-      ∙ ap (λ k. settled (graphOf n a b m) w (left (graphOf n a b m)) (cond k (some n) none)) (le-ltb n n (omega arith))
+      ∙ ap (λ k. settled (graphOf n a b m) w (isLeft (graphOf n a b m)) (cond k (some n) none)) (le-ltb n n (omega arith))
 
--- ---- the door
+-- ---- the questions
 
-pub door-passed : (e : Engine) (scratch : Bool) (weights next : ℕ) → crossingDoor e scratch weights 0 ≡ 0 → crossingDoor e scratch weights next ≡ next
-door-passed e scratch weights next z = go (longEnough 0 e && (leb (e .counts .vertices) weights && scratch)) (sound e) z
+pub refusal-passed : (e : Engine) (scratch : Bool) (weights next : ℕ) → crossingAsked e scratch weights 0 ≡ 0 → crossingAsked e scratch weights next ≡ next
+refusal-passed e scratch weights next z = go (engineLong 0 e && (leb (e .counts .vertices) weights && scratch)) (engineSound e) z
   where
     go : (p q : Bool) → ask p 6 (ask q 7 0) ≡ 0 → ask p 6 (ask q 7 next) ≡ next
     go true true z = refl
     go true false z = absurd (omega arith)
     go false q z = absurd (omega arith)
 
-pub door-refused : (e : Engine) (scratch : Bool) (weights next : ℕ) → (crossingDoor e scratch weights 0 ≡ 0 → ⊥) → crossingDoor e scratch weights next ≡ crossingDoor e scratch weights 0
-door-refused e scratch weights next f = go (longEnough 0 e && (leb (e .counts .vertices) weights && scratch)) (sound e) f
+pub refusal-refused : (e : Engine) (scratch : Bool) (weights next : ℕ) → (crossingAsked e scratch weights 0 ≡ 0 → ⊥) → crossingAsked e scratch weights next ≡ crossingAsked e scratch weights 0
+refusal-refused e scratch weights next f = go (engineLong 0 e && (leb (e .counts .vertices) weights && scratch)) (engineSound e) f
   where
     go : (p q : Bool) → (ask p 6 (ask q 7 0) ≡ 0 → ⊥) → ask p 6 (ask q 7 next) ≡ ask p 6 (ask q 7 0)
     go true true f = absurd (f refl)
@@ -125,19 +125,19 @@ pub record CrossingAsked (e : Engine) (scratch : Bool) (weights : ℕ) : Type 0 
   pub long : Long 0 e
   pub weights-long : e .counts .vertices ≤ weights
   pub scratch-is : scratch ≡ true
-  pub sound : Sound e
+  pub engineSound : Sound e
 
-pub crossing-of : (e : Engine) (scratch : Bool) (weights : ℕ) → crossingDoor e scratch weights 0 ≡ 0 → CrossingAsked e scratch weights
+pub crossing-of : (e : Engine) (scratch : Bool) (weights : ℕ) → crossingAsked e scratch weights 0 ≡ 0 → CrossingAsked e scratch weights
 crossing-of e scratch weights z =
     let fits = leb (e .counts .vertices) weights && scratch in
-    let q2 = ask (sound e) 7 0 in
-    let (p, q) = and-both (longEnough 0 e) fits (met-of (longEnough 0 e && fits) 6 q2 (omega arith) z) in
+    let q2 = ask (engineSound e) 7 0 in
+    let (p, q) = and-both (engineLong 0 e) fits (met-of (engineLong 0 e && fits) 6 q2 (omega arith) z) in
     let (w, s) = and-both (leb (e .counts .vertices) weights) scratch q in
     record {
       long = long-of 0 e p;
       weights-long = leb-true _ _ w;
       scratch-is = s;
-      sound = sound-of e (met-of (sound e) 7 0 (omega arith) (next-of (longEnough 0 e && fits) 6 q2 (omega arith) z));
+      sound = sound-of e (met-of (engineSound e) 7 0 (omega arith) (next-of (engineLong 0 e && fits) 6 q2 (omega arith) z));
     }
 
 -- ---- what a settled state says of the crossing
@@ -182,8 +182,8 @@ free-number none = refl
 free-number (some w) = refl
 
 -- 6 and 7 leave it as it was
-pub kept-number : (e : Engine) (scratch : Bool) (weights : ℕ) → (crossingDoor e scratch weights 0 ≡ 0 → ⊥) → isFree (crossingDoor e scratch weights 0) ≡ false
-kept-number e scratch weights f = go (longEnough 0 e && (leb (e .counts .vertices) weights && scratch)) (sound e) f
+pub kept-number : (e : Engine) (scratch : Bool) (weights : ℕ) → (crossingAsked e scratch weights 0 ≡ 0 → ⊥) → isFree (crossingAsked e scratch weights 0) ≡ false
+kept-number e scratch weights f = go (engineLong 0 e && (leb (e .counts .vertices) weights && scratch)) (engineSound e) f
   where
     go : (p q : Bool) → (ask p 6 (ask q 7 0) ≡ 0 → ⊥) → isFree (ask p 6 (ask q 7 0)) ≡ false
     go true true f = absurd (f refl)

@@ -19,7 +19,7 @@ use columns::Weight;
 use engine_columns::EngineCounts;
 use query_crossing_answer::CrossingReply;
 use query_crossing_answer::NO_WEIGHT;
-use query_crossing_answer::crossing_door;
+use query_crossing_answer::crossing_asked;
 use query_crossing_answer::nearest_right;
 use query_crossing_answer::reply;
 use query_questions::scratch_long;
@@ -119,7 +119,7 @@ pub fn crossing(
         node.len(),
         leaf.len(),
     );
-    let no = crossing_door(
+    let no = crossing_asked(
         c,
         ends_a,
         ends_b,

@@ -14,7 +14,7 @@ use Rattle.engine_columns.specs.Records.{Engine}
 use Rattle.engine_walks.specs.Answers.{FoundPath, path}
 use Rattle.query_paths.specs.declared.PathAnswer.{PathAnswer}
 use Rattle.query_paths.specs.declared.PathAnswer.the-variants.{Found, Refused}
-use Rattle.query_questions.specs.Queries.{graphIn, weightsIn, queryDoor}
+use Rattle.query_questions.specs.Queries.{graphIn, weightsIn, queryRefusal}
 use Rattle.query_questions.specs.Scratch.{ScratchColumns}
 
 -- document 01's number and values for each case: the path's length and total, both 0 at a refusal
@@ -29,9 +29,9 @@ abbrev pub totalOf : PathAnswer → ℕ
 totalOf r = said r .values .1
 
 -- the number of the first question before 17 that is not met, or 0: 6, 7, 13, 16; `scratch` says whether scratch is long enough
-abbrev pub pathDoor : Engine → (scratch : Bool) (a b vertices steps : ℕ) → ℕ
-pathDoor e scratch a b vertices steps =
-    queryDoor e (leb (e .counts .vertices) vertices && (leb (e .counts .vertices) steps && scratch)) (ltb a (e .counts .vertices) && ltb b (e .counts .vertices))
+abbrev pub pathAsked : Engine → (scratch : Bool) (a b vertices steps : ℕ) → ℕ
+pathAsked e scratch a b vertices steps =
+    queryRefusal e (leb (e .counts .vertices) vertices && (leb (e .counts .vertices) steps && scratch)) (ltb a (e .counts .vertices) && ltb b (e .counts .vertices))
     (ask (not (eqb a b)) 16 0)
 
 -- 17: whether there is a path; its length and total, 0 if there is none
@@ -43,14 +43,14 @@ abbrev pub lengthAndTotal : Option FoundPath → ℕ × ℕ
 lengthAndTotal none = (0, 0)
 lengthAndTotal (some p) = (length (p .vertices), p .total)
 
--- the number of the first question that is not met, or 0: the door's, then 17
-abbrev pub pathNumber : (door : ℕ) → Option FoundPath → ℕ
-pathNumber zero p = ask (isFound p) 17 0
-pathNumber (suc n) p = suc n
+-- the number of the first question that is not met, or 0: the earlier ones, then 17
+abbrev pub pathRefusal : (refusal : ℕ) → Option FoundPath → ℕ
+pathRefusal zero p = ask (isFound p) 17 0
+pathRefusal (suc n) p = suc n
 
--- the answer, where the door's number and the path are known
-abbrev pub PathSaid : (door : ℕ) → Option FoundPath → PathAnswer → Type 0
-PathSaid door p r = Answered (said r) (pathNumber door p) (lengthAndTotal p) (0, 0)
+-- the answer, where the number before 17 and the path are known
+abbrev pub PathSaid : (refusal : ℕ) → Option FoundPath → PathAnswer → Type 0
+PathSaid refusal p r = Answered (said r) (pathRefusal refusal p) (lengthAndTotal p) (0, 0)
 
 -- the columns after a search: places past the path's length are unchanged, and all places where there is no path
 abbrev pub verticesAfter : Option FoundPath → List ℕ → List ℕ
@@ -63,9 +63,9 @@ stepsAfter (some p) column = over (p .steps) column
 
 -- the answer, and both columns of the path
 pub record PathStep (e : Engine) (scratch : Bool) (a b : ℕ) (r : PathAnswer) (vertices₀ steps₀ vertices steps : List ℕ) : Type 0 where
-  pub answer : PathSaid (pathDoor e scratch a b (length vertices₀) (length steps₀)) (path (graphIn e) (weightsIn e) a b) r
-  pub vertices-left : vertices ≡ cond (eqb (pathDoor e scratch a b (length vertices₀) (length steps₀)) 0) (verticesAfter (path (graphIn e) (weightsIn e) a b) vertices₀) vertices₀
-  pub steps-left : steps ≡ cond (eqb (pathDoor e scratch a b (length vertices₀) (length steps₀)) 0) (stepsAfter (path (graphIn e) (weightsIn e) a b) steps₀) steps₀
+  pub answer : PathSaid (pathAsked e scratch a b (length vertices₀) (length steps₀)) (path (graphIn e) (weightsIn e) a b) r
+  pub vertices-after : vertices ≡ cond (eqb (pathAsked e scratch a b (length vertices₀) (length steps₀)) 0) (verticesAfter (path (graphIn e) (weightsIn e) a b) vertices₀) vertices₀
+  pub steps-after : steps ≡ cond (eqb (pathAsked e scratch a b (length vertices₀) (length steps₀)) 0) (stepsAfter (path (graphIn e) (weightsIn e) a b) steps₀) steps₀
 
 -- a refused call leaves scratch as it was, unless its number is 17; after 17 and after success it may hold anything
 abbrev pub PathScratchKept : PathAnswer → ScratchColumns → ScratchColumns → Type 0

@@ -17,7 +17,7 @@ use columns::questions::asked;
 use columns::questions::at_most;
 use columns::questions::both;
 use engine_columns::EngineCounts;
-use query_questions::query_door;
+use query_questions::query_refusal;
 use query_questions::scratch_long;
 use query_read_back::is_taken;
 use query_read_back::load;
@@ -150,7 +150,7 @@ pub fn get_path(
         both(at_most(v, out_steps.len()), scratch),
     );
     let in_range = both(a.0 < c.vertices, b.0 < c.vertices);
-    let no = query_door(
+    let no = query_refusal(
         c,
         ends_a,
         ends_b,

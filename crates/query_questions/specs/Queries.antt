@@ -5,7 +5,7 @@ use lib.ListN.{take, getD}
 use lib.Dec.{leb}
 use Rattle.columns.specs.Questions.{ask}
 use Rattle.engine_columns.specs.Records.{Engine}
-use Rattle.engine_columns.specs.Door.{longEnough, sound}
+use Rattle.engine_columns.specs.Questions.{engineLong, engineSound}
 use Rattle.engine_walks.specs.Graph.{Graph}
 
 -- the graph in the columns, without the places past the counts
@@ -27,5 +27,5 @@ scratchLong v e numbers ends status weight previous node leaf =
     leb (2 * e) numbers && (leb v ends && (leb v status && (leb v weight && (leb v previous && (leb v node && leb v leaf)))))
 
 -- 6, 7 and 13 of a query, then its later questions: `fits` says whether output and scratch columns are long enough, `inRange` whether the numbers handed over are
-abbrev pub queryDoor : Engine → (fits inRange : Bool) (next : ℕ) → ℕ
-queryDoor e fits inRange next = ask (longEnough 0 e && fits) 6 (ask (sound e) 7 (ask inRange 13 next))
+abbrev pub queryRefusal : Engine → (fits inRange : Bool) (next : ℕ) → ℕ
+queryRefusal e fits inRange next = ask (engineLong 0 e && fits) 6 (ask (engineSound e) 7 (ask inRange 13 next))

@@ -40,12 +40,12 @@ isFree n = eqb n 0 || (eqb n 17 || eqb n 18)
 -- What holds of scratch after a search of the graph g that settled in the state s. The first places hold: the neighbour lists, one after another, and where each ends; the state's
 -- columns; the keys of the vertices that wait, in a tree of least keys. The places past the vertices, and past the lists, which are twice the edges, are as they were.
 pub record SearchLeft (g : Graph) (s : State) (scratch₀ scratch : ScratchColumns) : Type 0 where
-  pub numbers-left : scratch .numbers ≡ over (lists (g .endsA) (g .endsB) (edges g) (g .vertices)) (scratch₀ .numbers)
-  pub ends-left : scratch .ends ≡ over (each (g .vertices) (λ v. length (lists (g .endsA) (g .endsB) (edges g) (v + 1)))) (scratch₀ .ends)
-  pub status-left : scratch .status ≡ over (s .status) (scratch₀ .status)
-  pub weight-left : scratch .weight ≡ over (s .weight) (scratch₀ .weight)
-  pub previous-left : scratch .previous ≡ over (s .previous) (scratch₀ .previous)
-  pub leaf-left : scratch .leaf ≡ over (each (g .vertices) (λ v. keyOf (statusAt s v) (weightAt s v) v)) (scratch₀ .leaf)
+  pub numbers-after : scratch .numbers ≡ over (lists (g .endsA) (g .endsB) (edges g) (g .vertices)) (scratch₀ .numbers)
+  pub ends-after : scratch .ends ≡ over (each (g .vertices) (λ v. length (lists (g .endsA) (g .endsB) (edges g) (v + 1)))) (scratch₀ .ends)
+  pub status-after : scratch .status ≡ over (s .status) (scratch₀ .status)
+  pub weight-after : scratch .weight ≡ over (s .weight) (scratch₀ .weight)
+  pub previous-after : scratch .previous ≡ over (s .previous) (scratch₀ .previous)
+  pub leaf-after : scratch .leaf ≡ over (each (g .vertices) (λ v. keyOf (statusAt s v) (weightAt s v) v)) (scratch₀ .leaf)
   pub node-past : drop (g .vertices) (scratch .node) ≡ drop (g .vertices) (scratch₀ .node)
   pub node-tree : Tree (scratch .node) (scratch .leaf) (g .vertices)
 

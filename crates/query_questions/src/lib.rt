@@ -3,7 +3,7 @@ ghost use mathlib.Core.Path.{_≡_};
 ghost use mathlib.Core.Bool.{cond};
 ghost use lib.Dec.{eqb};
 ghost use Rattle.engine_columns.specs.Records.{engine};
-ghost use Rattle.query_questions.specs.Queries.{scratchLong, queryDoor};
+ghost use Rattle.query_questions.specs.Queries.{scratchLong, queryRefusal};
 use columns::VertexIndex;
 use columns::Weight;
 use columns::questions::asked;
@@ -48,7 +48,7 @@ pub fn scratch_long(
 }
 
 // Questions 6, 7 and 13 of a query, then `next`, the number of its later questions.
-pub fn query_door(
+pub fn query_refusal(
     c: EngineCounts,
     ends_a: &[u32],
     ends_b: &[u32],
@@ -60,7 +60,7 @@ pub fn query_door(
     in_range: bool,
     next: u32,
 ) -> u32
-    ensures { λ r. ⌜ r ≡ queryDoor (engine c (now («ends_a» .entry)) (now («ends_b» .entry)) (now (weights .entry)) (now (boundary .entry)) (now («log_edges» .entry)) (now («log_weights» .entry))) fits «in_range» next ⌝ }
+    ensures { λ r. ⌜ r ≡ queryRefusal (engine c (now («ends_a» .entry)) (now («ends_b» .entry)) (now (weights .entry)) (now (boundary .entry)) (now («log_edges» .entry)) (now («log_weights» .entry))) fits «in_range» next ⌝ }
 {
     let long = long_enough(
         c,

@@ -10,7 +10,7 @@ use borrow.Author.Tests.{lt-ltb, le-ltb}
 use lib.Dec.{ltb}
 use lib.ListN.{length, getD, set}
 use lib.Seq.{getD-set-same, getD-set-other}
-use Rattle.query_queue.specs.Tree.{placeOf, Inner, Tree, TreeBut, Room, Least, Same}
+use Rattle.query_queue.specs.Tree.{placeOf, Inner, Tree, TreeBut, TreeRoom, Least, Same}
 use Rattle.query_queue.proofs.Cases.{by-lt, by-eq}
 
 pub inner-is : (node leaf : List ℕ) (n j : ℕ) → j < n → placeOf node leaf n j ≡ getD node j 0

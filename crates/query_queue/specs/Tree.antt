@@ -27,8 +27,8 @@ abbrev pub TreeBut : List ℕ → List ℕ → ℕ → ℕ → Type 0
 TreeBut node leaf n i = (k : ℕ) → 0 < k → k < n → (k ≡ i → ⊥) → Inner node leaf n k
 
 -- the columns have room for n numbers
-abbrev pub Room : List ℕ → List ℕ → ℕ → Type 0
-Room node leaf n = (n ≤ length node) × (n ≤ length leaf)
+abbrev pub TreeRoom : List ℕ → List ℕ → ℕ → Type 0
+TreeRoom node leaf n = (n ≤ length node) × (n ≤ length leaf)
 
 -- x is the least of the first n entries, and one of them
 pub record Least (leaf : List ℕ) (n x : ℕ) : Type 0 where

@@ -2,7 +2,7 @@
 ghost use mathlib.Core.Path.{_≡_};
 ghost use Prim.Native.Nat.{ℕ, _+_, _*_, _<_, _≤_, min};
 ghost use lib.ListN.{length, getD, set};
-ghost use Rattle.query_queue.specs.Tree.{placeOf, Tree, TreeBut, Room, Least, Same};
+ghost use Rattle.query_queue.specs.Tree.{placeOf, Tree, TreeBut, TreeRoom, Least, Same};
 
 pub fn lesser(a: u64, b: u64) -> u64
     ensures { λ r. ⌜ r ≡ min a b ⌝ }
@@ -12,7 +12,7 @@ pub fn lesser(a: u64, b: u64) -> u64
 
 // What stands at place j.
 pub fn place(node: &[u64], leaf: &[u64], n: usize, j: usize) -> u64
-    requires { ⌜ Room (now node) (now leaf) n ⌝ ∗ ⌜ j < n + n ⌝ ∗ ⌜ n ≤ 4096 ⌝ }
+    requires { ⌜ TreeRoom (now node) (now leaf) n ⌝ ∗ ⌜ j < n + n ⌝ ∗ ⌜ n ≤ 4096 ⌝ }
     ensures { λ r. ⌜ r ≡ placeOf (now (node .entry)) (now (leaf .entry)) n j ⌝ }
 {
     if j < n {
@@ -23,7 +23,7 @@ pub fn place(node: &[u64], leaf: &[u64], n: usize, j: usize) -> u64
 
 // Makes the places from place `from` upwards hold the lesser of their children again, up to the first that holds it already.
 fn raise(node: &mut [u64], leaf: &[u64], n: usize, from: usize)
-    requires { ⌜ Room (now node) (now leaf) n ⌝ ∗ ⌜ from < n ⌝ ∗ ⌜ n ≤ 4096 ⌝ ∗ ⌜ TreeBut (now node) (now leaf) n from ⌝ }
+    requires { ⌜ TreeRoom (now node) (now leaf) n ⌝ ∗ ⌜ from < n ⌝ ∗ ⌜ n ≤ 4096 ⌝ ∗ ⌜ TreeBut (now node) (now leaf) n from ⌝ }
     ensures { λ _. ⌜ Tree (now (node .exit)) (now (leaf .entry)) n ⌝ }
     ensures { λ _. ⌜ length (now (node .exit)) ≡ length (now (node .entry)) ⌝ }
 {
@@ -42,7 +42,7 @@ fn raise(node: &mut [u64], leaf: &[u64], n: usize, from: usize)
 
 // Puts the key of number v.
 pub fn put(node: &mut [u64], leaf: &mut [u64], n: usize, v: usize, key: u64)
-    requires { ⌜ Room (now node) (now leaf) n ⌝ ∗ ⌜ v < n ⌝ ∗ ⌜ n ≤ 4096 ⌝ ∗ ⌜ Tree (now node) (now leaf) n ⌝ }
+    requires { ⌜ TreeRoom (now node) (now leaf) n ⌝ ∗ ⌜ v < n ⌝ ∗ ⌜ n ≤ 4096 ⌝ ∗ ⌜ Tree (now node) (now leaf) n ⌝ }
     ensures { λ _. ⌜ Tree (now (node .exit)) (now (leaf .exit)) n ⌝ }
     ensures { λ _. ⌜ now (leaf .exit) ≡ set (now (leaf .entry)) v key ⌝ }
     ensures { λ _. ⌜ length (now (node .exit)) ≡ length (now (node .entry)) ⌝ }
@@ -53,7 +53,7 @@ pub fn put(node: &mut [u64], leaf: &mut [u64], n: usize, v: usize, key: u64)
 
 // The least key.
 pub fn least(node: &[u64], leaf: &[u64], n: usize) -> u64
-    requires { ⌜ Room (now node) (now leaf) n ⌝ ∗ ⌜ 0 < n ⌝ ∗ ⌜ n ≤ 4096 ⌝ ∗ ⌜ Tree (now node) (now leaf) n ⌝ }
+    requires { ⌜ TreeRoom (now node) (now leaf) n ⌝ ∗ ⌜ 0 < n ⌝ ∗ ⌜ n ≤ 4096 ⌝ ∗ ⌜ Tree (now node) (now leaf) n ⌝ }
     ensures { λ r. ⌜ Least (now (leaf .entry)) n r ⌝ }
 {
     place(node, leaf, n, 1)
@@ -64,7 +64,7 @@ pub const NONE: u64 = 18446744073709551615;
 
 // Gives every number below n the key NONE.
 pub fn clear(node: &mut [u64], leaf: &mut [u64], n: usize)
-    requires { ⌜ Room (now node) (now leaf) n ⌝ ∗ ⌜ n ≤ 4096 ⌝ }
+    requires { ⌜ TreeRoom (now node) (now leaf) n ⌝ ∗ ⌜ n ≤ 4096 ⌝ }
     ensures { λ _. ⌜ Tree (now (node .exit)) (now (leaf .exit)) n ⌝ }
     ensures { λ _. ⌜ Same (now (leaf .exit)) n 18446744073709551615 ⌝ }
     ensures { λ _. ⌜ length (now (node .exit)) ≡ length (now (node .entry)) ⌝ }

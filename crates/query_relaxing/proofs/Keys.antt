@@ -15,7 +15,7 @@ use Rattle.query_queue.specs.Tree as Q
 use Rattle.engine_walks.specs.Graph.{Graph, endA, endB}
 use Rattle.engine_walks.specs.Settling.{State, statusAt, weightAt, previousAt, changes, waits, mark, byStatus, offer, relaxEdge}
 use Rattle.engine_walks.proofs.TurnCases.{edge-from-a, edge-from-b}
-use Rattle.query_relaxing.specs.Ready.{keyOf, accepts, Ready, Listed, sumLimit, graphOf, weighs}
+use Rattle.query_relaxing.specs.Ready.{keyOf, takesUp, Ready, Listed, sumLimit, graphOf, weighs}
 
 -- a store into one place, read at any place
 stored : (l : List ℕ) (u x v : ℕ) → u < length l → ((v ≡ u) × (getD (set l u x) v 0 ≡ x)) ⊎ ((v ≡ u → ⊥) × (getD (set l u x) v 0 ≡ getD l v 0))
@@ -66,11 +66,11 @@ module _ {n : ℕ} {s : State} {node leaf : List ℕ} (r : Ready n s node leaf) 
   }
 
 -- an offer by what is accepted
-pub offer-by : (a q u k : ℕ) (s : State) → offer a q u k s ≡ cond (accepts (statusAt s u) (changes u k q (weightAt s u) (previousAt s u))) (waits u k a s) s
+pub offer-by : (a q u k : ℕ) (s : State) → offer a q u k s ≡ cond (takesUp (statusAt s u) (changes u k q (weightAt s u) (previousAt s u))) (waits u k a s) s
 unfolding offer byStatus
 offer-by a q u k s = go (statusAt s u) (changes u k q (weightAt s u) (previousAt s u))
   where
-    go : (x : ℕ) (b : Bool) → byStatus x b (waits u k a s) s ≡ cond (accepts x b) (waits u k a s) s
+    go : (x : ℕ) (b : Bool) → byStatus x b (waits u k a s) s ≡ cond (takesUp x b) (waits u k a s) s
     go zero b = refl
     go (suc zero) b = refl
     go (suc (suc x)) b = refl

@@ -34,10 +34,10 @@ abbrev pub sumLimit : ℕ
 sumLimit = 2147483648
 
 -- whether an offer is taken up, by the status of the vertex
-abbrev pub accepts : ℕ → Bool → Bool
-accepts zero change = true
-accepts (suc zero) change = change
-accepts (suc (suc n)) change = false
+abbrev pub takesUp : ℕ → Bool → Bool
+takesUp zero change = true
+takesUp (suc zero) change = change
+takesUp (suc (suc n)) change = false
 
 -- the columns hold a state of n vertices and the keys of those that wait, in a tree
 pub record Ready (n : ℕ) (s : State) (node leaf : List ℕ) : Type 0 where

@@ -7,7 +7,7 @@ ghost use Prim.Native.Nat.{ℕ, _+_, _<_};
 ghost use lib.ListN.{length, getD};
 ghost use lib.Dec.{eqb};
 ghost use Rattle.engine_walks.specs.Settling.{changes, apart, waits, offer, relaxEdge};
-ghost use Rattle.query_relaxing.specs.Ready.{graphOf, weighs, stateOf, accepts, Ready, sumLimit};
+ghost use Rattle.query_relaxing.specs.Ready.{graphOf, weighs, stateOf, takesUp, Ready, sumLimit};
 use columns::Weight;
 
 // The amount by which two vertex numbers differ.
@@ -40,7 +40,7 @@ fn tie_rule(u: u32, k: Weight, q: u32, w: Weight, p: u32) -> bool
 
 // Whether an offer is taken up: by an absent vertex, by a waiting one that changes, by no taken one.
 fn is_accepted(status: u8, change: bool) -> bool
-    ensures { λ r. ⌜ r ≡ accepts status change ⌝ }
+    ensures { λ r. ⌜ r ≡ takesUp status change ⌝ }
 {
     if status == 0 {
         return true;

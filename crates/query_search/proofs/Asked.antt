@@ -15,9 +15,9 @@ use Rattle.columns.specs.Questions.{ask}
 use Rattle.columns.proofs.Tests.{and-both, within-at}
 use Rattle.columns_neighbors.proofs.Ends.{GraphSound, graph-says}
 use Rattle.engine_columns.specs.Records.{Engine}
-use Rattle.engine_columns.specs.Door.{longEnough, sound}
-use Rattle.engine_columns.proofs.Doors.{Long, long-of, Sound, sound-of, met-of, next-of}
-use Rattle.query_questions.specs.Queries.{scratchLong, queryDoor}
+use Rattle.engine_columns.specs.Questions.{engineLong, engineSound}
+use Rattle.engine_columns.proofs.Refusals.{Long, long-of, Sound, sound-of, met-of, next-of}
+use Rattle.query_questions.specs.Queries.{scratchLong, queryRefusal}
 use Rattle.query_search.specs.Search.{Searchable}
 
 pub record ScratchLong (v e numbers ends status weight previous node leaf : ℕ) : Type 0 where
@@ -53,21 +53,21 @@ scratch-of v e numbers ends status weight previous node leaf h =
 pub record QueryAsked (e : Engine) (fits inRange : Bool) (next : ℕ) : Type 0 where
   pub long : Long 0 e
   pub fits-are : fits ≡ true
-  pub sound : Sound e
+  pub engineSound : Sound e
   pub in-range : inRange ≡ true
   pub last : next ≡ 0
 
-pub query-of : (e : Engine) (fits inRange : Bool) (next : ℕ) → queryDoor e fits inRange next ≡ 0 → QueryAsked e fits inRange next
+pub query-of : (e : Engine) (fits inRange : Bool) (next : ℕ) → queryRefusal e fits inRange next ≡ 0 → QueryAsked e fits inRange next
 query-of e fits inRange next z =
     let q3 = ask inRange 13 next in
-    let q2 = ask (sound e) 7 q3 in
-    let (p, q) = and-both (longEnough 0 e) fits (met-of (longEnough 0 e && fits) 6 q2 (omega arith) z) in
-    let z2 = next-of (longEnough 0 e && fits) 6 q2 (omega arith) z in
-    let z3 = next-of (sound e) 7 q3 (omega arith) z2 in
+    let q2 = ask (engineSound e) 7 q3 in
+    let (p, q) = and-both (engineLong 0 e) fits (met-of (engineLong 0 e && fits) 6 q2 (omega arith) z) in
+    let z2 = next-of (engineLong 0 e && fits) 6 q2 (omega arith) z in
+    let z3 = next-of (engineSound e) 7 q3 (omega arith) z2 in
     record {
       long = long-of 0 e p;
       fits-are = q;
-      sound = sound-of e (met-of (sound e) 7 q3 (omega arith) z2);
+      sound = sound-of e (met-of (engineSound e) 7 q3 (omega arith) z2);
       in-range = met-of inRange 13 next (omega arith) z3;
       last = next-of inRange 13 next (omega arith) z3;
     }

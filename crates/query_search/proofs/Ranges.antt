@@ -8,11 +8,11 @@ use Rattle.columns.specs.Limits.{boundaryLimit}
 use Rattle.columns.proofs.Tests.{within-at}
 use Rattle.columns_neighbors.proofs.Ends.{GraphSound, graph-says}
 use Rattle.engine_columns.specs.Records.{Engine}
-use Rattle.engine_columns.proofs.Doors.{Long, Sound}
-use Rattle.engine_walks.specs.Graph.{InRange}
+use Rattle.engine_columns.proofs.Refusals.{Long, Sound}
+use Rattle.engine_walks.specs.Graph.{GraphInRange}
 use Rattle.query_questions.specs.Queries.{graphIn}
 
-pub in-range : (e : Engine) → Long 0 e → Sound e → InRange (graphIn e)
+pub in-range : (e : Engine) → Long 0 e → Sound e → GraphInRange (graphIn e)
 in-range e long ok =
     let g = graph-says (e .counts .vertices) (e .counts .edges) (e .endsA) (e .endsB) (ok .columns .graph) in
     let la = length-take-le (e .counts .edges) (e .endsA) (long .columns .endsA) in

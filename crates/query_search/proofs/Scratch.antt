@@ -63,12 +63,12 @@ search-left g s scratch₀ {ends = ends} {status} {weight} {previous} {node} {le
     let n : ℕ = g .vertices in
     let r = f .ready in
     record {
-      numbers-left = f .built .numbers-are;
-      ends-left = whole ends _ (scratch₀ .ends) n (column-is ends n (λ v. length (lists (g .endsA) (g .endsB) (edges g) (v + 1))) e (f .built .ends-are)) (length-each n _);
-      status-left = whole status (s .status) (scratch₀ .status) n (ap (λ t. t .status) (f .state)) (r .status-fits);
-      weight-left = whole weight (s .weight) (scratch₀ .weight) n (ap (λ t. t .weight) (f .state)) (r .weight-fits);
-      previous-left = whole previous (s .previous) (scratch₀ .previous) n (ap (λ t. t .previous) (f .state)) (r .previous-fits);
-      leaf-left = whole leaf _ (scratch₀ .leaf) n (column-is leaf n (λ v. keyOf (statusAt s v) (weightAt s v) v) (r .leaf-fits) (r .keys)) (length-each n _);
+      numbers-after = f .built .numbers-are;
+      ends-after = whole ends _ (scratch₀ .ends) n (column-is ends n (λ v. length (lists (g .endsA) (g .endsB) (edges g) (v + 1))) e (f .built .ends-are)) (length-each n _);
+      status-after = whole status (s .status) (scratch₀ .status) n (ap (λ t. t .status) (f .state)) (r .status-fits);
+      weight-after = whole weight (s .weight) (scratch₀ .weight) n (ap (λ t. t .weight) (f .state)) (r .weight-fits);
+      previous-after = whole previous (s .previous) (scratch₀ .previous) n (ap (λ t. t .previous) (f .state)) (r .previous-fits);
+      leaf-after = whole leaf _ (scratch₀ .leaf) n (column-is leaf n (λ v. keyOf (statusAt s v) (weightAt s v) v) (r .leaf-fits) (r .keys)) (length-each n _);
       node-past = drop-at node (drop n (scratch₀ .node)) n d;
       node-tree = tree-same node leaf _ _ n d (r .leaf-fits) (r .tree);
     }

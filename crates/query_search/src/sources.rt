@@ -3,7 +3,7 @@ ghost use mathlib.Core.Path.{_≡_};
 ghost use mathlib.Core.Bool.{cond};
 ghost use Prim.Native.Nat.{_+_, _-_, _<_, _≤_};
 ghost use lib.ListN.{length, getD, set, replicate};
-ghost use Rattle.query_queue.specs.Tree.{Tree, Room};
+ghost use Rattle.query_queue.specs.Tree.{Tree, TreeRoom};
 ghost use Rattle.engine_walks.specs.Lists.{delta};
 ghost use lib.Dec.{eqb};
 ghost use Rattle.columns.specs.Lists.{each};
@@ -55,7 +55,7 @@ fn own_previous(previous: &mut [u32])
 
 // The key of vertex v, where it waits with weight 0.
 fn put_source(status: &[u8], node: &mut [u64], leaf: &mut [u64], v: usize)
-    requires { ⌜ (length (now status) ≤ 4096) × (v < length (now status)) × Room (now node) (now leaf) (length (now status)) × Tree (now node) (now leaf) (length (now status)) ⌝ }
+    requires { ⌜ (length (now status) ≤ 4096) × (v < length (now status)) × TreeRoom (now node) (now leaf) (length (now status)) × Tree (now node) (now leaf) (length (now status)) ⌝ }
     ensures { λ _. ⌜ now (leaf .exit) ≡ cond (eqb (getD (now (status .entry)) v 0) 1) (set (now (leaf .entry)) v v) (now (leaf .entry)) ⌝ }
     ensures { λ _. ⌜ Tree (now (node .exit)) (now (leaf .exit)) (length (now (status .entry))) ⌝ }
     ensures { λ _. ⌜ length (now (node .exit)) ≡ length (now (node .entry)) ⌝ }

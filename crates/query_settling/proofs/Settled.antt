@@ -13,7 +13,7 @@ use borrow.Author.Tests.{ne-eqb, lt-ltb, le-ltb}
 use Rattle.columns.specs.Lists.{each}
 use Rattle.columns.proofs.Counting.{each-getD, each-same}
 use Rattle.engine_walks.specs.Lists.{bit}
-use Rattle.engine_walks.specs.Graph.{Graph, InRange}
+use Rattle.engine_walks.specs.Graph.{Graph, GraphInRange}
 use Rattle.engine_walks.specs.Settling.{State, statusAt, weightAt, start, stopped, toTake, takeChosen, next, settle, settled}
 use Rattle.engine_walks.proofs.Limits.{sums-fit}
 use Rattle.engine_walks.proofs.TurnCases.{settle-next, next-stopped, next-none, settled-early}
@@ -57,7 +57,7 @@ module _ (n : ℕ) (a b w status weight previous : List ℕ) (stop : ℕ) (len :
     pub offers-fit : {numbers ends : List ℕ} → Listed n a b w numbers ends → n ≤ 4096 → t < n → Offers s w
     offers-fit l few h v e p k =
         let g = graphOf n a b [] in
-        let ok : InRange g = record { a-in = l .in-a; b-in = l .in-b; byte = λ v h. omega arith } in
+        let ok : GraphInRange g = record { a-in = l .in-a; b-in = l .in-b; byte = λ v h. omega arith } in
         let q = sums-fit g (weighs w) ok .1 few (λ e h. begun .light e (omega (arith, l .same-w))) .offers source end t v e h (omega (arith, l .same-w)) (ap (λ z. statusAt z v) (sym (at [])) ∙ p) in
         omega (arith, ap (λ z. weightAt z v) (at []), q)
 

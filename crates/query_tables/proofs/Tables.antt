@@ -6,12 +6,12 @@ use lib.Dec.{leb, ltb}
 use borrow.Author.Tests.{leb-true, ltb-true}
 use Rattle.columns.proofs.Tests.{and-both}
 use Rattle.engine_columns.specs.Records.{Engine}
-use Rattle.engine_columns.proofs.Doors.{Long, Sound}
-use Rattle.query_questions.specs.Queries.{queryDoor}
+use Rattle.engine_columns.proofs.Refusals.{Long, Sound}
+use Rattle.query_questions.specs.Queries.{queryRefusal}
 use Rattle.query_search.proofs.Asked.{query-of}
 use Rattle.query_tables.specs.declared.End.{End}
 use Rattle.query_tables.specs.Ends.{endInRange}
-use Rattle.query_tables.specs.Steps.{tableDoor}
+use Rattle.query_tables.specs.Steps.{tableRefusal}
 
 pub record TableAsked (e : Engine) (scratch : Bool) (source : ℕ) (end : End) (weights previous : ℕ) : Type 0 where
   pub long : Long 0 e
@@ -23,7 +23,7 @@ pub record TableAsked (e : Engine) (scratch : Bool) (source : ℕ) (end : End) (
   pub end-in : endInRange end (e .counts .vertices) ≡ true
 
 module _ (e : Engine) (scratch : Bool) (source : ℕ) (end : End) (weights previous : ℕ) where
-  pub table-of : tableDoor e scratch source end weights previous ≡ 0 → TableAsked e scratch source end weights previous
+  pub table-of : tableRefusal e scratch source end weights previous ≡ 0 → TableAsked e scratch source end weights previous
   table-of z =
       let v = e .counts .vertices in
       let q = query-of e _ _ _ z in
@@ -41,8 +41,8 @@ module _ (e : Engine) (scratch : Bool) (source : ℕ) (end : End) (weights previ
       }
 
   -- the number, from the tests as the code makes them
-  pub table-number : {no : ℕ} {fits inner a b sc inr er : Bool} → no ≡ queryDoor e fits inr 0 → fits ≡ (a && inner) → inner ≡ (b && sc)
+  pub table-number : {no : ℕ} {fits inner a b sc inr er : Bool} → no ≡ queryRefusal e fits inr 0 → fits ≡ (a && inner) → inner ≡ (b && sc)
       → a ≡ leb (e .counts .vertices) weights → b ≡ leb (e .counts .vertices) previous → sc ≡ scratch → inr ≡ (ltb source (e .counts .vertices) && er)
-      → er ≡ endInRange end (e .counts .vertices) → no ≡ tableDoor e scratch source end weights previous
+      → er ≡ endInRange end (e .counts .vertices) → no ≡ tableRefusal e scratch source end weights previous
   table-number p q r s t u v w =
-      p ∙ (λ i. queryDoor e ((q ∙ (λ j. s j && (r ∙ (λ k. t k && u k)) j)) i) ((v ∙ (λ j. ltb source (e .counts .vertices) && w j)) i) 0)
+      p ∙ (λ i. queryRefusal e ((q ∙ (λ j. s j && (r ∙ (λ k. t k && u k)) j)) i) ((v ∙ (λ j. ltb source (e .counts .vertices) && w j)) i) 0)

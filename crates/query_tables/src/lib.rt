@@ -12,7 +12,7 @@ ghost use Rattle.engine_columns.specs.Records.{engine};
 ghost use Rattle.engine_walks.specs.Settling.{settled};
 ghost use Rattle.engine_walks.specs.Answers.{table, tableWeight, tablePrevious};
 ghost use Rattle.query_relaxing.specs.Ready.{graphOf, weighs, stateOf, Ready, sources, endOf, sumLimit};
-ghost use Rattle.query_questions.specs.Queries.{scratchLong, queryDoor};
+ghost use Rattle.query_questions.specs.Queries.{scratchLong, queryRefusal};
 ghost use Rattle.query_tables.specs.Ends.{endInRange, endIn, stopOf};
 ghost use Rattle.query_tables.specs.Steps.{TableStep};
 ghost use Rattle.query_questions.specs.Scratch.{ScratchKept, scratchOf};
@@ -24,7 +24,7 @@ use columns::questions::at_most;
 use columns::questions::both;
 use engine_columns::EngineCounts;
 use query_questions::named_stop;
-use query_questions::query_door;
+use query_questions::query_refusal;
 use query_questions::scratch_long;
 use query_search::search;
 use query_search::write_previous;
@@ -143,7 +143,7 @@ pub fn all_edges_with_terminate(
         both(at_most(v, out_previous.len()), scratch),
     );
     let in_range = both(source.0 < c.vertices, end_in_range(end, c.vertices));
-    let no = query_door(
+    let no = query_refusal(
         c,
         ends_a,
         ends_b,

@@ -19,37 +19,37 @@ use Rattle.columns.specs.declared.Done.{Done}
 use Rattle.columns.specs.declared.Done.the-variants as done-is
 use Rattle.columns.proofs.Columns.{after-accepted, after-refused}
 use Rattle.columns.proofs.Tests.{and-both, below-at}
-use Rattle.columns.proofs.Doors.{met, goes-on, asks}
+use Rattle.columns.proofs.Refusals.{met, goes-on, asks}
 use Rattle.reorder_calls.specs.declared.TranslatedAnswer.{TranslatedAnswer}
 use Rattle.reorder_calls.specs.declared.TranslatedAnswer.the-variants.{Count, Refused}
 use Rattle.reorder_orders.specs.Order.{noneTwice, oldToNew, renamed, moved}
-use Rattle.reorder_calls.specs.Numbers.{buildDoor, BuiltOldToNew, translateDoor, TranslatedDefects}
+use Rattle.reorder_calls.specs.Numbers.{buildRefusal, BuiltOldToNew, translateRefusal, TranslatedDefects}
 use Rattle.columns_neighbors.specs.Steps.{sumTo}
 use Rattle.sampling_calls.specs.Records.{codeGraph, codeSound}
 use Rattle.sampling_calls.proofs.Accepting.{CodeSound, code-sound-of}
-use Rattle.reorder_calls.specs.Columns.{CodeColumns, movedLists, endsLong, vertexLong, positionsLong, listsLong, columnsLong, columnsSound, orderDoor, reorderDoor, ReorderedVertices}
+use Rattle.reorder_calls.specs.Columns.{ReorderColumns, movedLists, endsLong, vertexLong, positionsLong, listsLong, reorderLong, reorderSound, orderRefusal, reorderRefusal, ReorderedVertices}
 use Rattle.reorder_orders.specs.Steps.{IsOrder}
 use Rattle.reorder_orders.proofs.Asking.{stops, passes}
 
 -- ---- build_old_to_new
 
 module _ (order column : List ℕ) where
-  pub build-6 : length column < length order → 6 ≡ buildDoor order column
-  unfolding buildDoor
+  pub build-6 : length column < length order → 6 ≡ buildRefusal order column
+  unfolding buildRefusal
   build-6 h = stops (leb (length order) (length column)) 6 _ (lt-leb (length order) (length column) h)
 
-  pub build-11 : length order ≤ length column → vertexLimit < length order → 11 ≡ buildDoor order column
-  unfolding buildDoor
+  pub build-11 : length order ≤ length column → vertexLimit < length order → 11 ≡ buildRefusal order column
+  unfolding buildRefusal
   build-11 h g = passes (leb (length order) (length column)) 6 _ (le-leb (length order) (length column) h) (stops (leb (length order) vertexLimit) 11 _ (lt-leb (length order) vertexLimit g))
 
-  pub build-on : {r : ℕ} {b : Bool} → length order ≤ length column → length order ≤ vertexLimit → b ≡ allBelow (length order) order → r ≡ ask b 13 (ask (noneTwice order) 14 0) → r ≡ buildDoor order column
-  unfolding buildDoor
+  pub build-on : {r : ℕ} {b : Bool} → length order ≤ length column → length order ≤ vertexLimit → b ≡ allBelow (length order) order → r ≡ ask b 13 (ask (noneTwice order) 14 0) → r ≡ buildRefusal order column
+  unfolding buildRefusal
   build-on h g e q =
       passes (leb (length order) (length column)) 6 _ (le-leb (length order) (length column) h)
       (passes (leb (length order) vertexLimit) 11 _ (le-leb (length order) vertexLimit g) (q ∙ asks 13 e refl))
 
-  pub build-met : buildDoor order column ≡ 0 → IsOrder order × (length order ≤ length column)
-  unfolding buildDoor
+  pub build-met : buildRefusal order column ≡ 0 → IsOrder order × (length order ≤ length column)
+  unfolding buildRefusal
   build-met z =
       let last = ask (noneTwice order) 14 0 in
       let q₁₃ = ask (allBelow (length order) order) 13 last in
@@ -65,32 +65,32 @@ module _ (order column : List ℕ) where
         leb-true (length order) (length column) (met (leb (length order) (length column)) 5 q₁₁ z),
       )
 
-  pub built-refused : {r : Done} {n : ℕ} → n ≡ buildDoor order column → (n ≡ 0 → ⊥) → r ≡ done n → BuiltOldToNew order column r column
+  pub built-refused : {r : Done} {n : ℕ} → n ≡ buildRefusal order column → (n ≡ 0 → ⊥) → r ≡ done n → BuiltOldToNew order column r column
   built-refused e f q = record {
     answers = said-of _ _ (q ∙ ap done e);
-    column-is = sym (after-refused (buildDoor order column) (oldToNew order) column (λ z. f (e ∙ z)));
+    column-is = sym (after-refused (buildRefusal order column) (oldToNew order) column (λ z. f (e ∙ z)));
   }
 
-  pub built-accepted : {last : List ℕ} → buildDoor order column ≡ 0 → last ≡ over (oldToNew order) column → BuiltOldToNew order column done-is.Accepted last
+  pub built-accepted : {last : List ℕ} → buildRefusal order column ≡ 0 → last ≡ over (oldToNew order) column → BuiltOldToNew order column done-is.Accepted last
   built-accepted z q = record {
     answers = accepts-of z;
-    column-is = q ∙ sym (after-accepted (buildDoor order column) (oldToNew order) column z);
+    column-is = q ∙ sym (after-accepted (buildRefusal order column) (oldToNew order) column z);
   }
 
 -- ---- translated_defect_to_reordered
 
 module _ (order list column : List ℕ) where
-  pub translate-6 : length column < length list → 6 ≡ translateDoor order list column
-  unfolding translateDoor
+  pub translate-6 : length column < length list → 6 ≡ translateRefusal order list column
+  unfolding translateRefusal
   translate-6 h = stops (leb (length list) (length column)) 6 _ (lt-leb (length list) (length column) h)
 
-  pub translate-11 : length list ≤ length column → vertexLimit < length order → 11 ≡ translateDoor order list column
-  unfolding translateDoor
+  pub translate-11 : length list ≤ length column → vertexLimit < length order → 11 ≡ translateRefusal order list column
+  unfolding translateRefusal
   translate-11 h g = passes (leb (length list) (length column)) 6 _ (le-leb (length list) (length column) h) (stops (leb (length order) vertexLimit) 11 _ (lt-leb (length order) vertexLimit g))
 
   pub translate-on : {r : ℕ} {b : Bool} → length list ≤ length column → length order ≤ vertexLimit → b ≡ (allBelow (length order) order && allBelow (length order) list)
-      → r ≡ ask b 13 (ask (noneTwice order) 14 0) → r ≡ translateDoor order list column
-  unfolding translateDoor
+      → r ≡ ask b 13 (ask (noneTwice order) 14 0) → r ≡ translateRefusal order list column
+  unfolding translateRefusal
   translate-on h g e q =
       passes (leb (length list) (length column)) 6 _ (le-leb (length list) (length column) h)
       (passes (leb (length order) vertexLimit) 11 _ (le-leb (length order) vertexLimit g) (q ∙ asks 13 e refl))
@@ -100,8 +100,8 @@ module _ (order list column : List ℕ) where
     pub room : length list ≤ length column
     pub listed : (i : ℕ) → i < length list → getD list i 0 < length order
 
-  pub translate-met : translateDoor order list column ≡ 0 → TranslateMet
-  unfolding translateDoor
+  pub translate-met : translateRefusal order list column ≡ 0 → TranslateMet
+  unfolding translateRefusal
   translate-met z =
       let last = ask (noneTwice order) 14 0 in
       let both = allBelow (length order) order && allBelow (length order) list in
@@ -120,33 +120,33 @@ module _ (order list column : List ℕ) where
         listed = below-at (length order) list y;
       }
 
-  pub translated-refused : {n : ℕ} → n ≡ translateDoor order list column → (n ≡ 0 → ⊥) → TranslatedDefects order list column (Refused n) column
+  pub translated-refused : {n : ℕ} → n ≡ translateRefusal order list column → (n ≡ 0 → ⊥) → TranslatedDefects order list column (Refused n) column
   translated-refused e f =
-      let g : translateDoor order list column ≡ 0 → ⊥ = λ z. f (e ∙ z) in
+      let g : translateRefusal order list column ≡ 0 → ⊥ = λ z. f (e ∙ z) in
       record {
         answers = refuses-of e f;
-        column-is = sym (after-refused (translateDoor order list column) (renamed order list) column g);
+        column-is = sym (after-refused (translateRefusal order list column) (renamed order list) column g);
       }
 
-  pub translated-accepted : {last : List ℕ} → translateDoor order list column ≡ 0 → last ≡ over (renamed order list) column → TranslatedDefects order list column (Count (length list)) last
+  pub translated-accepted : {last : List ℕ} → translateRefusal order list column ≡ 0 → last ≡ over (renamed order list) column → TranslatedDefects order list column (Count (length list)) last
   translated-accepted z q = record {
     answers = accepts-of z;
-    column-is = q ∙ sym (after-accepted (translateDoor order list column) (renamed order list) column z);
+    column-is = q ∙ sym (after-accepted (translateRefusal order list column) (renamed order list) column z);
   }
 
 -- ---- reorder_vertices
 
 -- 11, 13 and 14 of an order for v vertices
-pub order-stops : (v : ℕ) (order : List ℕ) → (length order ≡ v → ⊥) → 11 ≡ orderDoor v order
-unfolding orderDoor
+pub order-stops : (v : ℕ) (order : List ℕ) → (length order ≡ v → ⊥) → 11 ≡ orderRefusal v order
+unfolding orderRefusal
 order-stops v order f = stops (eqb (length order) v) 11 _ (ne-eqb (length order) v f)
 
-pub order-on : (v : ℕ) (order : List ℕ) {r : ℕ} {b : Bool} → length order ≡ v → b ≡ allBelow v order → r ≡ ask b 13 (ask (noneTwice order) 14 0) → r ≡ orderDoor v order
-unfolding orderDoor
+pub order-on : (v : ℕ) (order : List ℕ) {r : ℕ} {b : Bool} → length order ≡ v → b ≡ allBelow v order → r ≡ ask b 13 (ask (noneTwice order) 14 0) → r ≡ orderRefusal v order
+unfolding orderRefusal
 order-on v order e f q = passes (eqb (length order) v) 11 _ (eq-eqb (length order) v e) (q ∙ asks 13 f refl)
 
-pub order-met : (v : ℕ) (order : List ℕ) → v ≤ vertexLimit → orderDoor v order ≡ 0 → IsOrder order × (length order ≡ v)
-unfolding orderDoor
+pub order-met : (v : ℕ) (order : List ℕ) → v ≤ vertexLimit → orderRefusal v order ≡ 0 → IsOrder order × (length order ≡ v)
+unfolding orderRefusal
 order-met v order few z =
     let last = ask (noneTwice order) 14 0 in
     let q₁₃ = ask (allBelow v order) 13 last in
@@ -161,38 +161,38 @@ order-met v order few z =
     )
 
 -- 7
-pub sound-few : (v e : ℕ) (a b m d : List ℕ) → columnsSound v e a b m d ≡ true → CodeSound (codeGraph v e a b m)
-unfolding columnsSound
+pub sound-few : (v e : ℕ) (a b m d : List ℕ) → reorderSound v e a b m d ≡ true → CodeSound (codeGraph v e a b m)
+unfolding reorderSound
 sound-few v e a b m d p = code-sound-of (codeGraph v e a b m) (and-both (codeSound (codeGraph v e a b m)) (marksSound v d) p .0)
 
-pub record ReorderMet (v e : ℕ) (order : List ℕ) (c : CodeColumns) : Type 0 where
+pub record ReorderMet (v e : ℕ) (order : List ℕ) (c : ReorderColumns) : Type 0 where
   pub order-is : IsOrder order
   pub many : length order ≡ v
   pub sound : CodeSound (codeGraph v e (c .endsA) (c .endsB) (c .boundary))
   pub long-boundary : v ≤ length (c .boundary)
   pub long-defect : v ≤ length (c .defect)
   pub long-lengths : v ≤ length (c .lengths)
-  pub long-i : v ≤ length (c .positionI)
-  pub long-j : v ≤ length (c .positionJ)
-  pub long-t : v ≤ length (c .positionT)
+  pub long-i : v ≤ length (c .posI)
+  pub long-j : v ≤ length (c .posJ)
+  pub long-t : v ≤ length (c .posT)
   pub long-numbers : sumTo v (c .lengths) ≤ length (c .numbers)
   pub long-scratch : sumTo v (c .lengths) ≤ length (c .scratch)
   pub marks : marksSound v (c .defect) ≡ true
 
-pub reorder-met : (v e : ℕ) (order : List ℕ) (c : CodeColumns) → reorderDoor v e order c ≡ 0 → ReorderMet v e order c
-unfolding reorderDoor columnsLong endsLong vertexLong positionsLong listsLong columnsSound
+pub reorder-met : (v e : ℕ) (order : List ℕ) (c : ReorderColumns) → reorderRefusal v e order c ≡ 0 → ReorderMet v e order c
+unfolding reorderRefusal reorderLong endsLong vertexLong positionsLong listsLong reorderSound
 reorder-met v e order c z =
-    let seven = columnsSound v e (c .endsA) (c .endsB) (c .boundary) (c .defect) in
-    let rest = orderDoor v order in
-    let z₇ = goes-on (columnsLong v e c) 5 (ask seven 7 rest) z in
-    let (ends, x) = and-both (endsLong e (c .endsA) (c .endsB)) _ (met (columnsLong v e c) 5 (ask seven 7 rest) z) in
+    let seven = reorderSound v e (c .endsA) (c .endsB) (c .boundary) (c .defect) in
+    let rest = orderRefusal v order in
+    let z₇ = goes-on (reorderLong v e c) 5 (ask seven 7 rest) z in
+    let (ends, x) = and-both (endsLong e (c .endsA) (c .endsB)) _ (met (reorderLong v e c) 5 (ask seven 7 rest) z) in
     let (vertices, y) = and-both (vertexLong v (c .boundary) (c .defect) (c .lengths)) _ x in
-    let (positions, w) = and-both (positionsLong v (c .positionI) (c .positionJ) (c .positionT)) _ y in
+    let (positions, w) = and-both (positionsLong v (c .posI) (c .posJ) (c .posT)) _ y in
     let (numbers, scratch) = and-both (listsLong v e (c .lengths) (c .numbers)) _ w in
     let (m, dl) = and-both (leb v (length (c .boundary))) _ vertices in
     let (d, l) = and-both (leb v (length (c .defect))) _ dl in
-    let (i, jt) = and-both (leb v (length (c .positionI))) _ positions in
-    let (j, t) = and-both (leb v (length (c .positionJ))) _ jt in
+    let (i, jt) = and-both (leb v (length (c .posI))) _ positions in
+    let (j, t) = and-both (leb v (length (c .posJ))) _ jt in
     let (ok, marks) = and-both (codeSound (codeGraph v e (c .endsA) (c .endsB) (c .boundary))) (marksSound v (c .defect)) (met seven 6 rest z₇) in
     let code = code-sound-of (codeGraph v e (c .endsA) (c .endsB) (c .boundary)) ok in
     let (o, n) = order-met v order (code .graph .few-vertices) (goes-on seven 6 rest z₇) in
@@ -212,45 +212,45 @@ reorder-met v e order c z =
     }
 
 -- the answer and the columns, refused and accepted
-module _ (v e : ℕ) (order : List ℕ) (b : CodeColumns) where
-  pub reordered-refused : {r : Done} {n : ℕ} → n ≡ reorderDoor v e order b → (n ≡ 0 → ⊥) → r ≡ done n → ReorderedVertices v e order b r b
+module _ (v e : ℕ) (order : List ℕ) (b : ReorderColumns) where
+  pub reordered-refused : {r : Done} {n : ℕ} → n ≡ reorderRefusal v e order b → (n ≡ 0 → ⊥) → r ≡ done n → ReorderedVertices v e order b r b
   reordered-refused {r} {n} q f h =
-      let door = reorderDoor v e order b in
-      let g : door ≡ 0 → ⊥ = λ z. f (q ∙ z) in
+      let refusal = reorderRefusal v e order b in
+      let g : refusal ≡ 0 → ⊥ = λ z. f (q ∙ z) in
       record {
         answers = said-of _ _ (h ∙ ap done q);
-        endsA-is = sym (after-refused door (renamed order (take e (b .endsA))) (b .endsA) g);
-        endsB-is = sym (after-refused door (renamed order (take e (b .endsB))) (b .endsB) g);
-        boundary-is = sym (after-refused door (moved order 0 (b .boundary)) (b .boundary) g);
-        defect-is = sym (after-refused door (moved order 0 (b .defect)) (b .defect) g);
-        positionI-is = sym (after-refused door (moved order zeroFloat (b .positionI)) (b .positionI) g);
-        positionJ-is = sym (after-refused door (moved order zeroFloat (b .positionJ)) (b .positionJ) g);
-        positionT-is = sym (after-refused door (moved order zeroFloat (b .positionT)) (b .positionT) g);
-        lengths-is = sym (after-refused door (moved order 0 (b .lengths)) (b .lengths) g);
-        numbers-is = sym (after-refused door (movedLists order (b .lengths) (b .numbers)) (b .numbers) g);
-        scratch-is = sym (after-refused door (take (sumTo v (b .lengths)) (b .numbers)) (b .scratch) g);
+        endsA-is = sym (after-refused refusal (renamed order (take e (b .endsA))) (b .endsA) g);
+        endsB-is = sym (after-refused refusal (renamed order (take e (b .endsB))) (b .endsB) g);
+        boundary-is = sym (after-refused refusal (moved order 0 (b .boundary)) (b .boundary) g);
+        defect-is = sym (after-refused refusal (moved order 0 (b .defect)) (b .defect) g);
+        posI-is = sym (after-refused refusal (moved order zeroFloat (b .posI)) (b .posI) g);
+        posJ-is = sym (after-refused refusal (moved order zeroFloat (b .posJ)) (b .posJ) g);
+        posT-is = sym (after-refused refusal (moved order zeroFloat (b .posT)) (b .posT) g);
+        lengths-is = sym (after-refused refusal (moved order 0 (b .lengths)) (b .lengths) g);
+        numbers-is = sym (after-refused refusal (movedLists order (b .lengths) (b .numbers)) (b .numbers) g);
+        scratch-is = sym (after-refused refusal (take (sumTo v (b .lengths)) (b .numbers)) (b .scratch) g);
       }
 
-  pub reordered-accepted : (last : CodeColumns) → reorderDoor v e order b ≡ 0 → length order ≡ v
+  pub reordered-accepted : (last : ReorderColumns) → reorderRefusal v e order b ≡ 0 → length order ≡ v
       → last .endsA ≡ over (renamed order (take e (b .endsA))) (b .endsA) → last .endsB ≡ over (renamed order (take e (b .endsB))) (b .endsB)
       → last .boundary ≡ over (moved order 0 (b .boundary)) (b .boundary) → last .defect ≡ over (moved order 0 (b .defect)) (b .defect)
-      → last .positionI ≡ over (moved order zeroFloat (b .positionI)) (b .positionI) → last .positionJ ≡ over (moved order zeroFloat (b .positionJ)) (b .positionJ)
-      → last .positionT ≡ over (moved order zeroFloat (b .positionT)) (b .positionT) → last .lengths ≡ over (moved order 0 (b .lengths)) (b .lengths)
+      → last .posI ≡ over (moved order zeroFloat (b .posI)) (b .posI) → last .posJ ≡ over (moved order zeroFloat (b .posJ)) (b .posJ)
+      → last .posT ≡ over (moved order zeroFloat (b .posT)) (b .posT) → last .lengths ≡ over (moved order 0 (b .lengths)) (b .lengths)
       → last .numbers ≡ over (movedLists order (b .lengths) (b .numbers)) (b .numbers)
       → last .scratch ≡ over (take (sumTo (length order) (b .lengths)) (b .numbers)) (b .scratch) → ReorderedVertices v e order b done-is.Accepted last
   reordered-accepted last z many pa pb pm pd pi pj pt pl pn ps =
-      let door = reorderDoor v e order b in
+      let refusal = reorderRefusal v e order b in
       record {
         answers = accepts-of z;
-        endsA-is = pa ∙ sym (after-accepted door (renamed order (take e (b .endsA))) (b .endsA) z);
-        endsB-is = pb ∙ sym (after-accepted door (renamed order (take e (b .endsB))) (b .endsB) z);
-        boundary-is = pm ∙ sym (after-accepted door (moved order 0 (b .boundary)) (b .boundary) z);
-        defect-is = pd ∙ sym (after-accepted door (moved order 0 (b .defect)) (b .defect) z);
-        positionI-is = pi ∙ sym (after-accepted door (moved order zeroFloat (b .positionI)) (b .positionI) z);
-        positionJ-is = pj ∙ sym (after-accepted door (moved order zeroFloat (b .positionJ)) (b .positionJ) z);
-        positionT-is = pt ∙ sym (after-accepted door (moved order zeroFloat (b .positionT)) (b .positionT) z);
-        lengths-is = pl ∙ sym (after-accepted door (moved order 0 (b .lengths)) (b .lengths) z);
-        numbers-is = pn ∙ sym (after-accepted door (movedLists order (b .lengths) (b .numbers)) (b .numbers) z);
+        endsA-is = pa ∙ sym (after-accepted refusal (renamed order (take e (b .endsA))) (b .endsA) z);
+        endsB-is = pb ∙ sym (after-accepted refusal (renamed order (take e (b .endsB))) (b .endsB) z);
+        boundary-is = pm ∙ sym (after-accepted refusal (moved order 0 (b .boundary)) (b .boundary) z);
+        defect-is = pd ∙ sym (after-accepted refusal (moved order 0 (b .defect)) (b .defect) z);
+        posI-is = pi ∙ sym (after-accepted refusal (moved order zeroFloat (b .posI)) (b .posI) z);
+        posJ-is = pj ∙ sym (after-accepted refusal (moved order zeroFloat (b .posJ)) (b .posJ) z);
+        posT-is = pt ∙ sym (after-accepted refusal (moved order zeroFloat (b .posT)) (b .posT) z);
+        lengths-is = pl ∙ sym (after-accepted refusal (moved order 0 (b .lengths)) (b .lengths) z);
+        numbers-is = pn ∙ sym (after-accepted refusal (movedLists order (b .lengths) (b .numbers)) (b .numbers) z);
         scratch-is = ps ∙ ap (λ (n : ℕ). over (take (sumTo n (b .lengths)) (b .numbers)) (b .scratch)) many
-            ∙ sym (after-accepted door (take (sumTo v (b .lengths)) (b .numbers)) (b .scratch) z);
+            ∙ sym (after-accepted refusal (take (sumTo v (b .lengths)) (b .numbers)) (b .scratch) z);
       }

@@ -25,7 +25,7 @@ use Rattle.sampling_calls.specs.Records.{CodeGraph, codeGraph, codeSound}
 use Rattle.sampling_calls.specs.Syndrome.{hit, endsIn, isDefectOf, syndromeOf}
 use Rattle.sampling_calls.proofs.Accepting.{CodeSound}
 use Rattle.reorder_orders.specs.Order.{newNumber, renamed, moved}
-use Rattle.reorder_calls.specs.Columns.{CodeColumns, columnsSound, reorderDoor, ReorderedVertices}
+use Rattle.reorder_calls.specs.Columns.{ReorderColumns, reorderSound, reorderRefusal, ReorderedVertices}
 use Rattle.reorder_orders.specs.Steps.{IsOrder}
 use Rattle.reorder_orders.proofs.Permutation.{order-below, new-below, old-of-new, new-of-old, new-differ}
 use Rattle.reorder_calls.proofs.Accepting.{ReorderMet, reorder-met}
@@ -35,12 +35,12 @@ map-at : {A : Type 0} (f : ℕ → A) (l : List ℕ) (d : A) (i : ℕ) → i < l
 map-at f l d i h = getD-any (map f l) i d (f 0) (omega (arith, length-map l f)) ∙ List·getD-map f l i 0
 
 -- an accepted reordering
-module _ (v e : ℕ) (order : List ℕ) (before last : CodeColumns) (answer : Done) (call : ReorderedVertices v e order before answer last) (accepted : said answer .number ≡ 0) where
-  door-is : reorderDoor v e order before ≡ 0
-  door-is = sym (call .answers .number-is) ∙ accepted
+module _ (v e : ℕ) (order : List ℕ) (before last : ReorderColumns) (answer : Done) (call : ReorderedVertices v e order before answer last) (accepted : said answer .number ≡ 0) where
+  refusal-is : reorderRefusal v e order before ≡ 0
+  refusal-is = sym (call .answers .number-is) ∙ accepted
 
   k : ReorderMet v e order before
-  k = reorder-met v e order before door-is
+  k = reorder-met v e order before refusal-is
 
   o : IsOrder order
   o = k .order-is
@@ -54,10 +54,10 @@ module _ (v e : ℕ) (order : List ℕ) (before last : CodeColumns) (answer : Do
       ∙ map-at (newNumber order) (take e a) 0 i (omega arith) ∙ ap (newNumber order) (getD-take e a i 0 h)
 
   pub endsA-renamed : (i : ℕ) → i < e → getD (last .endsA) i 0 ≡ newNumber order (getD (before .endsA) i 0)
-  endsA-renamed = ends-at (before .endsA) (last .endsA) (call .endsA-is ∙ after-accepted (reorderDoor v e order before) (renamed order (take e (before .endsA))) (before .endsA) door-is) (k .sound .graph .long-a)
+  endsA-renamed = ends-at (before .endsA) (last .endsA) (call .endsA-is ∙ after-accepted (reorderRefusal v e order before) (renamed order (take e (before .endsA))) (before .endsA) refusal-is) (k .sound .graph .long-a)
 
   pub endsB-renamed : (i : ℕ) → i < e → getD (last .endsB) i 0 ≡ newNumber order (getD (before .endsB) i 0)
-  endsB-renamed = ends-at (before .endsB) (last .endsB) (call .endsB-is ∙ after-accepted (reorderDoor v e order before) (renamed order (take e (before .endsB))) (before .endsB) door-is) (k .sound .graph .long-b)
+  endsB-renamed = ends-at (before .endsB) (last .endsB) (call .endsB-is ∙ after-accepted (reorderRefusal v e order before) (renamed order (take e (before .endsB))) (before .endsB) refusal-is) (k .sound .graph .long-b)
 
   column-at : {A : Type 0} (d : A) (x x′ : List A) → x′ ≡ over (moved order d x) x → (i : ℕ) → i < v → getD x′ i d ≡ getD x (getD order i 0) d
   column-at d x x′ p i h =
@@ -65,10 +65,10 @@ module _ (v e : ℕ) (order : List ℕ) (before last : CodeColumns) (answer : Do
       ∙ map-at (λ u. getD x u d) order d i (omega (arith, k .many))
 
   pub boundary-moved : (i : ℕ) → i < v → getD (last .boundary) i 0 ≡ getD (before .boundary) (getD order i 0) 0
-  boundary-moved = column-at 0 (before .boundary) (last .boundary) (call .boundary-is ∙ after-accepted (reorderDoor v e order before) (moved order 0 (before .boundary)) (before .boundary) door-is)
+  boundary-moved = column-at 0 (before .boundary) (last .boundary) (call .boundary-is ∙ after-accepted (reorderRefusal v e order before) (moved order 0 (before .boundary)) (before .boundary) refusal-is)
 
   pub defect-moved : (i : ℕ) → i < v → getD (last .defect) i 0 ≡ getD (before .defect) (getD order i 0) 0
-  defect-moved = column-at 0 (before .defect) (last .defect) (call .defect-is ∙ after-accepted (reorderDoor v e order before) (moved order 0 (before .defect)) (before .defect) door-is)
+  defect-moved = column-at 0 (before .defect) (last .defect) (call .defect-is ∙ after-accepted (reorderRefusal v e order before) (moved order 0 (before .defect)) (before .defect) refusal-is)
 
   in-order : (u : ℕ) → u < v → u < length order
   in-order u h = omega (arith, k .many)
@@ -102,8 +102,8 @@ module _ (v e : ℕ) (order : List ℕ) (before last : CodeColumns) (answer : Do
         some-vertex = s .some-vertex;
         few-vertices = s .few-vertices;
         few-edges = s .few-edges;
-        long-a = omega (arith, s .long-a, ap length (call .endsA-is ∙ after-accepted (reorderDoor v e order before) (renamed order (take e (before .endsA))) (before .endsA) door-is) ∙ length-over (renamed order (take e a)) a (omega (arith, length-map (take e a) (newNumber order), length-take e a)));
-        long-b = omega (arith, s .long-b, ap length (call .endsB-is ∙ after-accepted (reorderDoor v e order before) (renamed order (take e (before .endsB))) (before .endsB) door-is) ∙ length-over (renamed order (take e b)) b (omega (arith, length-map (take e b) (newNumber order), length-take e b)));
+        long-a = omega (arith, s .long-a, ap length (call .endsA-is ∙ after-accepted (reorderRefusal v e order before) (renamed order (take e (before .endsA))) (before .endsA) refusal-is) ∙ length-over (renamed order (take e a)) a (omega (arith, length-map (take e a) (newNumber order), length-take e a)));
+        long-b = omega (arith, s .long-b, ap length (call .endsB-is ∙ after-accepted (reorderRefusal v e order before) (renamed order (take e (before .endsB))) (before .endsB) refusal-is) ∙ length-over (renamed order (take e b)) b (omega (arith, length-map (take e b) (newNumber order), length-take e b)));
         in-a = λ i h. subst (λ (x : ℕ). x < v) (sym (endsA-renamed i h)) (new-in (getD a i 0) (in-a i h));
         in-b = λ i h. subst (λ (x : ℕ). x < v) (sym (endsB-renamed i h)) (new-in (getD b i 0) (in-b i h));
         differ = λ i h q. s .differ i h (back a b i i (in-a i h) (in-b i h) (endsA-renamed i h) (endsB-renamed i h) q);
@@ -123,8 +123,8 @@ module _ (v e : ℕ) (order : List ℕ) (before last : CodeColumns) (answer : Do
       let c = order-below order o i (in-order i b) in
       subst (λ (y : ℕ). y ≤ limit) (sym (getD-take v x′ i 0 b ∙ p i b)) (within-first limit v x w long (getD order i 0) (omega (arith, k .many))))
 
-  pub question-7-kept : columnsSound v e (last .endsA) (last .endsB) (last .boundary) (last .defect) ≡ true
-  unfolding columnsSound codeSound
+  pub question-7-kept : reorderSound v e (last .endsA) (last .endsB) (last .boundary) (last .defect) ≡ true
+  unfolding reorderSound codeSound
   question-7-kept = both-and
       (both-and (says-graph v e (last .endsA) (last .endsB) graph-kept) (bytes-kept 2 (before .boundary) (last .boundary) (k .long-boundary) boundary-moved (k .sound .boundaries)))
       (bytes-kept 1 (before .defect) (last .defect) (k .long-defect) defect-moved (k .marks))

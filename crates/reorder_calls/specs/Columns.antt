@@ -17,27 +17,27 @@ use Rattle.sampling_calls.specs.Records.{codeGraph, codeSound}
 use Rattle.reorder_orders.specs.Order.{noneTwice, renamed, moved}
 
 -- the columns that a reordering changes; `numbers` has the neighbour lists one after another, `scratch` has room for them too
-pub record CodeColumns : Type 0 where
+pub record ReorderColumns : Type 0 where
   pub endsA : List ℕ
   pub endsB : List ℕ
   pub boundary : List ℕ
   pub defect : List ℕ
-  pub positionI : List Float
-  pub positionJ : List Float
-  pub positionT : List Float
+  pub posI : List Float
+  pub posJ : List Float
+  pub posT : List Float
   pub lengths : List ℕ
   pub numbers : List ℕ
   pub scratch : List ℕ
 
-abbrev pub codeColumns : (a b m d : List ℕ) (i j t : List Float) (lengths numbers scratch : List ℕ) → CodeColumns
-codeColumns a b m d i j t l n s = record {
+abbrev pub reorderColumns : (a b m d : List ℕ) (i j t : List Float) (lengths numbers scratch : List ℕ) → ReorderColumns
+reorderColumns a b m d i j t l n s = record {
   endsA = a;
   endsB = b;
   boundary = m;
   defect = d;
-  positionI = i;
-  positionJ = j;
-  positionT = t;
+  posI = i;
+  posJ = j;
+  posT = t;
   lengths = l;
   numbers = n;
   scratch = s;
@@ -65,38 +65,38 @@ positionsLong v i j t = leb v (length i) && (leb v (length j) && leb v (length t
 unfoldable pub listsLong : (v e : ℕ) (l numbers : List ℕ) → Bool
 listsLong v e l numbers = leb (2 * e) (length numbers) && leb (sumTo v l) (length numbers)
 
-unfoldable pub columnsLong : (v e : ℕ) → CodeColumns → Bool
-columnsLong v e c =
+unfoldable pub reorderLong : (v e : ℕ) → ReorderColumns → Bool
+reorderLong v e c =
     endsLong e (c .endsA) (c .endsB)
     && (vertexLong v (c .boundary) (c .defect) (c .lengths)
-    && (positionsLong v (c .positionI) (c .positionJ) (c .positionT)
+    && (positionsLong v (c .posI) (c .posJ) (c .posT)
     && (listsLong v e (c .lengths) (c .numbers) && listsLong v e (c .lengths) (c .scratch))))
 
 -- 7: counts, ends, boundary and defect bytes
-unfoldable pub columnsSound : (v e : ℕ) (a b m d : List ℕ) → Bool
-columnsSound v e a b m d = codeSound (codeGraph v e a b m) && marksSound v d
+unfoldable pub reorderSound : (v e : ℕ) (a b m d : List ℕ) → Bool
+reorderSound v e a b m d = codeSound (codeGraph v e a b m) && marksSound v d
 
 -- 11, 13 and 14
-unfoldable pub orderDoor : (v : ℕ) (order : List ℕ) → ℕ
-orderDoor v order = ask (eqb (length order) v) 11 (ask (allBelow v order) 13 (ask (noneTwice order) 14 0))
+unfoldable pub orderRefusal : (v : ℕ) (order : List ℕ) → ℕ
+orderRefusal v order = ask (eqb (length order) v) 11 (ask (allBelow v order) 13 (ask (noneTwice order) 14 0))
 
 -- questions 6, 7, 11, 13 and 14
-unfoldable pub reorderDoor : (v e : ℕ) (order : List ℕ) → CodeColumns → ℕ
-reorderDoor v e order c =
-    ask (columnsLong v e c) 6
-    (ask (columnsSound v e (c .endsA) (c .endsB) (c .boundary) (c .defect)) 7
-    (orderDoor v order))
+unfoldable pub reorderRefusal : (v e : ℕ) (order : List ℕ) → ReorderColumns → ℕ
+reorderRefusal v e order c =
+    ask (reorderLong v e c) 6
+    (ask (reorderSound v e (c .endsA) (c .endsB) (c .boundary) (c .defect)) 7
+    (orderRefusal v order))
 
 -- the answer, and every column; after an accepted call the scratch starts with the old neighbour lists
-pub record ReorderedVertices (v e : ℕ) (order : List ℕ) (before : CodeColumns) (answer : Done) (last : CodeColumns) : Type 0 where
-  pub answers : Answered (said answer) (reorderDoor v e order before) tt tt
-  pub endsA-is : last .endsA ≡ after (reorderDoor v e order before) (renamed order (take e (before .endsA))) (before .endsA)
-  pub endsB-is : last .endsB ≡ after (reorderDoor v e order before) (renamed order (take e (before .endsB))) (before .endsB)
-  pub boundary-is : last .boundary ≡ after (reorderDoor v e order before) (moved order 0 (before .boundary)) (before .boundary)
-  pub defect-is : last .defect ≡ after (reorderDoor v e order before) (moved order 0 (before .defect)) (before .defect)
-  pub positionI-is : last .positionI ≡ after (reorderDoor v e order before) (moved order zeroFloat (before .positionI)) (before .positionI)
-  pub positionJ-is : last .positionJ ≡ after (reorderDoor v e order before) (moved order zeroFloat (before .positionJ)) (before .positionJ)
-  pub positionT-is : last .positionT ≡ after (reorderDoor v e order before) (moved order zeroFloat (before .positionT)) (before .positionT)
-  pub lengths-is : last .lengths ≡ after (reorderDoor v e order before) (moved order 0 (before .lengths)) (before .lengths)
-  pub numbers-is : last .numbers ≡ after (reorderDoor v e order before) (movedLists order (before .lengths) (before .numbers)) (before .numbers)
-  pub scratch-is : last .scratch ≡ after (reorderDoor v e order before) (take (sumTo v (before .lengths)) (before .numbers)) (before .scratch)
+pub record ReorderedVertices (v e : ℕ) (order : List ℕ) (before : ReorderColumns) (answer : Done) (last : ReorderColumns) : Type 0 where
+  pub answers : Answered (said answer) (reorderRefusal v e order before) tt tt
+  pub endsA-is : last .endsA ≡ after (reorderRefusal v e order before) (renamed order (take e (before .endsA))) (before .endsA)
+  pub endsB-is : last .endsB ≡ after (reorderRefusal v e order before) (renamed order (take e (before .endsB))) (before .endsB)
+  pub boundary-is : last .boundary ≡ after (reorderRefusal v e order before) (moved order 0 (before .boundary)) (before .boundary)
+  pub defect-is : last .defect ≡ after (reorderRefusal v e order before) (moved order 0 (before .defect)) (before .defect)
+  pub posI-is : last .posI ≡ after (reorderRefusal v e order before) (moved order zeroFloat (before .posI)) (before .posI)
+  pub posJ-is : last .posJ ≡ after (reorderRefusal v e order before) (moved order zeroFloat (before .posJ)) (before .posJ)
+  pub posT-is : last .posT ≡ after (reorderRefusal v e order before) (moved order zeroFloat (before .posT)) (before .posT)
+  pub lengths-is : last .lengths ≡ after (reorderRefusal v e order before) (moved order 0 (before .lengths)) (before .lengths)
+  pub numbers-is : last .numbers ≡ after (reorderRefusal v e order before) (movedLists order (before .lengths) (before .numbers)) (before .numbers)
+  pub scratch-is : last .scratch ≡ after (reorderRefusal v e order before) (take (sumTo v (before .lengths)) (before .numbers)) (before .scratch)

@@ -18,16 +18,16 @@ use Rattle.reorder_orders.specs.Order.{noneTwice, oldToNew, renamed}
 -- ---- build_old_to_new
 
 -- questions 6, 11, 13 and 14
-unfoldable pub buildDoor : (order column : List ℕ) → ℕ
-buildDoor order column =
+unfoldable pub buildRefusal : (order column : List ℕ) → ℕ
+buildRefusal order column =
     ask (leb (length order) (length column)) 6
     (ask (leb (length order) vertexLimit) 11
     (ask (allBelow (length order) order) 13
     (ask (noneTwice order) 14 0)))
 
 pub record BuiltOldToNew (order column₀ : List ℕ) (answer : Done) (column : List ℕ) : Type 0 where
-  pub answers : Answered (said answer) (buildDoor order column₀) tt tt
-  pub column-is : column ≡ after (buildDoor order column₀) (oldToNew order) column₀
+  pub answers : Answered (said answer) (buildRefusal order column₀) tt tt
+  pub column-is : column ≡ after (buildRefusal order column₀) (oldToNew order) column₀
 
 -- ---- translated_defect_to_reordered
 
@@ -37,8 +37,8 @@ countSaid (Count n) = accepts n
 countSaid (Refused number) = refuses number 0
 
 -- questions 6, 11, 13 of both lists, and 14
-unfoldable pub translateDoor : (order list column : List ℕ) → ℕ
-translateDoor order list column =
+unfoldable pub translateRefusal : (order list column : List ℕ) → ℕ
+translateRefusal order list column =
     ask (leb (length list) (length column)) 6
     (ask (leb (length order) vertexLimit) 11
     (ask (allBelow (length order) order && allBelow (length order) list) 13
@@ -46,5 +46,5 @@ translateDoor order list column =
 
 -- a translated list keeps its order
 pub record TranslatedDefects (order list column₀ : List ℕ) (answer : TranslatedAnswer) (column : List ℕ) : Type 0 where
-  pub answers : Answered (countSaid answer) (translateDoor order list column₀) (length list) 0
-  pub column-is : column ≡ after (translateDoor order list column₀) (renamed order list) column₀
+  pub answers : Answered (countSaid answer) (translateRefusal order list column₀) (length list) 0
+  pub column-is : column ≡ after (translateRefusal order list column₀) (renamed order list) column₀

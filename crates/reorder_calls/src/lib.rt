@@ -5,8 +5,8 @@ ghost use mathlib.Core.Path.{_≡_};
 ghost use mathlib.Core.Bool.{true};
 ghost use Prim.Native.Nat.{_≤_};
 ghost use Rattle.columns.specs.Questions.{ask};
-ghost use Rattle.reorder_calls.specs.Columns.{codeColumns, endsLong, vertexLong, positionsLong, listsLong, columnsLong, columnsSound, orderDoor, reorderDoor, ReorderedVertices};
-ghost use Rattle.reorder_calls.specs.Numbers.{buildDoor, BuiltOldToNew, translateDoor, TranslatedDefects};
+ghost use Rattle.reorder_calls.specs.Columns.{reorderColumns, endsLong, vertexLong, positionsLong, listsLong, reorderLong, reorderSound, orderRefusal, reorderRefusal, ReorderedVertices};
+ghost use Rattle.reorder_calls.specs.Numbers.{buildRefusal, BuiltOldToNew, translateRefusal, TranslatedDefects};
 use columns::Done;
 use columns::VERTEX_LIMIT;
 use columns::done_of;
@@ -23,7 +23,7 @@ use reorder_orders::order_questions;
 use reorder_orders::place_numbers;
 use reorder_orders::rename_ends;
 use reorder_orders::translate;
-use sampling_calls::doors::code_sound;
+use sampling_calls::questions::code_sound;
 
 // How many numbers were translated, or the number of the question that was not met.
 pub enum TranslatedAnswer {
@@ -32,8 +32,8 @@ pub enum TranslatedAnswer {
 }
 
 // The first question of build_old_to_new that is not met, or 0.
-fn build_door(order: &[u32], column: &[u32]) -> u32
-    ensures { λ r. ⌜ r ≡ buildDoor (now (order .entry)) (now (column .entry)) ⌝ }
+fn build_refusal(order: &[u32], column: &[u32]) -> u32
+    ensures { λ r. ⌜ r ≡ buildRefusal (now (order .entry)) (now (column .entry)) ⌝ }
 {
     let n = order.len();
     if column.len() < n {
@@ -49,7 +49,7 @@ fn build_door(order: &[u32], column: &[u32]) -> u32
 pub fn build_old_to_new(order: &[u32], column: &mut [u32]) -> Done
     ensures { λ r. ⌜ BuiltOldToNew (now (order .entry)) (now (column .entry)) r (now (column .exit)) ⌝ }
 {
-    let number = build_door(order, column);
+    let number = build_refusal(order, column);
     if number != 0 {
         return done_of(number);
     }
@@ -58,8 +58,8 @@ pub fn build_old_to_new(order: &[u32], column: &mut [u32]) -> Done
 }
 
 // The first question of translated_defect_to_reordered that is not met, or 0.
-fn translate_door(order: &[u32], list: &[u32], column: &[u32]) -> u32
-    ensures { λ r. ⌜ r ≡ translateDoor (now (order .entry)) (now (list .entry)) (now (column .entry)) ⌝ }
+fn translate_refusal(order: &[u32], list: &[u32], column: &[u32]) -> u32
+    ensures { λ r. ⌜ r ≡ translateRefusal (now (order .entry)) (now (list .entry)) (now (column .entry)) ⌝ }
 {
     let n = order.len();
     if column.len() < list.len() {
@@ -81,7 +81,7 @@ pub fn translated_defect_to_reordered(
 ) -> TranslatedAnswer
     ensures { λ r. ⌜ TranslatedDefects (now (order .entry)) (now (list .entry)) (now (column .entry)) r (now (column .exit)) ⌝ }
 {
-    let number = translate_door(order, list, column);
+    let number = translate_refusal(order, list, column);
     if number == 0 {
         translate(order, list, column);
         return TranslatedAnswer::Count(list.len());
@@ -104,7 +104,7 @@ fn columns_long(
     numbers: &[u32],
     scratch: &[u32],
 ) -> bool
-    ensures { λ r. ⌜ r ≡ columnsLong «vertex_num» «edge_num» (codeColumns (now («ends_a» .entry)) (now («ends_b» .entry)) (now (boundary .entry)) (now (defect .entry)) (now (is .entry)) (now (js .entry)) (now (ts .entry)) (now (lengths .entry)) (now (numbers .entry)) (now (scratch .entry))) ⌝ }
+    ensures { λ r. ⌜ r ≡ reorderLong «vertex_num» «edge_num» (reorderColumns (now («ends_a» .entry)) (now («ends_b» .entry)) (now (boundary .entry)) (now (defect .entry)) (now (is .entry)) (now (js .entry)) (now (ts .entry)) (now (lengths .entry)) (now (numbers .entry)) (now (scratch .entry))) ⌝ }
 {
     let ends = ends_long(edge_num, ends_a, ends_b);
     let vertices = vertex_long(vertex_num, boundary, defect, lengths);
@@ -158,7 +158,7 @@ fn columns_sound(
     boundary: &[u8],
     defect: &[u8],
 ) -> bool
-    ensures { λ r. ⌜ r ≡ columnsSound «vertex_num» «edge_num» (now («ends_a» .entry)) (now («ends_b» .entry)) (now (boundary .entry)) (now (defect .entry)) ⌝ }
+    ensures { λ r. ⌜ r ≡ reorderSound «vertex_num» «edge_num» (now («ends_a» .entry)) (now («ends_b» .entry)) (now (boundary .entry)) (now (defect .entry)) ⌝ }
 {
     let code = code_sound(vertex_num, edge_num, ends_a, ends_b, boundary);
     let marks = marks_sound(defect, vertex_num as usize);
@@ -168,7 +168,7 @@ fn columns_sound(
 // Questions 11, 13 and 14, of an order for at most 4,096 vertices.
 fn vertex_order_questions(vertex_num: u32, order: &[u32]) -> u32
     requires { ⌜ «vertex_num» ≤ 4096 ⌝ }
-    ensures { λ r. ⌜ r ≡ orderDoor «vertex_num» (now (order .entry)) ⌝ }
+    ensures { λ r. ⌜ r ≡ orderRefusal «vertex_num» (now (order .entry)) ⌝ }
 {
     if order.len() != vertex_num as usize {
         return 11;
@@ -179,7 +179,7 @@ fn vertex_order_questions(vertex_num: u32, order: &[u32]) -> u32
 // The first question of reorder_vertices that is not met, or 0, given whether 6 and 7 are.
 fn reorder_questions(long: bool, sound: bool, vertex_num: u32, order: &[u32]) -> u32
     requires { ⌜ (sound ≡ true → «vertex_num» ≤ 4096) ⌝ }
-    ensures { λ r. ⌜ r ≡ ask long 6 (ask sound 7 (orderDoor «vertex_num» (now (order .entry)))) ⌝ }
+    ensures { λ r. ⌜ r ≡ ask long 6 (ask sound 7 (orderRefusal «vertex_num» (now (order .entry)))) ⌝ }
 {
     if !long {
         return 6;
@@ -191,7 +191,7 @@ fn reorder_questions(long: bool, sound: bool, vertex_num: u32, order: &[u32]) ->
 }
 
 // The first question of reorder_vertices that is not met, or 0.
-fn reorder_door(
+fn reorder_refusal(
     vertex_num: u32,
     edge_num: u32,
     order: &[u32],
@@ -206,7 +206,7 @@ fn reorder_door(
     numbers: &[u32],
     scratch: &[u32],
 ) -> u32
-    ensures { λ r. ⌜ r ≡ reorderDoor «vertex_num» «edge_num» (now (order .entry)) (codeColumns (now («ends_a» .entry)) (now («ends_b» .entry)) (now (boundary .entry)) (now (defect .entry)) (now (is .entry)) (now (js .entry)) (now (ts .entry)) (now (lengths .entry)) (now (numbers .entry)) (now (scratch .entry))) ⌝ }
+    ensures { λ r. ⌜ r ≡ reorderRefusal «vertex_num» «edge_num» (now (order .entry)) (reorderColumns (now («ends_a» .entry)) (now («ends_b» .entry)) (now (boundary .entry)) (now (defect .entry)) (now (is .entry)) (now (js .entry)) (now (ts .entry)) (now (lengths .entry)) (now (numbers .entry)) (now (scratch .entry))) ⌝ }
 {
     let long = columns_long(
         vertex_num,
@@ -243,11 +243,11 @@ pub fn reorder_vertices(
     scratch: &mut [u32],
 ) -> Done
     ensures { λ r. ⌜ ReorderedVertices «vertex_num» «edge_num» (now (order .entry))
-        (codeColumns (now («ends_a» .entry)) (now («ends_b» .entry)) (now (boundary .entry)) (now (defect .entry)) (now (is .entry)) (now (js .entry)) (now (ts .entry)) (now (lengths .entry)) (now (numbers .entry)) (now (scratch .entry)))
+        (reorderColumns (now («ends_a» .entry)) (now («ends_b» .entry)) (now (boundary .entry)) (now (defect .entry)) (now (is .entry)) (now (js .entry)) (now (ts .entry)) (now (lengths .entry)) (now (numbers .entry)) (now (scratch .entry)))
         r
-        (codeColumns (now («ends_a» .exit)) (now («ends_b» .exit)) (now (boundary .exit)) (now (defect .exit)) (now (is .exit)) (now (js .exit)) (now (ts .exit)) (now (lengths .exit)) (now (numbers .exit)) (now (scratch .exit))) ⌝ }
+        (reorderColumns (now («ends_a» .exit)) (now («ends_b» .exit)) (now (boundary .exit)) (now (defect .exit)) (now (is .exit)) (now (js .exit)) (now (ts .exit)) (now (lengths .exit)) (now (numbers .exit)) (now (scratch .exit))) ⌝ }
 {
-    let number = reorder_door(
+    let number = reorder_refusal(
         vertex_num,
         edge_num,
         order,

@@ -16,7 +16,7 @@ use Rattle.columns.proofs.Columns.{sets-over, over-in, over-past}
 use Rattle.columns.proofs.Counting.{length-each, getD-each}
 use Rattle.columns.proofs.Tests.{every-not}
 use Rattle.columns_neighbors.proofs.Placing.{each-places}
-use Rattle.columns.proofs.Doors.{store-more}
+use Rattle.columns.proofs.Refusals.{store-more}
 use Rattle.reorder_orders.specs.Order.{noneTwice, newNumber, oldToNew, renamed, moved}
 use Rattle.reorder_orders.specs.Steps.{IsOrder}
 use Rattle.reorder_orders.proofs.Permutation.{Once, order-below, order-once, new-below, old-of-new}

@@ -20,7 +20,7 @@ use Rattle.columns.proofs.Tests.{and-both, below-at, within-at}
 use Rattle.columns_neighbors.specs.Sound.{graphSound}
 use Rattle.columns_neighbors.specs.Steps.{InRange}
 use Rattle.columns_neighbors.proofs.Ends.{GraphSound, graph-says}
-use Rattle.columns.proofs.Doors.{met, goes-on}
+use Rattle.columns.proofs.Refusals.{met, goes-on}
 use Rattle.sampling_calls.specs.declared.SyndromeAnswer.{SyndromeAnswer}
 use Rattle.sampling_calls.specs.declared.SyndromeAnswer.the-variants as syndrome
 use Rattle.sampling_calls.specs.declared.ListAnswer.{ListAnswer}
@@ -29,8 +29,8 @@ use Rattle.sampling_calls.specs.Records.{CodeGraph, graphLong, codeSound
 use Rattle.columns_marks.specs.Marks.{isSet, listed}
 use Rattle.sampling_flips.specs.Flip.{flipEach}
 use Rattle.columns_answers.proofs.Said.{accepts-of, refuses-of}
-use Rattle.sampling_calls.specs.Errors.{SyndromeLeft, errorsDoor}
-use Rattle.sampling_calls.specs.Syndrome.{endsIn, isDefectOf, syndromeOf, syndromeDoor, FoundSyndrome}
+use Rattle.sampling_calls.specs.Errors.{SyndromeLeft, errorsRefusal}
+use Rattle.sampling_calls.specs.Syndrome.{endsIn, isDefectOf, syndromeOf, syndromeRefusal, FoundSyndrome}
 use Rattle.sampling_flips.specs.Steps.{Fits}
 use Rattle.sampling_flips.proofs.Flipping.{length-flipEach, flipEach-front, flipEach-virtual}
 use Rattle.sampling_calls.proofs.Inner.{flipEach-inner}
@@ -94,8 +94,8 @@ pub record ErrorsMet (g : CodeGraph) (ks : List ℕ) (s : SyndromeColumns) : Typ
   pub erasures : marksSound (g .edges) (s .erasure) ≡ true
   pub named : (i : ℕ) → i < length ks → getD ks i 0 < g .edges
 
-pub errors-met : (g : CodeGraph) (ks : List ℕ) (s : SyndromeColumns) → errorsDoor g ks s ≡ 0 → ErrorsMet g ks s
-unfolding errorsDoor
+pub errors-met : (g : CodeGraph) (ks : List ℕ) (s : SyndromeColumns) → errorsRefusal g ks s ≡ 0 → ErrorsMet g ks s
+unfolding errorsRefusal
 errors-met g ks s z =
     let six = graphLong g && syndromeLong (g .vertices) (g .edges) s in
     let seven = codeSound g && (marksSound (g .vertices) (s .defect) && marksSound (g .edges) (s .erasure)) in
@@ -181,8 +181,8 @@ pub record SyndromeMet (g : CodeGraph) (ks defectList : List ℕ) : Type 0 where
   pub sound : CodeSound g
   pub named : (i : ℕ) → i < length ks → getD ks i 0 < g .edges
 
-pub syndrome-met : (g : CodeGraph) (ks defectList : List ℕ) → syndromeDoor g ks defectList ≡ 0 → SyndromeMet g ks defectList
-unfolding syndromeDoor
+pub syndrome-met : (g : CodeGraph) (ks defectList : List ℕ) → syndromeRefusal g ks defectList ≡ 0 → SyndromeMet g ks defectList
+unfolding syndromeRefusal
 syndrome-met g ks defectList z =
     let six = graphLong g && leb (g .vertices) (length defectList) in
     let last = ask (allBelow (g .edges) ks) 13 0 in
@@ -215,17 +215,17 @@ unfolding listed syndromeOf
 listed-syndrome g ks d l z = chosen-same (g .vertices) _ _ (λ u h. syndrome-bytes g ks d u (omega arith) (z u h))
 
 module _ (g : CodeGraph) (ks defectList : List ℕ) where
-  pub syndrome-refused : {n : ℕ} → n ≡ syndromeDoor g ks defectList → (n ≡ 0 → ⊥) → FoundSyndrome g ks defectList (list.Refused n) defectList
+  pub syndrome-refused : {n : ℕ} → n ≡ syndromeRefusal g ks defectList → (n ≡ 0 → ⊥) → FoundSyndrome g ks defectList (list.Refused n) defectList
   syndrome-refused {n} e f =
-      let h : syndromeDoor g ks defectList ≡ 0 → ⊥ = λ z. f (e ∙ z) in
+      let h : syndromeRefusal g ks defectList ≡ 0 → ⊥ = λ z. f (e ∙ z) in
       record {
         answers = refuses-of e f;
-        listed = sym (after-refused (syndromeDoor g ks defectList) (syndromeOf g ks) defectList h);
+        listed = sym (after-refused (syndromeRefusal g ks defectList) (syndromeOf g ks) defectList h);
       }
 
-  pub syndrome-accepted : {last : List ℕ} {n : ℕ} → syndromeDoor g ks defectList ≡ 0 → n ≡ length (syndromeOf g ks) → last ≡ over (syndromeOf g ks) defectList
+  pub syndrome-accepted : {last : List ℕ} {n : ℕ} → syndromeRefusal g ks defectList ≡ 0 → n ≡ length (syndromeOf g ks) → last ≡ over (syndromeOf g ks) defectList
       → FoundSyndrome g ks defectList (list.Count n) last
   syndrome-accepted z p q = record {
     answers = rw p (accepts-of z);
-    listed = q ∙ sym (after-accepted (syndromeDoor g ks defectList) (syndromeOf g ks) defectList z);
+    listed = q ∙ sym (after-accepted (syndromeRefusal g ks defectList) (syndromeOf g ks) defectList z);
   }

@@ -13,14 +13,14 @@ use Rattle.columns.specs.Lists.{each, over}
 use Rattle.columns.specs.Questions.{ask}
 use Rattle.columns.proofs.Columns.{sets-over}
 use Rattle.columns.proofs.Tests.{and-both}
-use Rattle.columns.proofs.Doors.{met, goes-on}
+use Rattle.columns.proofs.Refusals.{met, goes-on}
 use Rattle.columns.proofs.Counting.{length-each}
 use Rattle.sampling_generator.specs.declared.DeterministicRng.{DeterministicRng}
 use Rattle.sampling_calls.specs.Records.{CodeGraph, graphLong, codeSound, SyndromeColumns, syndromeLong}
 use Rattle.sampling_flips.specs.Flip.{flipEach}
 use Rattle.sampling_edges.specs.Draws.{isErased, hasError, sampledErasures, sampledErrors}
 use Rattle.sampling_edges.specs.Steps.{Sampled}
-use Rattle.sampling_calls.specs.Sampling.{sampledDefects, probabilitiesSound, samplingDoor}
+use Rattle.sampling_calls.specs.Sampling.{sampledDefects, probabilitiesSound, samplingRefusal}
 use Rattle.sampling_flips.proofs.Flipping.{length-flipEach}
 use Rattle.columns_marks.proofs.Listing.{chosen-below}
 use Rattle.sampling_calls.proofs.Accepting.{GraphLong, graph-long-of, SyndromeLong, syndrome-long-of, CodeSound, code-sound-of, flipEach-over}
@@ -32,8 +32,8 @@ pub record SamplingMet (g : CodeGraph) (p pe : List Float) (s : SyndromeColumns)
   pub lists : SyndromeLong (g .vertices) (g .edges) s
   pub sound : CodeSound g
 
-pub sampling-met : (g : CodeGraph) (p pe : List Float) (s : SyndromeColumns) → samplingDoor g p pe s ≡ 0 → SamplingMet g p pe s
-unfolding samplingDoor
+pub sampling-met : (g : CodeGraph) (p pe : List Float) (s : SyndromeColumns) → samplingRefusal g p pe s ≡ 0 → SamplingMet g p pe s
+unfolding samplingRefusal
 sampling-met g p pe s z =
     let six = graphLong g && (leb (g .edges) (length p) && (leb (g .edges) (length pe) && syndromeLong (g .vertices) (g .edges) s)) in
     let last = ask (probabilitiesSound (g .edges) p pe) 9 0 in

@@ -24,7 +24,7 @@ use Rattle.sampling_flips.specs.Flip.{flipEach}
 use Rattle.sampling_calls.specs.Answers.{said}
 use Rattle.sampling_calls.specs.Errors.{SyndromeLeft}
 use Rattle.sampling_edges.specs.Draws.{drawNumber, isErased, errorProbability, hasError, sampledErasures, sampledErrors}
-use Rattle.sampling_calls.specs.Sampling.{samplingDoor, GeneratedRandomErrors}
+use Rattle.sampling_calls.specs.Sampling.{samplingRefusal, GeneratedRandomErrors}
 use Rattle.sampling_calls.specs.Prefix.{SameBefore, SameMarksBefore}
 use Rattle.sampling_calls.specs.Syndrome.{hit, endsIn, isDefectOf, syndromeOf}
 use Rattle.sampling_flips.proofs.Flipping.{length-flipEach, flipEach-virtual}
@@ -65,7 +65,7 @@ marks-of : (seed k : ℕ) (g : CodeGraph) (p pe : List Float) (before last : Syn
 unfolding sampledErasures
 marks-of seed k g p pe before last r s z h =
     let marks = sampledErasures (seedFromU64 seed) pe (g .edges) in
-    ap (take k) (s .erasure-is ∙ after-accepted (samplingDoor g p pe before) marks (before .erasure) (accepted-number s z))
+    ap (take k) (s .erasure-is ∙ after-accepted (samplingRefusal g p pe before) marks (before .erasure) (accepted-number s z))
     ∙ take-append-le k marks _ (omega (arith, length-sampledErasures (seedFromU64 seed) pe (g .edges)))
     ∙ take-each k (g .edges) (λ j. cond (isErased (seedFromU64 seed) pe j) 1 0) h
 

@@ -25,8 +25,8 @@ pub record SyndromeLeft (number v e : ℕ) (defects erasures : List ℕ) (before
 -- ---- generate_errors
 
 -- questions 6, 7 and 13
-unfoldable pub errorsDoor : CodeGraph → List ℕ → SyndromeColumns → ℕ
-errorsDoor g list s =
+unfoldable pub errorsRefusal : CodeGraph → List ℕ → SyndromeColumns → ℕ
+errorsRefusal g list s =
     ask (graphLong g && syndromeLong (g .vertices) (g .edges) s) 6
     (ask (codeSound g && (marksSound (g .vertices) (s .defect) && marksSound (g .edges) (s .erasure))) 7
     (ask (allBelow (g .edges) list) 13 0))
@@ -34,6 +34,6 @@ errorsDoor g list s =
 -- an error on each listed edge, over the standing defects; the erasures stay
 abbrev pub GeneratedErrors : CodeGraph → List ℕ → SyndromeColumns → SyndromeAnswer → SyndromeColumns → Type 0
 GeneratedErrors g list before answer last =
-    SyndromeLeft (errorsDoor g list before) (g .vertices) (g .edges)
+    SyndromeLeft (errorsRefusal g list before) (g .vertices) (g .edges)
     (flipEach (g .endsA) (g .endsB) (g .boundary) list (take (g .vertices) (before .defect))) (take (g .edges) (before .erasure))
     before answer last

@@ -25,14 +25,14 @@ unfoldable pub probabilitiesSound : (e : ℕ) (p pe : List Float) → Bool
 probabilitiesSound e p pe = all isProbability (take e p) && all isErasureProbability (take e pe)
 
 -- questions 6, 7 and 9
-unfoldable pub samplingDoor : CodeGraph → (p pe : List Float) → SyndromeColumns → ℕ
-samplingDoor g p pe s =
+unfoldable pub samplingRefusal : CodeGraph → (p pe : List Float) → SyndromeColumns → ℕ
+samplingRefusal g p pe s =
     ask (graphLong g && (leb (g .edges) (length p) && (leb (g .edges) (length pe) && syndromeLong (g .vertices) (g .edges) s))) 6
     (ask (codeSound g) 7
     (ask (probabilitiesSound (g .edges) p pe) 9 0))
 
 abbrev pub GeneratedRandomErrors : (seed : ℕ) → CodeGraph → (p pe : List Float) → SyndromeColumns → SyndromeAnswer → SyndromeColumns → Type 0
 GeneratedRandomErrors seed g p pe before answer last =
-    SyndromeLeft (samplingDoor g p pe before) (g .vertices) (g .edges)
+    SyndromeLeft (samplingRefusal g p pe before) (g .vertices) (g .edges)
     (sampledDefects (seedFromU64 seed) g p pe) (sampledErasures (seedFromU64 seed) pe (g .edges))
     before answer last

@@ -32,12 +32,12 @@ unfoldable pub syndromeOf : CodeGraph → List ℕ → List ℕ
 syndromeOf g edges = chosen (g .vertices) (isDefectOf g edges)
 
 -- questions 6, 7 and 13
-unfoldable pub syndromeDoor : CodeGraph → (edges defectList : List ℕ) → ℕ
-syndromeDoor g edges defectList =
+unfoldable pub syndromeRefusal : CodeGraph → (edges defectList : List ℕ) → ℕ
+syndromeRefusal g edges defectList =
     ask (graphLong g && leb (g .vertices) (length defectList)) 6
     (ask (codeSound g) 7
     (ask (allBelow (g .edges) edges) 13 0))
 
 pub record FoundSyndrome (g : CodeGraph) (edges defectList₀ : List ℕ) (answer : ListAnswer) (defectList : List ℕ) : Type 0 where
-  pub answers : Answered (listSaid answer) (syndromeDoor g edges defectList₀) (length (syndromeOf g edges)) 0
-  pub listed : defectList ≡ after (syndromeDoor g edges defectList₀) (syndromeOf g edges) defectList₀
+  pub answers : Answered (listSaid answer) (syndromeRefusal g edges defectList₀) (length (syndromeOf g edges)) 0
+  pub listed : defectList ≡ after (syndromeRefusal g edges defectList₀) (syndromeOf g edges) defectList₀

@@ -1,5 +1,5 @@
 // Errors on the edges of a code, the defects they leave, and their sampling from a seed.
-pub mod doors;
+pub mod questions;
 
 ghost use mathlib.Core.Path.{_≡_};
 ghost use Rattle.sampling_calls.specs.Records.{codeGraph, syndromeColumns};
@@ -12,9 +12,9 @@ ghost use Rattle.sampling_calls.specs.Syndrome.{syndromeOf, FoundSyndrom
 ghost use Rattle.sampling_flips.specs.Steps.{Fits};
 use columns_marks::list_set;
 use columns_stores::fill_u8;
-use doors::errors_door;
-use doors::sampling_door;
-use doors::syndrome_door;
+use questions::errors_refusal;
+use questions::sampling_refusal;
+use questions::syndrome_refusal;
 pub use sampling_clear::clear_errors;
 use sampling_edges::sample_edges;
 use sampling_flips::flip_all;
@@ -52,7 +52,7 @@ pub fn generate_random_errors(
         r
         (syndromeColumns (now (defect .exit)) (now (erasure .exit)) (now («defect_list» .exit)) (now («erasure_list» .exit))) ⌝ }
 {
-    let number = sampling_door(
+    let number = sampling_refusal(
         vertex_num,
         edge_num,
         ends_a,
@@ -105,7 +105,7 @@ pub fn generate_errors(
         r
         (syndromeColumns (now (defect .exit)) (now (erasure .entry)) (now («defect_list» .exit)) (now («erasure_list» .exit))) ⌝ }
 {
-    let number = errors_door(
+    let number = errors_refusal(
         vertex_num,
         edge_num,
         ends_a,
@@ -189,7 +189,7 @@ pub fn syndrome_of(
 ) -> ListAnswer
     ensures { λ r. ⌜ FoundSyndrome (codeGraph «vertex_num» «edge_num» (now («ends_a» .entry)) (now («ends_b» .entry)) (now (boundary .entry))) (now (list .entry)) (now («defect_list» .entry)) r (now («defect_list» .exit)) ⌝ }
 {
-    let number = syndrome_door(
+    let number = syndrome_refusal(
         vertex_num,
         edge_num,
         ends_a,

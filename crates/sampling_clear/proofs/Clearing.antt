@@ -16,23 +16,23 @@ use Rattle.columns.specs.declared.Done.{Done}
 use Rattle.columns.specs.declared.Done.the-variants.{Accepted}
 use Rattle.columns.proofs.Columns.{after-accepted, after-refused, sets-over}
 use Rattle.columns.proofs.Tests.{and-both}
-use Rattle.sampling_clear.specs.Clear.{clearDoor, ClearedErrors}
+use Rattle.sampling_clear.specs.Clear.{clearRefusal, ClearedErrors}
 
 six-met : (b : Bool) (next : ℕ) → ask b 6 next ≡ 0 → b ≡ true
 six-met true next z = refl
 six-met false next z = absurd (omega arith)
 
 module _ (v e : ℕ) (defect erasure : List ℕ) where
-  pub clear-refused : {r : Done} {n : ℕ} → n ≡ clearDoor v e defect erasure → (n ≡ 0 → ⊥) → r ≡ done n → ClearedErrors v e defect erasure r defect erasure
+  pub clear-refused : {r : Done} {n : ℕ} → n ≡ clearRefusal v e defect erasure → (n ≡ 0 → ⊥) → r ≡ done n → ClearedErrors v e defect erasure r defect erasure
   clear-refused {r} {n} q f h =
-      let g : clearDoor v e defect erasure ≡ 0 → ⊥ = λ z. f (q ∙ z) in
+      let g : clearRefusal v e defect erasure ≡ 0 → ⊥ = λ z. f (q ∙ z) in
       record {
         answers = said-of _ _ (h ∙ ap done q);
-        defect-is = sym (after-refused (clearDoor v e defect erasure) (replicate v 0) defect g);
-        erasure-is = sym (after-refused (clearDoor v e defect erasure) (replicate e 1) erasure g);
+        defect-is = sym (after-refused (clearRefusal v e defect erasure) (replicate v 0) defect g);
+        erasure-is = sym (after-refused (clearRefusal v e defect erasure) (replicate e 1) erasure g);
       }
 
-  pub clear-accepted : {d s : List ℕ} → clearDoor v e defect erasure ≡ 0 → d ≡ sets defect 0 (replicate v 0) → s ≡ sets erasure 0 (replicate e 1)
+  pub clear-accepted : {d s : List ℕ} → clearRefusal v e defect erasure ≡ 0 → d ≡ sets defect 0 (replicate v 0) → s ≡ sets erasure 0 (replicate e 1)
       → ClearedErrors v e defect erasure Accepted d s
   clear-accepted {d} {s} z p q =
       let six = leb v (length defect) && leb e (length erasure) in

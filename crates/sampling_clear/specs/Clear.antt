@@ -12,12 +12,12 @@ use Rattle.columns_answers.specs.Done.{said}
 use Rattle.columns.specs.declared.Done.{Done}
 
 -- questions 6 and 7
-abbrev pub clearDoor : (v e : ℕ) (defect erasure : List ℕ) → ℕ
-clearDoor v e defect erasure =
+abbrev pub clearRefusal : (v e : ℕ) (defect erasure : List ℕ) → ℕ
+clearRefusal v e defect erasure =
     ask (leb v (length defect) && leb e (length erasure)) 6 (ask (vertexCountSound v && edgeCountSound e) 7 0)
 
 -- every defect byte 0, every erasure byte 1
 pub record ClearedErrors (v e : ℕ) (defect₀ erasure₀ : List ℕ) (answer : Done) (defect erasure : List ℕ) : Type 0 where
-  pub answers : Answered (said answer) (clearDoor v e defect₀ erasure₀) tt tt
-  pub defect-is : defect ≡ after (clearDoor v e defect₀ erasure₀) (replicate v 0) defect₀
-  pub erasure-is : erasure ≡ after (clearDoor v e defect₀ erasure₀) (replicate e 1) erasure₀
+  pub answers : Answered (said answer) (clearRefusal v e defect₀ erasure₀) tt tt
+  pub defect-is : defect ≡ after (clearRefusal v e defect₀ erasure₀) (replicate v 0) defect₀
+  pub erasure-is : erasure ≡ after (clearRefusal v e defect₀ erasure₀) (replicate e 1) erasure₀

@@ -12,7 +12,7 @@ use borrow.Author.Tests.{le-leb, lt-leb}
 use Rattle.columns.specs.Lists.{after}
 use Rattle.columns.specs.Questions.{ask}
 use Rattle.columns.proofs.Columns.{after-accepted, after-refused, sets-over}
-use Rattle.columns.proofs.Doors.{met}
+use Rattle.columns.proofs.Refusals.{met}
 use Rattle.columns_answers.proofs.Said.{accepts-of, refuses-of, zero-of, values-of}
 use Rattle.text_numbers.specs.Text.{refusalLine}
 use Rattle.text_numbers.specs.Steps.{Put}
@@ -24,7 +24,7 @@ use Rattle.text_listing.specs.Listing.{codeText}
 use Rattle.text_listing.proofs.Texts.{renamed}
 use Rattle.text_answer.specs.declared.Listed.{Listed}
 use Rattle.text_answer.specs.declared.Listed.the-variants as call
-use Rattle.text_answer.specs.Answer.{textBy, textOf, answerText, textRoom, textDoor, CodeListed}
+use Rattle.text_answer.specs.Answer.{textBy, textOf, answerText, textRoom, textRefusal, CodeListed}
 use Rattle.text_answer.proofs.Sizes.{every-text-fits}
 
 module _ (line : LineRead) {t₀ t : List ℕ} {r : ℕ} where
@@ -50,19 +50,19 @@ read-text input NotWellFormed a = go (wellFormed input) (a .number-is)
 
 pub too-short : (input text : List ℕ) → length text < textRoom → CodeListed input text text (call.Refused 6)
 too-short input text h =
-    let q : textDoor text ≡ 6 = ap (λ (b : Bool). ask b 6 0) (lt-leb textRoom (length text) h) in
+    let q : textRefusal text ≡ 6 = ap (λ (b : Bool). ask b 6 0) (lt-leb textRoom (length text) h) in
     record {
       answer = refuses-of (sym q) (λ z. absurd (omega arith));
-      written = sym (after-refused (textDoor text) (answerText input) text (λ z. omega (arith, q)));
+      written = sym (after-refused (textRefusal text) (answerText input) text (λ z. omega (arith, q)));
     }
 
 pub long-enough : (input text₀ text : List ℕ) (l : LineRead) (r : ℕ) → textRoom ≤ length text₀ → ReadsLine input l → Put text₀ 0 (textOf l) text r → CodeListed input text₀ text (call.Text r)
 long-enough input text₀ text l r h e p =
-    let q : textDoor text₀ ≡ 0 = ap (λ (b : Bool). ask b 6 0) (le-leb textRoom (length text₀) h) in
+    let q : textRefusal text₀ ≡ 0 = ap (λ (b : Bool). ask b 6 0) (le-leb textRoom (length text₀) h) in
     let same : textOf l ≡ answerText input = read-text input l e in
     let fits : length (answerText input) ≤ length text₀ = omega (arith, every-text-fits input) in
     let next : r ≡ length (answerText input) = p .next ∙ omega (arith, ap length same) in
     record {
       answer = rw next (accepts-of q);
-      written = p .stored ∙ ap (sets text₀ 0) same ∙ sets-over text₀ (answerText input) fits ∙ sym (after-accepted (textDoor text₀) (answerText input) text₀ q);
+      written = p .stored ∙ ap (sets text₀ 0) same ∙ sets-over text₀ (answerText input) fits ∙ sym (after-accepted (textRefusal text₀) (answerText input) text₀ q);
     }

@@ -42,10 +42,10 @@ said (Text bytes) = accepts bytes
 said (Refused number) = refuses number 0
 
 -- question 6 of the text column
-abbrev pub textDoor : List ℕ → ℕ
-textDoor text = ask (leb textRoom (length text)) 6 0
+abbrev pub textRefusal : List ℕ → ℕ
+textRefusal text = ask (leb textRoom (length text)) 6 0
 
 -- the answer, and the text column before and after
 pub record CodeListed (input before text : List ℕ) (r : Listed) : Type 0 where
-  pub answer : Answered (said r) (textDoor before) (length (answerText input)) 0
-  pub written : text ≡ after (textDoor before) (answerText input) before
+  pub answer : Answered (said r) (textRefusal before) (length (answerText input)) 0
+  pub written : text ≡ after (textRefusal before) (answerText input) before

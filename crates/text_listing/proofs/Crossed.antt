@@ -15,7 +15,7 @@ use Rattle.columns.specs.Questions.{ask, all, weightsSound, boundariesSound, al
 use Rattle.columns.proofs.Tests.{both-and}
 use Rattle.columns_neighbors.specs.Sound.{graphSound, logSound}
 use Rattle.engine_columns.specs.Records.{Engine, engine, counts}
-use Rattle.engine_columns.specs.Door.{columnsLong, longEnough, columnsSound, sound}
+use Rattle.engine_columns.specs.Questions.{columnsLong, engineLong, columnsSound, engineSound}
 use Rattle.engine_walks.specs.Answers.{crossing}
 use Rattle.engine_walks.specs.Graph.{Graph}
 use Rattle.codes_writers.specs.declared.CodeVertex.{CodeVertex}
@@ -24,12 +24,12 @@ use Rattle.codes_layers.specs.Codes.{edgesOf, verticesOf}
 use Rattle.codes_layers.specs.Counts.{vertexNum, edgeNum}
 use Rattle.codes_layers.proofs.Accepted.{accepted}
 use Rattle.codes_layers.proofs.Counted.{edges-counted, vertices-counted}
-use Rattle.codes_graphs.specs.Graphs.{codeGraph}
+use Rattle.codes_graphs.specs.Graphs.{builtGraph}
 use Rattle.codes_graphs.proofs.Sound.{built}
 use Rattle.query_crossing_answer.specs.declared.CrossingReply.{CrossingReply}
 use Rattle.query_crossing_answer.specs.declared.CrossingReply.the-variants.{Crossed, Refused}
 use Rattle.query_questions.specs.Queries.{graphIn, weightsIn, scratchLong}
-use Rattle.query_crossing_answer.specs.Crossing.{isJoined, weightFound, said, crossingDoor, crossingNumber, CrossingStep}
+use Rattle.query_crossing_answer.specs.Crossing.{isJoined, weightFound, said, crossingAsked, crossingRefusal, CrossingStep}
 use Rattle.columns_answers.specs.Said.{Answered}
 use Rattle.text_listing.specs.Listing.{weightsOf, crossingOf}
 use Rattle.text_listing.specs.Steps.{HoldsWeights, ScratchRoom, Replied}
@@ -77,12 +77,12 @@ module _ (kind d rounds : ℕ) (p : _) (max v e : ℕ) (a b w m : List ℕ) (s :
       none′ test [] = refl
       none′ test (x ∷ xs) = refl
 
-  engine-sound : (le lw : List ℕ) → sound (the-engine le lw) ≡ true
-  unfolding sound columnsSound
+  engine-sound : (le lw : List ℕ) → engineSound (the-engine le lw) ≡ true
+  unfolding engineSound columnsSound
   engine-sound le lw = both-and (both-and graph-sound (both-and (s .few-w) boundary-sound)) (no-log le lw)
 
-  engine-long : (le lw : List ℕ) → longEnough 0 (the-engine le lw) ≡ true
-  unfolding longEnough columnsLong
+  engine-long : (le lw : List ℕ) → engineLong 0 (the-engine le lw) ≡ true
+  unfolding engineLong columnsLong
   engine-long le lw =
       both-and (both-and (le-leb e (length a) long-a) (both-and (le-leb e (length b) long-b) (both-and (le-leb e (length w) long-w) (le-leb v (length m) long-m))))
       (both-and (le-leb (0 + 0) (length le) (omega arith)) (le-leb (0 + 0) (length lw) (omega arith)))
@@ -98,8 +98,8 @@ module _ (kind d rounds : ℕ) (p : _) (max v e : ℕ) (a b w m : List ℕ) (s :
       (both-and (le-leb v n5 (omega (arith, s .few-vertices, r .previous-room)))
       (both-and (le-leb v n6 (omega (arith, s .few-vertices, r .node-room))) (le-leb v n7 (omega (arith, s .few-vertices, r .leaf-room)))))))))
 
-  same-graph : (le lw : List ℕ) → graphIn (the-engine le lw) ≡ codeGraph kind d rounds
-  unfolding codeGraph
+  same-graph : (le lw : List ℕ) → graphIn (the-engine le lw) ≡ builtGraph kind d rounds
+  unfolding builtGraph
   same-graph le lw = λ i. record { vertices = s .vertices i; endsA = s .in-a i; endsB = s .in-b i; boundary = s .in-m i }
 
   same-crossing : (le lw : List ℕ) → crossing (graphIn (the-engine le lw)) (weightsIn (the-engine le lw)) ≡ crossingOf kind d rounds p max
@@ -107,11 +107,11 @@ module _ (kind d rounds : ℕ) (p : _) (max v e : ℕ) (a b w m : List ℕ) (s :
   same-crossing le lw = λ i. crossing (same-graph le lw i) (λ k. getD (s .in-w i) k 0)
 
   pub replied : (le lw : List ℕ) (out n1 n2 n3 n4 n5 n6 n7 : ℕ) (r : CrossingReply) → ScratchRoom out n1 n2 n3 n4 n5 n6 n7
-      → Answered (said r) (crossingNumber (the-engine le lw) (scratchLong v e n1 n2 n3 n4 n5 n6 n7) out) (weightFound (crossing (graphIn (the-engine le lw)) (weightsIn (the-engine le lw)))) 0
+      → Answered (said r) (crossingRefusal (the-engine le lw) (scratchLong v e n1 n2 n3 n4 n5 n6 n7) out) (weightFound (crossing (graphIn (the-engine le lw)) (weightsIn (the-engine le lw)))) 0
       → Replied kind d rounds p max r
   replied le lw out n1 n2 n3 n4 n5 n6 n7 r room q =
       let o : Option ℕ = crossing (graphIn (the-engine le lw)) (weightsIn (the-engine le lw)) in
-      let number : crossingNumber (the-engine le lw) (scratchLong v e n1 n2 n3 n4 n5 n6 n7) out ≡ ask (isJoined o) 18 0 =
+      let number : crossingRefusal (the-engine le lw) (scratchLong v e n1 n2 n3 n4 n5 n6 n7) out ≡ ask (isJoined o) 18 0 =
       λ i. ask (both-and (engine-long le lw) (scratch-long out n1 n2 n3 n4 n5 n6 n7 room) i) 6 (ask (engine-sound le lw i) 7 (ask (isJoined o) 18 0)) in
       subst (λ (c : Option ℕ). Answered (said r) (ask (isJoined c) 18 0) (weightFound c) 0) (same-crossing le lw)
       (subst (λ (n : ℕ). Answered (said r) n (weightFound o) 0) number q)

@@ -9,11 +9,11 @@ use Rattle.codes_writers.specs.Edges.{Ends}
 use Rattle.codes_layers.specs.Codes.{edgesOf}
 use Rattle.codes_layers.specs.Counts.{vertexNum}
 use Rattle.codes_layers.proofs.Accepted.{Accepted, accepted}
-use Rattle.engine_walks.specs.Graph.{Graph, edges, InRange, Left, Right, Joined}
+use Rattle.engine_walks.specs.Graph.{Graph, edges, GraphInRange, Left, Right, Joined}
 use Rattle.engine_walks.specs.Answers.{crossing}
 use Rattle.engine_walks.specs.Claims.{CrossingAnswer}
 use Rattle.engine_walks.proofs.LeastCrossing.{crossing-is-least}
-use Rattle.codes_graphs.specs.Graphs.{codeGraph, height}
+use Rattle.codes_graphs.specs.Graphs.{builtGraph, height}
 use Rattle.codes_graphs.proofs.AllEdges.{EdgeFacts, edge-facts}
 use Rattle.codes_graphs.proofs.AllVertices.{byte-at}
 use Rattle.codes_graphs.proofs.Sound.{first-is, second-is}
@@ -22,17 +22,17 @@ use Rattle.text_listing.specs.Claims.{EveryCodeCrosses}
 
 module _ (kind d rounds : ℕ) (ok : Accepted kind d rounds) where
   abbrev g : Graph
-  g = codeGraph kind d rounds
+  g = builtGraph kind d rounds
 
   facts : EdgeFacts (height kind d) (vertexNum kind d rounds) (edgesOf kind d rounds)
   facts = edge-facts kind d rounds ok
 
   many : edges g ≡ length (edgesOf kind d rounds)
-  unfolding codeGraph
+  unfolding builtGraph
   many = length-map (edgesOf kind d rounds) (λ (e : Ends). e .0)
 
-  in-range : InRange g
-  unfolding codeGraph
+  in-range : GraphInRange g
+  unfolding builtGraph
   in-range = record {
     a-in = λ k h. omega (arith, first-is kind d rounds ok k, facts .rising k (omega (arith, many)), facts .within k (omega (arith, many)));
     b-in = λ k h. omega (arith, second-is kind d rounds ok k, facts .within k (omega (arith, many)));

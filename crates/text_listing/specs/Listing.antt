@@ -12,7 +12,7 @@ use Rattle.codes_writers.specs.Edges.{firsts, seconds, boundaries}
 use Rattle.codes_layers.specs.Codes.{edgesOf, verticesOf}
 use Rattle.codes_layers.specs.Counts.{vertexNum, edgeNum}
 use Rattle.codes_layers.specs.Accepts.{codeRefusal}
-use Rattle.codes_graphs.specs.Graphs.{codeGraph}
+use Rattle.codes_graphs.specs.Graphs.{builtGraph}
 use Rattle.engine_walks.specs.Answers.{crossing}
 use Rattle.weights_recipe.specs.Probabilities.{isProbability}
 use Rattle.weights_diagonal.specs.Diagonal.{isDiagonalProbability}
@@ -39,7 +39,7 @@ weightsOf kind d rounds p max = weights (edgeNum kind d rounds) (halfWeights max
 
 -- the crossing weight under these weights, if there is one
 unfoldable pub crossingOf : (kind d rounds : ℕ) (p : Float) (max : ℕ) → Option ℕ
-crossingOf kind d rounds p max = crossing (codeGraph kind d rounds) (λ e. getD (weightsOf kind d rounds p max) e 0)
+crossingOf kind d rounds p max = crossing (builtGraph kind d rounds) (λ e. getD (weightsOf kind d rounds p max) e 0)
 
 -- the listing with a crossing weight; 18 where there is none, which no code has (Claims)
 abbrev pub withCrossing : (kind d rounds : ℕ) (weights : List ℕ) → Option ℕ → List ℕ

@@ -24,10 +24,10 @@ use Rattle.weights_recipe.specs.Constants.{half}
 use Rattle.weights_recipe.specs.Probabilities.{isProbability}
 use Rattle.weights_recipe.specs.Logarithm.{halve, series, logarithm, edgeWeight}
 use Rattle.weights_recipe.specs.Rounding.{reaches, greatest, scaled, atLeastOne, halfWeight}
-use Rattle.weights_calls.specs.Calls.{larger, largest, edgeWeights, largestWeight, someAbove, isLargestHalfWeight, halfWeights, computeDoor, ComputedWeights}
+use Rattle.weights_calls.specs.Calls.{larger, largest, edgeWeights, largestWeight, someAbove, isLargestHalfWeight, halfWeights, computeRefusal, ComputedWeights}
 use Rattle.weights_recipe.proofs.Recipe.{zero-weight}
 use Rattle.weights_recipe.proofs.Search.{is-greatest, misses, greatest-within}
-use Rattle.columns.proofs.Doors.{met, goes-on}
+use Rattle.columns.proofs.Refusals.{met, goes-on}
 
 -- ---- what an accepted call knows
 
@@ -40,7 +40,7 @@ pub record Met (edges : ℕ) (p : List Float) (column : List ℕ) (max : ℕ) : 
   pub probabilities : all isProbability (take edges p) ≡ true
   pub above : someAbove (edgeWeights (take edges p)) ≡ true
 
-pub all-met : (edges : ℕ) (p : List Float) (column : List ℕ) (max : ℕ) → computeDoor edges p column max ≡ 0 → Met edges p column max
+pub all-met : (edges : ℕ) (p : List Float) (column : List ℕ) (max : ℕ) → computeRefusal edges p column max ≡ 0 → Met edges p column max
 all-met edges p column max e =
     let six = leb edges (length p) && leb edges (length column) in
     let seven = leb edges edgeLimit in
@@ -71,7 +71,7 @@ pub record Written (edges : ℕ) (p : List Float) (before : List ℕ) (max : ℕ
 pub written : {edges : ℕ} {p : List Float} {before : List ℕ} {max : ℕ} {column : List ℕ} {answer : Done} → ComputedWeights edges p before max column answer → answer ≡ Accepted
     → Met edges p before max × Written edges p before max column
 written {edges} {p} {before} {max} {column} {answer} w a =
-    let q = computeDoor edges p before max in
+    let q = computeRefusal edges p before max in
     let zero : q ≡ 0 = sym (w .answers .number-is) ∙ ap (λ (r : Done). said r .number) a in
     let m = all-met edges p before max zero in
     let ps = take edges p in
@@ -209,7 +209,7 @@ all-level (p ∷ ps) f =
     ∙ ap (λ (b : Bool). b || someAbove (edgeWeights ps)) none-above ∙ all-level ps (λ i h. f (suc i) (omega arith))
 
 pub all-half : (edges : ℕ) (p : List Float) (column : List ℕ) (max : ℕ) → edges ≤ length p → edges ≤ length column → edges ≤ edgeLimit → 1 ≤ max → max ≤ halfWeightLimit
-    → ((i : ℕ) → i < edges → getD p i zeroFloat ≡ half) → computeDoor edges p column max ≡ 10
+    → ((i : ℕ) → i < edges → getD p i zeroFloat ≡ half) → computeRefusal edges p column max ≡ 10
 all-half edges p column max a b c d e f =
     let ps = take edges p in
     let each : (i : ℕ) → i < length ps → getD ps i zeroFloat ≡ half = λ i h.

@@ -20,8 +20,8 @@ use Rattle.weights_recipe.specs.Rounding.{halfWeight}
 -- ---- weight_of_p
 
 -- question 9 of one p
-abbrev pub weightDoor : Float → ℕ
-weightDoor p = ask (isProbability p) 9 0
+abbrev pub weightRefusal : Float → ℕ
+weightRefusal p = ask (isProbability p) 9 0
 
 -- ---- compute_weights
 
@@ -55,8 +55,8 @@ abbrev pub halfWeights : ℕ → List Float → List ℕ
 halfWeights max ps = map (λ p. halfWeight max (edgeWeight p) (largestWeight ps)) ps
 
 -- questions 6 to 10, in order; 9 and 10 are asked of the first places, as many as there are edges
-abbrev pub computeDoor : ℕ → List Float → List ℕ → ℕ → ℕ
-computeDoor edges p column max =
+abbrev pub computeRefusal : ℕ → List Float → List ℕ → ℕ → ℕ
+computeRefusal edges p column max =
     ask (leb edges (length p) && leb edges (length column)) 6
     (ask (leb edges edgeLimit) 7
     (ask (isLargestHalfWeight max) 8
@@ -65,5 +65,5 @@ computeDoor edges p column max =
 
 -- the call: its answer, and what stands in the half-weight column, `before` it and afterwards
 pub record ComputedWeights (edges : ℕ) (p : List Float) (before : List ℕ) (max : ℕ) (column : List ℕ) (answer : Done) : Type 0 where
-  pub answers : Answered (said answer) (computeDoor edges p before max) tt tt
-  pub writes : column ≡ after (computeDoor edges p before max) (halfWeights max (take edges p)) before
+  pub answers : Answered (said answer) (computeRefusal edges p before max) tt tt
+  pub writes : column ≡ after (computeRefusal edges p before max) (halfWeights max (take edges p)) before

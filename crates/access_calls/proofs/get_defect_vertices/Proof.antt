@@ -1,5 +1,5 @@
 -- `access_calls::get_defect_vertices` meets its contract. Assumes nothing.
-use Rattle.access_calls.proofs.Doors.{get-tested}
+use Rattle.access_calls.proofs.Refusals.{get-tested}
 use Rattle.access_calls.proofs.get_defect_vertices.Statement.{statement}
 use Rattle.access_calls.proofs.get_defect_vertices.Tie as tie
 

@@ -2,14 +2,14 @@
 use mathlib.Core.Path.{_≡_, refl, sym, _∙_}
 use Rattle.columns.proofs.Columns.{after-accepted, after-refused}
 use Rattle.columns_marks.specs.Marks.{listed}
-use Rattle.access_calls.specs.Calls.{getDoor}
+use Rattle.access_calls.specs.Calls.{getMarksRefusal}
 use Rattle.columns_answers.proofs.Said.{accepts-of, refuses-of}
-use Rattle.access_calls.proofs.Doors.{get-met}
+use Rattle.access_calls.proofs.Refusals.{get-met}
 use Rattle.access_calls.proofs.get_named.Statement.{statement}
 use Rattle.access_calls.proofs.get_named.Tie as tie
 
 -- the number that the questions give
-number : (c : tie.After-asked2) → let s = c .before .before .before .before .before .before .before .before .before .args in c .asked2 .result ≡ getDoor (s .sound) (s .n) (s .column .now) (s .list .now)
+number : (c : tie.After-asked2) → let s = c .before .before .before .before .before .before .before .before .before .args in c .asked2 .result ≡ getMarksRefusal (s .sound) (s .n) (s .column .now) (s .list .now)
 number c = cc
 
 list-set-requires : tie.Need-list-set-requires
@@ -23,7 +23,7 @@ same-length c = c .before .list .given
 returns : tie.Need-returns
 returns c =
     let s = c .before .before .before .before .before .before .before .before .before .before .before .before .before .before .args in
-    let q = getDoor (s .sound) (s .n) (s .column .now) (s .list .now) in
+    let q = getMarksRefusal (s .sound) (s .n) (s .column .now) (s .list .now) in
     let vs = listed (s .n) (s .column .now) in
     let z : q ≡ 0 = sym (number (c .before .before .before .before .before)) ∙ c .before .before .before .before .if1 .taken in
     let p = c .before .before .list-set .ensures in
@@ -35,7 +35,7 @@ returns c =
 returns-2 : tie.Need-returns-2
 returns-2 c =
     let s = c .before .before .before .before .before .before .before .before .before .before .args in
-    let q = getDoor (s .sound) (s .n) (s .column .now) (s .list .now) in
+    let q = getMarksRefusal (s .sound) (s .n) (s .column .now) (s .list .now) in
     let vs = listed (s .n) (s .column .now) in
     let d = number (c .before) in
     let g : q ≡ 0 → ⊥ = λ e. c .if1 .left (d ∙ e) in

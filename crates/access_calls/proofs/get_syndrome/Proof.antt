@@ -2,9 +2,9 @@
 use mathlib.Core.Path.{_≡_, refl, sym, _∙_}
 use Rattle.columns.proofs.Columns.{after-accepted, after-refused}
 use Rattle.columns_marks.specs.Marks.{listed}
-use Rattle.access_calls.specs.Calls.{syndrome, getSyndromeDoor}
+use Rattle.access_calls.specs.Calls.{syndrome, getSyndromeRefusal}
 use Rattle.columns_answers.proofs.Said.{accepts-of, refuses-of}
-use Rattle.access_calls.proofs.Doors.{get-syndrome-met}
+use Rattle.access_calls.proofs.Refusals.{get-syndrome-met}
 use borrow.Author.Needs.{needs}
 use Rattle.access_calls.proofs.get_syndrome.Statement.{statement}
 use Rattle.access_calls.proofs.get_syndrome.Tie as tie
@@ -16,7 +16,7 @@ list-set-requires c κs =
     let lists = syndrome (s .defect-list .now) (s .erasure-list .now) in
     let v = s .vertex-num in
     let e = s .edge-num in
-    let m = get-syndrome-met v e bytes lists (sym (c .before .before .get-syndrome-door .ensures) ∙ c .before .if1 .taken) in
+    let m = get-syndrome-met v e bytes lists (sym (c .before .before .get-syndrome-refusal .ensures) ∙ c .before .if1 .taken) in
     (m .0 .0, m .1 .0)
 
 list-set-requires-2 : tie.Need-list-set-requires-2
@@ -26,7 +26,7 @@ list-set-requires-2 c κs =
     let lists = syndrome (s .defect-list .now) (s .erasure-list .now) in
     let v = s .vertex-num in
     let e = s .edge-num in
-    let m = get-syndrome-met v e bytes lists (sym (c .before .before .before .before .before .before .get-syndrome-door .ensures) ∙ c .before .before .before .before .before .if1 .taken) in
+    let m = get-syndrome-met v e bytes lists (sym (c .before .before .before .before .before .before .get-syndrome-refusal .ensures) ∙ c .before .before .before .before .before .if1 .taken) in
     (m .0 .1, m .1 .1)
 
 same-length : tie.Need-same-length
@@ -42,16 +42,16 @@ returns c =
     let lists = syndrome (s .defect-list .now) (s .erasure-list .now) in
     let v = s .vertex-num in
     let e = s .edge-num in
-    let q = getSyndromeDoor v e bytes lists in
-    let z : q ≡ 0 = sym (c .before .before .before .before .before .before .before .before .before .get-syndrome-door .ensures) ∙ c .before .before .before .before .before .before .before .before .if1 .taken in
+    let q = getSyndromeRefusal v e bytes lists in
+    let z : q ≡ 0 = sym (c .before .before .before .before .before .before .before .before .before .get-syndrome-refusal .ensures) ∙ c .before .before .before .before .before .before .before .before .if1 .taken in
     let ds = listed v (s .defect .now) in
     let es = listed e (s .erasure .now) in
     let p = c .before .before .before .before .before .before .list-set .ensures in
     let r = c .before .before .list-set2 .ensures in
     record {
       answers = rw (p .0, r .0) (accepts-of z);
-      defects-left = p .1 ∙ sym (after-accepted q ds (s .defect-list .now) z);
-      erasures-left = r .1 ∙ sym (after-accepted q es (s .erasure-list .now) z);
+      defects-after = p .1 ∙ sym (after-accepted q ds (s .defect-list .now) z);
+      erasures-after = r .1 ∙ sym (after-accepted q es (s .erasure-list .now) z);
     }
 
 returns-2 : tie.Need-returns-2
@@ -61,15 +61,15 @@ returns-2 c =
     let lists = syndrome (s .defect-list .now) (s .erasure-list .now) in
     let v = s .vertex-num in
     let e = s .edge-num in
-    let q = getSyndromeDoor v e bytes lists in
+    let q = getSyndromeRefusal v e bytes lists in
     let ds = listed v (s .defect .now) in
     let es = listed e (s .erasure .now) in
-    let d = c .before .get-syndrome-door .ensures in
+    let d = c .before .get-syndrome-refusal .ensures in
     let g : q ≡ 0 → ⊥ = λ x. c .if1 .left (d ∙ x) in
     record {
       answers = refuses-of d (c .if1 .left);
-      defects-left = sym (after-refused q ds (s .defect-list .now) g);
-      erasures-left = sym (after-refused q es (s .erasure-list .now) g);
+      defects-after = sym (after-refused q ds (s .defect-list .now) g);
+      erasures-after = sym (after-refused q es (s .erasure-list .now) g);
     }
 
 pub get-syndrome-spec : {M : Type 1} → statement M

@@ -1,5 +1,5 @@
 -- `access_calls::set_erasures` meets its contract. Assumes nothing.
-use Rattle.access_calls.proofs.Doors.{set-tested}
+use Rattle.access_calls.proofs.Refusals.{set-tested}
 use Rattle.access_calls.proofs.set_erasures.Statement.{statement}
 use Rattle.access_calls.proofs.set_erasures.Tie as tie
 

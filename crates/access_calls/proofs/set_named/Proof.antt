@@ -5,13 +5,13 @@ use Rattle.columns_answers.proofs.Said.{accepts-of}
 use Rattle.columns_answers.proofs.Done.{said-of}
 use Rattle.columns.proofs.Columns.{after-accepted, after-refused}
 use Rattle.columns_marks.specs.Marks.{marks}
-use Rattle.access_calls.specs.Calls.{setDoor}
-use Rattle.access_calls.proofs.Doors.{set-met}
+use Rattle.access_calls.specs.Calls.{setMarksRefusal}
+use Rattle.access_calls.proofs.Refusals.{set-met}
 use Rattle.access_calls.proofs.set_named.Statement.{statement}
 use Rattle.access_calls.proofs.set_named.Tie as tie
 
 -- the number that the questions give
-number : (c : tie.After-asked3) → let s = c .before .before .before .before .before .before .before .args in c .asked3 .result ≡ setDoor (s .sound) (s .n) (s .list .now) (s .column .now)
+number : (c : tie.After-asked3) → let s = c .before .before .before .before .before .before .before .args in c .asked3 .result ≡ setMarksRefusal (s .sound) (s .n) (s .list .now) (s .column .now)
 number c = cc
 
 set-marks-requires : tie.Need-set-marks-requires
@@ -25,7 +25,7 @@ same-length c = c .before .column .given
 returns : tie.Need-returns
 returns c =
     let s = c .before .before .before .before .before .before .before .before .before .before .before .before .args in
-    let q = setDoor (s .sound) (s .n) (s .list .now) (s .column .now) in
+    let q = setMarksRefusal (s .sound) (s .n) (s .list .now) (s .column .now) in
     let vs = marks (s .n) (s .list .now) in
     let z : q ≡ 0 = sym (number (c .before .before .before .before .before)) ∙ c .before .before .before .before .if1 .taken in
     record {
@@ -36,7 +36,7 @@ returns c =
 returns-2 : tie.Need-returns-2
 returns-2 c =
     let s = c .before .before .before .before .before .before .before .before .before .args in
-    let q = setDoor (s .sound) (s .n) (s .list .now) (s .column .now) in
+    let q = setMarksRefusal (s .sound) (s .n) (s .list .now) (s .column .now) in
     let vs = marks (s .n) (s .list .now) in
     let d = number (c .before .before) in
     record {

@@ -5,8 +5,8 @@ use Rattle.columns_answers.proofs.Said.{accepts-of}
 use Rattle.columns_answers.proofs.Done.{said-of}
 use Rattle.columns.proofs.Columns.{after-accepted, after-refused}
 use Rattle.columns_marks.specs.Marks.{marks}
-use Rattle.access_calls.specs.Calls.{syndrome, setSyndromeDoor}
-use Rattle.access_calls.proofs.Doors.{set-syndrome-met}
+use Rattle.access_calls.specs.Calls.{syndrome, setSyndromeRefusal}
+use Rattle.access_calls.proofs.Refusals.{set-syndrome-met}
 use borrow.Author.Needs.{needs}
 use Rattle.access_calls.proofs.set_syndrome.Statement.{statement}
 use Rattle.access_calls.proofs.set_syndrome.Tie as tie
@@ -18,7 +18,7 @@ set-marks-requires c κs =
     let lists = syndrome (s .defect-list .now) (s .erasure-list .now) in
     let v = s .vertex-num in
     let e = s .edge-num in
-    let m = set-syndrome-met v e lists bytes (sym (c .before .before .set-syndrome-door .ensures) ∙ c .before .if1 .taken) in
+    let m = set-syndrome-met v e lists bytes (sym (c .before .before .set-syndrome-refusal .ensures) ∙ c .before .if1 .taken) in
     (m .0 .0, m .1 .0)
 
 set-marks-requires-2 : tie.Need-set-marks-requires-2
@@ -28,7 +28,7 @@ set-marks-requires-2 c κs =
     let lists = syndrome (s .defect-list .now) (s .erasure-list .now) in
     let v = s .vertex-num in
     let e = s .edge-num in
-    let m = set-syndrome-met v e lists bytes (sym (c .before .before .before .before .before .before .set-syndrome-door .ensures) ∙ c .before .before .before .before .before .if1 .taken) in
+    let m = set-syndrome-met v e lists bytes (sym (c .before .before .before .before .before .before .set-syndrome-refusal .ensures) ∙ c .before .before .before .before .before .if1 .taken) in
     (m .0 .1, m .1 .1)
 
 same-length : tie.Need-same-length
@@ -44,12 +44,12 @@ returns c =
     let lists = syndrome (s .defect-list .now) (s .erasure-list .now) in
     let v = s .vertex-num in
     let e = s .edge-num in
-    let q = setSyndromeDoor v e lists bytes in
-    let z : q ≡ 0 = sym (c .before .before .before .before .before .before .before .before .before .set-syndrome-door .ensures) ∙ c .before .before .before .before .before .before .before .before .if1 .taken in
+    let q = setSyndromeRefusal v e lists bytes in
+    let z : q ≡ 0 = sym (c .before .before .before .before .before .before .before .before .before .set-syndrome-refusal .ensures) ∙ c .before .before .before .before .before .before .before .before .if1 .taken in
     record {
       answers = accepts-of z;
-      defects-left = c .before .before .before .before .before .before .set-marks .ensures ∙ sym (after-accepted q (marks v (lists .defects)) (s .defect .now) z);
-      erasures-left = c .before .before .set-marks2 .ensures ∙ sym (after-accepted q (marks e (lists .erasures)) (s .erasure .now) z);
+      defects-after = c .before .before .before .before .before .before .set-marks .ensures ∙ sym (after-accepted q (marks v (lists .defects)) (s .defect .now) z);
+      erasures-after = c .before .before .set-marks2 .ensures ∙ sym (after-accepted q (marks e (lists .erasures)) (s .erasure .now) z);
     }
 
 returns-2 : tie.Need-returns-2
@@ -59,13 +59,13 @@ returns-2 c =
     let lists = syndrome (s .defect-list .now) (s .erasure-list .now) in
     let v = s .vertex-num in
     let e = s .edge-num in
-    let q = setSyndromeDoor v e lists bytes in
-    let d = c .before .before .set-syndrome-door .ensures in
+    let q = setSyndromeRefusal v e lists bytes in
+    let d = c .before .before .set-syndrome-refusal .ensures in
     let g : q ≡ 0 → ⊥ = λ x. c .before .if1 .left (d ∙ x) in
     record {
       answers = said-of _ _ (c .done-of .ensures ∙ ap done d);
-      defects-left = sym (after-refused q (marks v (lists .defects)) (s .defect .now) g);
-      erasures-left = sym (after-refused q (marks e (lists .erasures)) (s .erasure .now) g);
+      defects-after = sym (after-refused q (marks v (lists .defects)) (s .defect .now) g);
+      erasures-after = sym (after-refused q (marks e (lists .erasures)) (s .erasure .now) g);
     }
 
 pub set-syndrome-spec : {M : Type 1} → statement M

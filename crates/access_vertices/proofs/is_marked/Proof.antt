@@ -5,14 +5,14 @@ use mathlib.Core.Bool.{_&&_}
 use lib.ListN.{length}
 use lib.Dec.{leb}
 use Rattle.columns.specs.Questions.{ask, vertexCountSound}
-use Rattle.access_vertices.specs.Marked.{isDoor}
+use Rattle.access_vertices.specs.Marked.{isMarkedRefusal}
 use Rattle.columns_answers.proofs.Said.{accepts-of, refuses-of}
 use Rattle.access_vertices.proofs.Below.{is-met}
 use Rattle.access_vertices.proofs.is_marked.Statement.{statement}
 use Rattle.access_vertices.proofs.is_marked.Tie as tie
 
 -- the number that the questions give
-number : (c : tie.After-asked3) → let s = c .before .before .before .before .before .before .before .args in c .asked3 .result ≡ isDoor (s .sound) (s .vertex-num) (s .column .now) (s .vertex)
+number : (c : tie.After-asked3) → let s = c .before .before .before .before .before .before .before .args in c .asked3 .result ≡ isMarkedRefusal (s .sound) (s .vertex-num) (s .column .now) (s .vertex)
 number c =
     let s = c .before .before .before .before .before .before .before .args in
     let sounds = c .before .before .before .both .ensures ∙ ap (λ b. b && s .sound) (c .before .before .before .before .vertex-count-sound .ensures) in
@@ -22,13 +22,13 @@ number c =
 shared-slice-read-is-set : tie.Need-shared-slice-read-is-set
 shared-slice-read-is-set c =
     let s = c .before .before .before .before .before .before .before .before .before .args in
-    let z : isDoor (s .sound) (s .vertex-num) (s .column .now) (s .vertex) ≡ 0 = sym (number (c .before .before)) ∙ c .before .if1 .taken in
+    let z : isMarkedRefusal (s .sound) (s .vertex-num) (s .column .now) (s .vertex) ≡ 0 = sym (number (c .before .before)) ∙ c .before .if1 .taken in
     omega (arith, is-met (s .sound) (s .vertex-num) (s .column .now) (s .vertex) z)
 
 returns : tie.Need-returns
 returns c =
     let s = c .before .before .before .before .before .before .before .before .before .before .args in
-    let q = isDoor (s .sound) (s .vertex-num) (s .column .now) (s .vertex) in
+    let q = isMarkedRefusal (s .sound) (s .vertex-num) (s .column .now) (s .vertex) in
     let z : q ≡ 0 = sym (number (c .before .before .before)) ∙ c .before .before .if1 .taken in
     rw (c .is-set .ensures) (accepts-of z)
 

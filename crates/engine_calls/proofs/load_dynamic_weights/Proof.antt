@@ -5,8 +5,8 @@ use native.Mathlib.Omega.{arith}
 use lib.ListN.{length, getD}
 use Rattle.columns.specs.Questions.{ask, allWithin}
 use Rattle.engine_columns.specs.Records.{engine}
-use Rattle.engine_columns.specs.Step.{loadWeights, door}
-use Rattle.engine_columns.proofs.Doors.{accepted, refused, columns, Loads, loads-of, named-of, Weighed, weighed-of}
+use Rattle.engine_columns.specs.Step.{loadWeights, engineRefusal}
+use Rattle.engine_columns.proofs.Refusals.{accepted, refused, columns, Loads, loads-of, named-of, Weighed, weighed-of}
 use borrow.Author.Needs.{needs}
 use Rattle.engine_calls.proofs.load_dynamic_weights.Statement.{statement}
 use Rattle.engine_calls.proofs.load_dynamic_weights.Tie as tie
@@ -15,7 +15,7 @@ weigh-all-requires : tie.Need-weigh-all-requires
 weigh-all-requires c κs =
     let a = c .before .before .before .before .before .before .before .before .before .before .before .before .before .before .before .before .args in
     let e = engine (a .c) (a .ends-a .now) (a .ends-b .now) (a .weights .now) (a .boundary .now) (a .log-edges .now) (a .log-weights .now) in
-    let z : door (loadWeights (a .list .now) (a .values .now)) e ≡ 0 = sym (c .before .before .before .before .weights-door .ensures) ∙ c .before .before .before .if1 .taken in
+    let z : engineRefusal (loadWeights (a .list .now) (a .values .now)) e ≡ 0 = sym (c .before .before .before .before .load-weights-refusal .ensures) ∙ c .before .before .before .if1 .taken in
     let w : Weighed (a .list .now) (a .values .now) e = weighed-of (a .list .now) (a .values .now) e z in
     let l = w .loads in (
       λ i h. let n = named-of (a .list .now) e _ l i h in omega (arith, l .long .columns .weights),
@@ -35,7 +35,7 @@ returns : tie.Need-returns
 returns c =
     let a = c .before .before .before .before .before .before .before .before .before .before .before .before .before .before .before .before .before .before .before .before .before .before .before .args in
     let e = engine (a .c) (a .ends-a .now) (a .ends-b .now) (a .weights .now) (a .boundary .now) (a .log-edges .now) (a .log-weights .now) in
-    let z : door (loadWeights (a .list .now) (a .values .now)) e ≡ 0 = sym (c .before .before .before .before .before .before .before .before .before .before .before .weights-door .ensures) ∙ c .before .before .before .before .before .before .before .before .before .before .if1 .taken in
+    let z : engineRefusal (loadWeights (a .list .now) (a .values .now)) e ≡ 0 = sym (c .before .before .before .before .before .before .before .before .before .before .before .load-weights-refusal .ensures) ∙ c .before .before .before .before .before .before .before .before .before .before .if1 .taken in
     let p = c .before .before .before .before .before .before .weigh-all .ensures in
     accepted (loadWeights (a .list .now) (a .values .now)) e _ _ z refl (columns _ (a .ends-a .now) (a .ends-b .now) _ _ (a .boundary .now) _ _ _ _ (p .0) (p .1 .0) (p .1 .1))
 
@@ -43,7 +43,7 @@ returns-2 : tie.Need-returns-2
 returns-2 c =
     let a = c .before .before .before .before .before .before .before .before .before .before .before .before .before .args in
     let e = engine (a .c) (a .ends-a .now) (a .ends-b .now) (a .weights .now) (a .boundary .now) (a .log-edges .now) (a .log-weights .now) in
-    refused (loadWeights (a .list .now) (a .values .now)) e _ _ (c .before .weights-door .result) (c .before .weights-door .ensures) (c .if1 .left) refl refl
+    refused (loadWeights (a .list .now) (a .values .now)) e _ _ (c .before .load-weights-refusal .result) (c .before .load-weights-refusal .ensures) (c .if1 .left) refl refl
 
 pub load-dynamic-weights-spec : {M : Type 1} → statement M
 load-dynamic-weights-spec = tie.close (tie.spec (λ c κs. tt) weigh-all-requires same-length same-length-2 same-length-3 returns (λ c. search needs) (λ c. search needs) (λ c. search needs) returns-2)

@@ -3,8 +3,8 @@ use mathlib.Core.Path.{_≡_, refl, sym, _∙_}
 use lib.ListN.{take}
 use Rattle.columns.proofs.Columns.{copy-after, after-refused}
 use Rattle.columns_answers.proofs.Said.{accepts-of, refuses-of}
-use Rattle.engine_columns.specs.Open.{graphColumns, openDoor}
-use Rattle.engine_columns.proofs.Doors.{opens-of}
+use Rattle.engine_columns.specs.Open.{graphColumns, openRefusal}
+use Rattle.engine_columns.proofs.Refusals.{opens-of}
 use borrow.Author.Needs.{needs}
 use Rattle.engine_calls.proofs.open.Statement.{statement}
 use Rattle.engine_calls.proofs.open.Tie as tie
@@ -28,14 +28,14 @@ returns c =
     let l = graphColumns (a .ends-a .now) (a .ends-b .now) (a .weights .now) (a .boundary .now) in
     let v = a .vertices in
     let e = a .edges in
-    let z : openDoor v e h l ≡ 0 = sym (c .before .before .before .before .before .before .before .before .before .before .before .before .before .before .before .before .before .open-door .ensures) ∙ c .before .before .before .before .before .before .before .before .before .before .before .before .before .before .before .before .if1 .taken in
+    let z : openRefusal v e h l ≡ 0 = sym (c .before .before .before .before .before .before .before .before .before .before .before .before .before .before .before .before .before .open-refusal .ensures) ∙ c .before .before .before .before .before .before .before .before .before .before .before .before .before .before .before .before .if1 .taken in
     let o = opens-of v e h l z in
     record {
       answer = accepts-of z;
-      endsA-left = c .before .before .before .before .before .before .before .before .before .before .before .before .before .before .copy-u32 .ensures ∙ copy-after e (openDoor v e h l) (a .ends-a .now) (a .in-a .now) z (o .from .endsA) (o .to .endsA);
-      endsB-left = c .before .before .before .before .before .before .before .before .before .before .copy-u322 .ensures ∙ copy-after e (openDoor v e h l) (a .ends-b .now) (a .in-b .now) z (o .from .endsB) (o .to .endsB);
-      weights-left = c .before .before .before .before .before .before .copy-u323 .ensures ∙ copy-after e (openDoor v e h l) (a .weights .now) (a .in-weights .now) z (o .from .weights) (o .to .weights);
-      boundary-left = c .before .before .copy-u8 .ensures ∙ copy-after v (openDoor v e h l) (a .boundary .now) (a .in-boundary .now) z (o .from .boundary) (o .to .boundary);
+      endsA-after = c .before .before .before .before .before .before .before .before .before .before .before .before .before .before .copy-u32 .ensures ∙ copy-after e (openRefusal v e h l) (a .ends-a .now) (a .in-a .now) z (o .from .endsA) (o .to .endsA);
+      endsB-after = c .before .before .before .before .before .before .before .before .before .before .copy-u322 .ensures ∙ copy-after e (openRefusal v e h l) (a .ends-b .now) (a .in-b .now) z (o .from .endsB) (o .to .endsB);
+      weights-after = c .before .before .before .before .before .before .copy-u323 .ensures ∙ copy-after e (openRefusal v e h l) (a .weights .now) (a .in-weights .now) z (o .from .weights) (o .to .weights);
+      boundary-after = c .before .before .copy-u8 .ensures ∙ copy-after v (openRefusal v e h l) (a .boundary .now) (a .in-boundary .now) z (o .from .boundary) (o .to .boundary);
     }
 
 returns-2 : tie.Need-returns-2
@@ -45,14 +45,14 @@ returns-2 c =
     let l = graphColumns (a .ends-a .now) (a .ends-b .now) (a .weights .now) (a .boundary .now) in
     let v = a .vertices in
     let e = a .edges in
-    let d = c .before .open-door .ensures in
-    let f : openDoor v e h l ≡ 0 → ⊥ = λ q. c .if1 .left (d ∙ q) in
+    let d = c .before .open-refusal .ensures in
+    let f : openRefusal v e h l ≡ 0 → ⊥ = λ q. c .if1 .left (d ∙ q) in
     record {
       answer = refuses-of d (c .if1 .left);
-      endsA-left = sym (after-refused (openDoor v e h l) (take e (a .in-a .now)) (a .ends-a .now) f);
-      endsB-left = sym (after-refused (openDoor v e h l) (take e (a .in-b .now)) (a .ends-b .now) f);
-      weights-left = sym (after-refused (openDoor v e h l) (take e (a .in-weights .now)) (a .weights .now) f);
-      boundary-left = sym (after-refused (openDoor v e h l) (take v (a .in-boundary .now)) (a .boundary .now) f);
+      endsA-after = sym (after-refused (openRefusal v e h l) (take e (a .in-a .now)) (a .ends-a .now) f);
+      endsB-after = sym (after-refused (openRefusal v e h l) (take e (a .in-b .now)) (a .ends-b .now) f);
+      weights-after = sym (after-refused (openRefusal v e h l) (take e (a .in-weights .now)) (a .weights .now) f);
+      boundary-after = sym (after-refused (openRefusal v e h l) (take v (a .in-boundary .now)) (a .boundary .now) f);
     }
 
 pub open-spec : {M : Type 1} → statement M

@@ -4,8 +4,8 @@ use mathlib.Core.Path.{_≡_, refl, sym, _∙_}
 use native.Mathlib.Omega.{arith}
 use lib.ListN.{length, getD}
 use Rattle.engine_columns.specs.Records.{engine}
-use Rattle.engine_columns.specs.Step.{door, reset}
-use Rattle.engine_columns.proofs.Doors.{accepted, refused, columns, reset-long, reset-named}
+use Rattle.engine_columns.specs.Step.{engineRefusal, reset}
+use Rattle.engine_columns.proofs.Refusals.{accepted, refused, columns, reset-long, reset-named}
 use borrow.Author.Needs.{needs}
 use Rattle.engine_calls.proofs.reset.Statement.{statement}
 use Rattle.engine_calls.proofs.reset.Tie as tie
@@ -14,7 +14,7 @@ undo-all-requires : tie.Need-undo-all-requires
 undo-all-requires c κs =
     let a = c .before .before .before .before .before .before .before .before .before .before .args in
     let e = engine (a .c) (a .ends-a .now) (a .ends-b .now) (a .weights .now) (a .boundary .now) (a .log-edges .now) (a .log-weights .now) in
-    let z : door reset e ≡ 0 = sym (c .before .before .reset-door .ensures) ∙ c .before .if1 .taken in
+    let z : engineRefusal reset e ≡ 0 = sym (c .before .before .reset-refusal .ensures) ∙ c .before .if1 .taken in
     let l = reset-long e z in (
       λ i h. let n = reset-named e z i h in omega (arith, l .columns .weights),
       (omega (arith, l .logEdges), omega (arith, l .logWeights)),
@@ -27,14 +27,14 @@ returns : tie.Need-returns
 returns c =
     let a = c .before .before .before .before .before .before .before .before .before .before .before .before .before .args in
     let e = engine (a .c) (a .ends-a .now) (a .ends-b .now) (a .weights .now) (a .boundary .now) (a .log-edges .now) (a .log-weights .now) in
-    let z : door reset e ≡ 0 = sym (c .before .before .before .before .before .reset-door .ensures) ∙ c .before .before .before .before .if1 .taken in
+    let z : engineRefusal reset e ≡ 0 = sym (c .before .before .before .before .before .reset-refusal .ensures) ∙ c .before .before .before .before .if1 .taken in
     accepted reset e _ _ z refl (columns _ (a .ends-a .now) (a .ends-b .now) _ _ (a .boundary .now) _ _ _ _ (c .before .before .undo-all .ensures) refl refl)
 
 returns-2 : tie.Need-returns-2
 returns-2 c =
     let a = c .before .before .before .before .before .before .before .before .before .args in
     let e = engine (a .c) (a .ends-a .now) (a .ends-b .now) (a .weights .now) (a .boundary .now) (a .log-edges .now) (a .log-weights .now) in
-    refused reset e _ _ (c .before .reset-door .result) (c .before .reset-door .ensures) (c .if1 .left) refl refl
+    refused reset e _ _ (c .before .reset-refusal .result) (c .before .reset-refusal .ensures) (c .if1 .left) refl refl
 
 pub reset-spec : {M : Type 1} → statement M
 reset-spec = tie.close (tie.spec (λ c κs. tt) undo-all-requires same-length returns (λ c. search needs) returns-2)

@@ -1,7 +1,7 @@
 -- `engine_columns::columns_long` meets its contract. Assumes nothing.
 use mathlib.Core.Bool.{_&&_}
 use mathlib.Core.Path.{_∙_}
-use Rattle.engine_columns.specs.Door.{columnsLong}
+use Rattle.engine_columns.specs.Questions.{columnsLong}
 use Rattle.engine_columns.proofs.columns_long.Statement.{statement}
 use Rattle.engine_columns.proofs.columns_long.Tie as tie
 

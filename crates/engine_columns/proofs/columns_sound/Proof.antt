@@ -1,7 +1,7 @@
 -- `engine_columns::columns_sound` meets its contract. Assumes nothing.
 use mathlib.Core.Bool.{_&&_}
 use mathlib.Core.Path.{_∙_}
-use Rattle.engine_columns.specs.Door.{columnsSound}
+use Rattle.engine_columns.specs.Questions.{columnsSound}
 use Rattle.engine_columns.proofs.columns_sound.Statement.{statement}
 use Rattle.engine_columns.proofs.columns_sound.Tie as tie
 

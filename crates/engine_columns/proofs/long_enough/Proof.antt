@@ -1,12 +1,12 @@
 -- `engine_columns::long_enough` meets its contract. Assumes nothing.
 use mathlib.Core.Bool.{_&&_}
 use mathlib.Core.Path.{_∙_}
-use Rattle.engine_columns.specs.Door.{longEnough}
+use Rattle.engine_columns.specs.Questions.{engineLong}
 use Rattle.engine_columns.proofs.long_enough.Statement.{statement}
 use Rattle.engine_columns.proofs.long_enough.Tie as tie
 
 returns : tie.Need-returns
-unfolding longEnough
+unfolding engineLong
 returns c = c .both2 .ensures ∙ (λ i. (c .before .before .before .before .columns-long .ensures) i && (c .before .both .ensures ∙ (λ i. (c .before .before .before .has-room .ensures) i && (c .before .before .has-room2 .ensures) i)) i)
 
 pub long-enough-spec : {M : Type 1} → statement M

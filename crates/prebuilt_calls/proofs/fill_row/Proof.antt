@@ -14,10 +14,10 @@ use Rattle.engine_columns.specs.Records.{Engine, engine}
 use Rattle.engine_walks.specs.Answers.{table}
 use Rattle.query_tables.specs.declared.End.the-variants.{None}
 use Rattle.query_questions.specs.Queries.{graphIn, weightsIn, scratchLong}
-use Rattle.query_tables.specs.Steps.{tableDoor}
+use Rattle.query_tables.specs.Steps.{tableRefusal}
 use Rattle.columns_answers.proofs.Said.{accepts-of, refuses-of}
 use Rattle.query_tables.proofs.Sources.{table-weights-length}
-use Rattle.prebuilt_calls.specs.Rows.{row, rowDoor}
+use Rattle.prebuilt_calls.specs.Rows.{row, rowRefusal}
 use Rattle.prebuilt_entries.specs.Entries.{rowEntry}
 use Rattle.prebuilt_calls.proofs.Entries.{RowAsked, row-asked, table-met, row-number, row-over}
 use borrow.Author.Needs.{needs}
@@ -32,7 +32,7 @@ scratch-at s = scratchLong (s .args .c .vertices) (s .args .c .edges) (length (s
 
 number-at : tie.Start → ℕ
 unfolding engine-of scratch-at
-number-at s = rowDoor (engine-of s) (scratch-at s) (s .args .vertex .0) (length (s .args .nearest .now)) (length (s .args .out .now)) (length (s .args .before .now))
+number-at s = rowRefusal (engine-of s) (scratch-at s) (s .args .vertex .0) (length (s .args .nearest .now)) (length (s .args .out .now)) (length (s .args .before .now))
 
 asked-at : (s : tie.Start) → number-at s ≡ 0 → RowAsked (engine-of s) (scratch-at s) (s .args .vertex .0) (length (s .args .nearest .now)) (length (s .args .out .now)) (length (s .args .before .now))
 unfolding number-at
@@ -42,7 +42,7 @@ number-then : (c : tie.Then1) → number-at (c .before .before .before .before .
 unfolding number-at engine-of scratch-at
 number-then c =
     let s : tie.Start = c .before .before .before .before .before .before .before .before .before .before .before .before .before .before .before .before .before .before .before .before .before .before .before .before .before .before in
-    sym (row-number (engine-of s) (scratch-at s) (s .args .vertex .0) _ _ _ (c .before .query-door .ensures) (c .before .before .before .before .both3 .ensures) (c .before .before .before .before .before .both2 .ensures) (c .before .before .before .before .before .before .both .ensures) (c .before .before .before .before .before .before .before .before .before .at-most .ensures) (c .before .before .before .before .before .before .before .before .at-most2 .ensures) (c .before .before .before .before .before .before .before .at-most3 .ensures) (c .before .before .before .before .before .before .before .before .before .before .scratch-long .ensures)) ∙ c .if1 .taken
+    sym (row-number (engine-of s) (scratch-at s) (s .args .vertex .0) _ _ _ (c .before .query-refusal .ensures) (c .before .before .before .before .both3 .ensures) (c .before .before .before .before .before .both2 .ensures) (c .before .before .before .before .before .before .both .ensures) (c .before .before .before .before .before .before .before .before .before .at-most .ensures) (c .before .before .before .before .before .before .before .before .at-most2 .ensures) (c .before .before .before .before .before .before .before .at-most3 .ensures) (c .before .before .before .before .before .before .before .before .before .before .scratch-long .ensures)) ∙ c .if1 .taken
 
 slice-aggregate-write-row : tie.Need-slice-aggregate-write-row
 unfolding number-at engine-of scratch-at
@@ -60,7 +60,7 @@ write-row-requires c κs =
     let s : tie.Start = t .before .before .before .before .before .before .before .before .before .before .before .before .before .before .before .before .before .before .before .before .before .before .before .before .before .before in
     let z = number-then t in
     let k = asked-at s z in
-    let w = c .before .before .before .before .before .before .before .before .before .before .before .before .before .before .before .before .before .before .before .all-edges .ensures .0 .weights-left ∙ after-accepted (tableDoor (engine-of s) (scratch-at s) (s .args .vertex .0) None (length (s .args .out .now)) (length (s .args .before .now))) (table (graphIn (engine-of s)) (weightsIn (engine-of s)) (s .args .vertex .0) none .weights) (s .args .out .now) (table-met (engine-of s) (scratch-at s) (s .args .vertex .0) _ _ _ k) in
+    let w = c .before .before .before .before .before .before .before .before .before .before .before .before .before .before .before .before .before .before .before .all-edges .ensures .0 .weights-after ∙ after-accepted (tableRefusal (engine-of s) (scratch-at s) (s .args .vertex .0) None (length (s .args .out .now)) (length (s .args .before .now))) (table (graphIn (engine-of s)) (weightsIn (engine-of s)) (s .args .vertex .0) none .weights) (s .args .out .now) (table-met (engine-of s) (scratch-at s) (s .args .vertex .0) _ _ _ k) in
     let lt = table-weights-length (graphIn (engine-of s)) (weightsIn (engine-of s)) (s .args .vertex .0) none in
     let lb = length-take-le (s .args .c .vertices) (s .args .boundary .now) (k .long .columns .boundary) in
     let lo = ap length w ∙ length-over (table (graphIn (engine-of s)) (weightsIn (engine-of s)) (s .args .vertex .0) none .weights) (s .args .out .now) (omega (arith, lt, k .out-long)) in
@@ -97,13 +97,13 @@ returns c =
     let s : tie.Start = t .before .before .before .before .before .before .before .before .before .before .before .before .before .before .before .before .before .before .before .before .before .before .before .before .before .before in
     let z = number-then t in
     let k = asked-at s z in
-    let w = c .before .before .before .before .before .before .before .before .before .before .before .before .before .before .before .before .before .before .before .before .before .all-edges .ensures .0 .weights-left ∙ after-accepted (tableDoor (engine-of s) (scratch-at s) (s .args .vertex .0) None (length (s .args .out .now)) (length (s .args .before .now))) (table (graphIn (engine-of s)) (weightsIn (engine-of s)) (s .args .vertex .0) none .weights) (s .args .out .now) (table-met (engine-of s) (scratch-at s) (s .args .vertex .0) _ _ _ k) in
+    let w = c .before .before .before .before .before .before .before .before .before .before .before .before .before .before .before .before .before .before .before .before .before .all-edges .ensures .0 .weights-after ∙ after-accepted (tableRefusal (engine-of s) (scratch-at s) (s .args .vertex .0) None (length (s .args .out .now)) (length (s .args .before .now))) (table (graphIn (engine-of s)) (weightsIn (engine-of s)) (s .args .vertex .0) none .weights) (s .args .out .now) (table-met (engine-of s) (scratch-at s) (s .args .vertex .0) _ _ _ k) in
     let lt = table-weights-length (graphIn (engine-of s)) (weightsIn (engine-of s)) (s .args .vertex .0) none in
     let lb = length-take-le (s .args .c .vertices) (s .args .boundary .now) (k .long .columns .boundary) in
     let bytes : List ℕ = take (s .args .c .vertices) (s .args .boundary .now) in (
       record {
         answer = accepts-of z;
-        out-left = c .before .write-row .ensures ∙ (λ i. sets (w i) 0 (each (lb i) (rowEntry bytes (s .args .nearest .now) (s .args .vertex .0) (w i))))
+        out-after = c .before .write-row .ensures ∙ (λ i. sets (w i) 0 (each (lb i) (rowEntry bytes (s .args .nearest .now) (s .args .vertex .0) (w i))))
             ∙ row-over bytes (s .args .nearest .now) (s .args .vertex .0) (table (graphIn (engine-of s)) (weightsIn (engine-of s)) (s .args .vertex .0) none .weights) (s .args .out .now) (s .args .c .vertices) lt (k .out-long)
             ∙ sym (after-accepted (number-at s) (row (graphIn (engine-of s)) (weightsIn (engine-of s)) (s .args .nearest .now) (s .args .vertex .0)) (s .args .out .now) z);
       },
@@ -114,11 +114,11 @@ returns-2 : tie.Need-returns-2
 unfolding number-at engine-of scratch-at
 returns-2 c =
     let s : tie.Start = c .before .before .before .before .before .before .before .before .before .before .before .before .before .before .before .before .before .before .before .before .before .before .before .before .before .before in
-    let d : c .before .query-door .result ≡ number-at s = row-number (engine-of s) (scratch-at s) (s .args .vertex .0) _ _ _ (c .before .query-door .ensures) (c .before .before .before .before .both3 .ensures) (c .before .before .before .before .before .both2 .ensures) (c .before .before .before .before .before .before .both .ensures) (c .before .before .before .before .before .before .before .before .before .at-most .ensures) (c .before .before .before .before .before .before .before .before .at-most2 .ensures) (c .before .before .before .before .before .before .before .at-most3 .ensures) (c .before .before .before .before .before .before .before .before .before .before .scratch-long .ensures) in
+    let d : c .before .query-refusal .result ≡ number-at s = row-number (engine-of s) (scratch-at s) (s .args .vertex .0) _ _ _ (c .before .query-refusal .ensures) (c .before .before .before .before .both3 .ensures) (c .before .before .before .before .before .both2 .ensures) (c .before .before .before .before .before .before .both .ensures) (c .before .before .before .before .before .before .before .before .before .at-most .ensures) (c .before .before .before .before .before .before .before .before .at-most2 .ensures) (c .before .before .before .before .before .before .before .at-most3 .ensures) (c .before .before .before .before .before .before .before .before .before .before .scratch-long .ensures) in
     let f : number-at s ≡ 0 → ⊥ = λ e. c .if1 .left (d ∙ e) in (
       record {
         answer = refuses-of d (c .if1 .left);
-        out-left = sym (after-refused (number-at s) (row (graphIn (engine-of s)) (weightsIn (engine-of s)) (s .args .nearest .now) (s .args .vertex .0)) (s .args .out .now) f);
+        out-after = sym (after-refused (number-at s) (row (graphIn (engine-of s)) (weightsIn (engine-of s)) (s .args .nearest .now) (s .args .vertex .0)) (s .args .out .now) f);
       },
       (refl, refl),
     )

@@ -16,11 +16,11 @@ use Rattle.engine_walks.specs.Answers.{crossing, fromLeft, leastFromLeft}
 use Rattle.query_relaxing.specs.Ready.{graphOf}
 use Rattle.query_questions.specs.Queries.{graphIn, weightsIn, scratchLong}
 use Rattle.query_questions.specs.Scratch.{scratchOf, isFree}
-use Rattle.query_crossing_answer.specs.Crossing.{isJoined, weightFound, said, crossingDoor}
+use Rattle.query_crossing_answer.specs.Crossing.{isJoined, weightFound, said, crossingAsked}
 use Rattle.query_crossing_answer.specs.Codes.{Coded, wherever}
 use Rattle.query_search.proofs.Asked.{ScratchLong, scratch-of, searchable}
 use Rattle.query_search.proofs.Scratch.{searchable-cut, search-left, scratch-free, scratch-kept}
-use Rattle.query_crossings.proofs.Crossings.{CrossingAsked, crossing-of, door-passed, door-refused, reply-of, column-after, left-length, searched-as, free-number, kept-number}
+use Rattle.query_crossings.proofs.Crossings.{CrossingAsked, crossing-of, refusal-passed, refusal-refused, reply-of, column-after, left-length, searched-as, free-number, kept-number}
 use borrow.Author.Needs.{needs}
 use Rattle.query_crossings.proofs.crossing.Statement.{statement}
 use Rattle.query_crossings.proofs.crossing.Tie as tie
@@ -33,7 +33,7 @@ scratch-at s = scratchLong (s .args .c .vertices) (s .args .c .edges) (length (s
 
 number-at : tie.Start → ℕ
 unfolding engine-of scratch-at
-number-at s = crossingDoor (engine-of s) (scratch-at s) (length (s .args .out-weight .now)) 0
+number-at s = crossingAsked (engine-of s) (scratch-at s) (length (s .args .out-weight .now)) 0
 
 asked-at : (s : tie.Start) → number-at s ≡ 0 → CrossingAsked (engine-of s) (scratch-at s) (length (s .args .out-weight .now))
 unfolding number-at
@@ -45,7 +45,7 @@ scratch-long-at s z = scratch-of _ _ _ _ _ _ _ _ _ (asked-at s z .scratch-is)
 
 number-then : (t : tie.Then1) → number-at (t .before .before .before .before .before .before .before .before .before .before .before .before .before .before .before .before .before .before) ≡ 0
 unfolding number-at engine-of scratch-at
-number-then t = sym (t .before .crossing-door .ensures ∙ ap (λ b. crossingDoor (engine-of (t .before .before .before .before .before .before .before .before .before .before .before .before .before .before .before .before .before .before)) b (length (t .before .before .before .before .before .before .before .before .before .before .before .before .before .before .before .before .before .before .args .out-weight .now)) 0) (t .before .before .scratch-long .ensures)) ∙ t .if1 .taken
+number-then t = sym (t .before .crossing-asked .ensures ∙ ap (λ b. crossingAsked (engine-of (t .before .before .before .before .before .before .before .before .before .before .before .before .before .before .before .before .before .before)) b (length (t .before .before .before .before .before .before .before .before .before .before .before .before .before .before .before .before .before .before .args .out-weight .now)) 0) (t .before .before .scratch-long .ensures)) ∙ t .if1 .taken
 
 slice-aggregate-run-crossing : tie.Need-slice-aggregate-run-crossing
 unfolding number-at engine-of scratch-at
@@ -199,10 +199,10 @@ returns c = let t : tie.Then1 = c .before .before .before .before .before .befor
     let scratch₀ = scratchOf (s .args .numbers .now) (s .args .list-ends .now) (s .args .status .now) (s .args .weight .now) (s .args .previous .now) (s .args .node .now) (s .args .leaf .now) in
     let ends-length = c .before .before .before .before .before .before .before .before .before .before .before .before .before .before .before .before .run-crossing .kept .1 .1 .1 .1 .1 .0 ∙ length-take-le (s .args .c .vertices) (s .args .list-ends .now) (q .ends-long) in
     let node-length = c .before .before .before .before .before .before .before .before .before .before .before .before .before .before .before .before .run-crossing .kept .1 .1 .1 .1 .1 .1 .1 .1 .1 .0 ∙ length-take-le (s .args .c .vertices) (s .args .node .now) (q .node-long) in
-    let next = door-passed (engine-of s) (scratch-at s) (length out₀) (ask (isJoined (crossing g w)) 18 0) z in (
+    let next = refusal-passed (engine-of s) (scratch-at s) (length out₀) (ask (isJoined (crossing g w)) 18 0) z in (
       record {
         answer = rw next replied;
-        weights-left = o .1 .0 ∙ (λ i. wherever (crossing (graphOf (len i) A B M) w) (leastFromLeft (graphOf (len i) A B M) w) out₀)
+        weights-after = o .1 .0 ∙ (λ i. wherever (crossing (graphOf (len i) A B M) w) (leastFromLeft (graphOf (len i) A B M) w) out₀)
             ∙ column-after (crossing g w) (leastFromLeft g w) out₀ (omega (arith, left-length g w, k .weights-long)) ∙ ap (λ n. after n (leastFromLeft g w) out₀) (sym next);
       },
       scratch-free _ g (fromLeft g w) scratch₀ _ (ap isFree (replied .number-is) ∙ free-number (crossing g w))
@@ -212,14 +212,14 @@ returns c = let t : tie.Then1 = c .before .before .before .before .before .befor
 returns-2 : tie.Need-returns-2
 unfolding number-at engine-of scratch-at
 returns-2 c = let s : tie.Start = c .before .before .before .before .before .before .before .before .before .before .before .before .before .before .before .before .before .before in
-    let d : c .before .crossing-door .result ≡ number-at s = c .before .crossing-door .ensures ∙ ap (λ b. crossingDoor (engine-of s) b (length (s .args .out-weight .now)) 0) (c .before .before .scratch-long .ensures) in
+    let d : c .before .crossing-asked .result ≡ number-at s = c .before .crossing-asked .ensures ∙ ap (λ b. crossingAsked (engine-of s) b (length (s .args .out-weight .now)) 0) (c .before .before .scratch-long .ensures) in
     let f : number-at s ≡ 0 → ⊥ = λ e. c .if1 .left (d ∙ e) in
     let g = graphIn (engine-of s) in
     let w = weightsIn (engine-of s) in
-    let next = door-refused (engine-of s) (scratch-at s) (length (s .args .out-weight .now)) (ask (isJoined (crossing g w)) 18 0) f in (
+    let next = refusal-refused (engine-of s) (scratch-at s) (length (s .args .out-weight .now)) (ask (isJoined (crossing g w)) 18 0) f in (
       record {
         answer = refuses-of (d ∙ sym next) (c .if1 .left);
-        weights-left = sym (after-refused _ (leastFromLeft g w) (s .args .out-weight .now) (λ e. f (sym next ∙ e)));
+        weights-after = sym (after-refused _ (leastFromLeft g w) (s .args .out-weight .now) (λ e. f (sym next ∙ e)));
       },
       scratch-kept _ g (fromLeft g w)
           (scratchOf (s .args .numbers .now) (s .args .list-ends .now) (s .args .status .now) (s .args .weight .now) (s .args .previous .now) (s .args .node .now) (s .args .leaf .now))

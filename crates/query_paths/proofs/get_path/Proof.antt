@@ -13,7 +13,7 @@ use Rattle.engine_columns.specs.Records.{Engine, engine}
 use Rattle.engine_walks.specs.Answers.{path}
 use Rattle.query_relaxing.specs.Ready.{graphOf}
 use Rattle.query_questions.specs.Queries.{graphIn, weightsIn, scratchLong}
-use Rattle.query_paths.specs.GetPath.{pathDoor, PathSaid, verticesAfter, stepsAfter}
+use Rattle.query_paths.specs.GetPath.{pathAsked, PathSaid, verticesAfter, stepsAfter}
 use Rattle.query_search.proofs.Asked.{ScratchLong, scratch-of, searchable}
 use Rattle.query_paths.proofs.PathAsked.{PathAsked, path-asked, path-number, reply-no, scratch-free}
 use borrow.Author.Needs.{needs}
@@ -28,7 +28,7 @@ scratch-at s = scratchLong (s .args .c .vertices) (s .args .c .edges) (length (s
 
 number-at : tie.Start → ℕ
 unfolding engine-of scratch-at
-number-at s = pathDoor (engine-of s) (scratch-at s) (s .args .a .0) (s .args .b .0) (length (s .args .out-vertices .now)) (length (s .args .out-steps .now))
+number-at s = pathAsked (engine-of s) (scratch-at s) (s .args .a .0) (s .args .b .0) (length (s .args .out-vertices .now)) (length (s .args .out-steps .now))
 
 asked-at : (s : tie.Start) → number-at s ≡ 0 → PathAsked (engine-of s) (scratch-at s) (s .args .a .0) (s .args .b .0) (length (s .args .out-vertices .now)) (length (s .args .out-steps .now))
 unfolding number-at
@@ -42,7 +42,7 @@ number-then : (c : tie.Then1) → number-at (c .before .before .before .before .
 unfolding number-at engine-of scratch-at
 number-then c =
     let s : tie.Start = c .before .before .before .before .before .before .before .before .before .before .before .before .before .before .before .before .before .before .before .before .before .before .before .before .before .before .before .before .before .before .before .before in
-    sym (path-number (engine-of s) (scratch-at s) (s .args .a .0) (s .args .b .0) _ _ (c .before .query-door .ensures) (c .before .before .before .before .before .before .before .before .before .before .both2 .ensures) (c .before .before .before .before .before .before .before .before .before .before .before .both .ensures) (c .before .before .before .before .before .before .before .before .before .before .before .before .before .at-most .ensures) (c .before .before .before .before .before .before .before .before .before .before .before .before .at-most2 .ensures) (c .before .before .before .before .before .before .before .before .before .before .before .before .before .before .scratch-long .ensures) (c .before .before .before .before .before .both3 .ensures) (c .before .before .asked .ensures)) ∙ c .if1 .taken
+    sym (path-number (engine-of s) (scratch-at s) (s .args .a .0) (s .args .b .0) _ _ (c .before .query-refusal .ensures) (c .before .before .before .before .before .before .before .before .before .before .both2 .ensures) (c .before .before .before .before .before .before .before .before .before .before .before .both .ensures) (c .before .before .before .before .before .before .before .before .before .before .before .before .before .at-most .ensures) (c .before .before .before .before .before .before .before .before .before .before .before .before .at-most2 .ensures) (c .before .before .before .before .before .before .before .before .before .before .before .before .before .before .scratch-long .ensures) (c .before .before .before .before .before .both3 .ensures) (c .before .before .asked .ensures)) ∙ c .if1 .taken
 
 slice-aggregate-run-path : tie.Need-slice-aggregate-run-path
 unfolding number-at engine-of scratch-at
@@ -173,9 +173,9 @@ returns c =
     subst (λ n. PathSaid 0 (path (graphOf n (take (s .args .c .edges) (s .args .ends-a .now)) (take (s .args .c .edges) (s .args .ends-b .now)) m) (weightsIn (engine-of s)) (s .args .a .0) (s .args .b .0)) (c .before .before .before .before .before .before .before .before .before .before .before .before .before .before .before .before .before .before .run-path .result)) len (o .0 m) in (
       record {
         answer = subst (λ k. PathSaid k (path (graphIn (engine-of s)) (weightsIn (engine-of s)) (s .args .a .0) (s .args .b .0)) (c .before .before .before .before .before .before .before .before .before .before .before .before .before .before .before .before .before .before .run-path .result)) (sym z) f;
-        vertices-left = o .1 .0 m ∙ (λ i. verticesAfter (path (graphOf (len i) (take (s .args .c .edges) (s .args .ends-a .now)) (take (s .args .c .edges) (s .args .ends-b .now)) m) (weightsIn (engine-of s)) (s .args .a .0) (s .args .b .0)) (s .args .out-vertices .now))
+        vertices-after = o .1 .0 m ∙ (λ i. verticesAfter (path (graphOf (len i) (take (s .args .c .edges) (s .args .ends-a .now)) (take (s .args .c .edges) (s .args .ends-b .now)) m) (weightsIn (engine-of s)) (s .args .a .0) (s .args .b .0)) (s .args .out-vertices .now))
             ∙ sym (ap (λ k. cond (eqb k 0) (verticesAfter (path (graphIn (engine-of s)) (weightsIn (engine-of s)) (s .args .a .0) (s .args .b .0)) (s .args .out-vertices .now)) (s .args .out-vertices .now)) z);
-        steps-left = o .1 .1 m ∙ (λ i. stepsAfter (path (graphOf (len i) (take (s .args .c .edges) (s .args .ends-a .now)) (take (s .args .c .edges) (s .args .ends-b .now)) m) (weightsIn (engine-of s)) (s .args .a .0) (s .args .b .0)) (s .args .out-steps .now))
+        steps-after = o .1 .1 m ∙ (λ i. stepsAfter (path (graphOf (len i) (take (s .args .c .edges) (s .args .ends-a .now)) (take (s .args .c .edges) (s .args .ends-b .now)) m) (weightsIn (engine-of s)) (s .args .a .0) (s .args .b .0)) (s .args .out-steps .now))
             ∙ sym (ap (λ k. cond (eqb k 0) (stepsAfter (path (graphIn (engine-of s)) (weightsIn (engine-of s)) (s .args .a .0) (s .args .b .0)) (s .args .out-steps .now)) (s .args .out-steps .now)) z);
       },
       scratch-free (c .before .before .before .before .before .before .before .before .before .before .before .before .before .before .before .before .before .before .run-path .result) (path (graphIn (engine-of s)) (weightsIn (engine-of s)) (s .args .a .0) (s .args .b .0)) _ _ f,
@@ -185,12 +185,12 @@ returns-2 : tie.Need-returns-2
 unfolding number-at engine-of scratch-at
 returns-2 c =
     let s : tie.Start = c .before .before .before .before .before .before .before .before .before .before .before .before .before .before .before .before .before .before .before .before .before .before .before .before .before .before .before .before .before .before .before .before in
-    let d : c .before .query-door .result ≡ number-at s = path-number (engine-of s) (scratch-at s) (s .args .a .0) (s .args .b .0) _ _ (c .before .query-door .ensures) (c .before .before .before .before .before .before .before .before .before .before .both2 .ensures) (c .before .before .before .before .before .before .before .before .before .before .before .both .ensures) (c .before .before .before .before .before .before .before .before .before .before .before .before .before .at-most .ensures) (c .before .before .before .before .before .before .before .before .before .before .before .before .at-most2 .ensures) (c .before .before .before .before .before .before .before .before .before .before .before .before .before .before .scratch-long .ensures) (c .before .before .before .before .before .both3 .ensures) (c .before .before .asked .ensures) in
+    let d : c .before .query-refusal .result ≡ number-at s = path-number (engine-of s) (scratch-at s) (s .args .a .0) (s .args .b .0) _ _ (c .before .query-refusal .ensures) (c .before .before .before .before .before .before .before .before .before .before .both2 .ensures) (c .before .before .before .before .before .before .before .before .before .before .before .both .ensures) (c .before .before .before .before .before .before .before .before .before .before .before .before .before .at-most .ensures) (c .before .before .before .before .before .before .before .before .before .before .before .before .at-most2 .ensures) (c .before .before .before .before .before .before .before .before .before .before .before .before .before .before .scratch-long .ensures) (c .before .before .before .before .before .both3 .ensures) (c .before .before .asked .ensures) in
     let f : number-at s ≡ 0 → ⊥ = λ e. c .if1 .left (d ∙ e) in (
       record {
-        answer = reply-no (number-at s) (c .before .query-door .result) (path (graphIn (engine-of s)) (weightsIn (engine-of s)) (s .args .a .0) (s .args .b .0)) d (c .if1 .left);
-        vertices-left = sym (ap (λ k. cond k (verticesAfter (path (graphIn (engine-of s)) (weightsIn (engine-of s)) (s .args .a .0) (s .args .b .0)) (s .args .out-vertices .now)) (s .args .out-vertices .now)) (ne-eqb (number-at s) 0 f));
-        steps-left = sym (ap (λ k. cond k (stepsAfter (path (graphIn (engine-of s)) (weightsIn (engine-of s)) (s .args .a .0) (s .args .b .0)) (s .args .out-steps .now)) (s .args .out-steps .now)) (ne-eqb (number-at s) 0 f));
+        answer = reply-no (number-at s) (c .before .query-refusal .result) (path (graphIn (engine-of s)) (weightsIn (engine-of s)) (s .args .a .0) (s .args .b .0)) d (c .if1 .left);
+        vertices-after = sym (ap (λ k. cond k (verticesAfter (path (graphIn (engine-of s)) (weightsIn (engine-of s)) (s .args .a .0) (s .args .b .0)) (s .args .out-vertices .now)) (s .args .out-vertices .now)) (ne-eqb (number-at s) 0 f));
+        steps-after = sym (ap (λ k. cond k (stepsAfter (path (graphIn (engine-of s)) (weightsIn (engine-of s)) (s .args .a .0) (s .args .b .0)) (s .args .out-steps .now)) (s .args .out-steps .now)) (ne-eqb (number-at s) 0 f));
       },
       λ e. refl,
     )

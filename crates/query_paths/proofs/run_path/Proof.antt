@@ -16,7 +16,7 @@ use Rattle.query_read_back.specs.Path.{pathOf}
 use Rattle.query_paths.specs.GetPath.{PathSaid, verticesAfter, stepsAfter}
 use Rattle.query_search.specs.Search.{Waiting}
 use Rattle.query_search.proofs.Listing.{searchable-as, waiting-as}
-use Rattle.query_search.proofs.Sources.{sources-only, waiting-one}
+use Rattle.query_search.proofs.OneSource.{sources-only, waiting-one}
 use Rattle.query_read_back.proofs.Back.{path-of}
 use borrow.Author.Needs.{needs}
 use Rattle.query_paths.proofs.run_path.Statement.{statement}

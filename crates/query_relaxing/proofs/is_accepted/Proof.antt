@@ -3,12 +3,12 @@ use mathlib.Core.Path.{_≡_, refl, sym, ap, ap₂, _∙_}
 use Prim.Native.Nat.{ℕ, zero, suc, _+_, _*_, _<_, _≤_}
 use native.Mathlib.Omega.{arith}
 use mathlib.Core.Bool.{Bool, false}
-use Rattle.query_relaxing.specs.Ready.{accepts}
+use Rattle.query_relaxing.specs.Ready.{takesUp}
 use borrow.Author.Needs.{needs}
 use Rattle.query_relaxing.proofs.is_accepted.Statement.{statement}
 use Rattle.query_relaxing.proofs.is_accepted.Tie as tie
 
-go : (x : ℕ) → (x ≡ 0 → ⊥) → (x ≡ 1 → ⊥) → (b : Bool) → false ≡ accepts x b
+go : (x : ℕ) → (x ≡ 0 → ⊥) → (x ≡ 1 → ⊥) → (b : Bool) → false ≡ takesUp x b
 go zero f g b = absurd (f refl)
 go (suc zero) f g b = absurd (g refl)
 go (suc (suc x)) f g b = refl

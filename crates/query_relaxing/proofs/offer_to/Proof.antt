@@ -4,7 +4,7 @@ use Prim.Native.Nat.{ℕ, zero, suc, _+_, _*_, _<_, _≤_}
 use native.Mathlib.Omega.{arith}
 use mathlib.Core.Bool.{true, false, cond}
 use Rattle.engine_walks.specs.Settling.{statusAt, weightAt, previousAt, changes, waits}
-use Rattle.query_relaxing.specs.Ready.{stateOf, accepts}
+use Rattle.query_relaxing.specs.Ready.{stateOf, takesUp}
 use Rattle.query_relaxing.proofs.Keys.{offer-by}
 use borrow.Author.Needs.{needs}
 use Rattle.query_relaxing.proofs.offer_to.Statement.{statement}
@@ -45,14 +45,14 @@ returns c =
     let s = c .before .before .before .before .before .before .before .before .before .before .before .before .before .before .before .before .before .before .before .before .before .before .before .before .before .before .before in
     let st = stateOf (s .args .status .now) (s .args .weight .now) (s .args .previous .now) in
     let w = c .before .before .before .before .before .before .before .before .before .before .wait .ensures in
-    let e : accepts (statusAt st (s .args .u)) (changes (s .args .u) (s .args .k) (s .args .q) (weightAt st (s .args .u)) (previousAt st (s .args .u))) ≡ true = ap (accepts (statusAt st (s .args .u))) (sym (c .before .before .before .before .before .before .before .before .before .before .before .before .before .before .before .before .before .before .before .tie-rule .ensures)) ∙ sym (c .before .before .before .before .before .before .before .before .before .before .before .before .before .before .before .before .before .is-accepted .ensures) ∙ c .before .before .before .before .before .before .before .before .before .before .before .before .before .before .before .before .if1 .taken in
+    let e : takesUp (statusAt st (s .args .u)) (changes (s .args .u) (s .args .k) (s .args .q) (weightAt st (s .args .u)) (previousAt st (s .args .u))) ≡ true = ap (takesUp (statusAt st (s .args .u))) (sym (c .before .before .before .before .before .before .before .before .before .before .before .before .before .before .before .before .before .before .before .tie-rule .ensures)) ∙ sym (c .before .before .before .before .before .before .before .before .before .before .before .before .before .before .before .before .before .is-accepted .ensures) ∙ c .before .before .before .before .before .before .before .before .before .before .before .before .before .before .before .before .if1 .taken in
     (w .0 ∙ ap (λ b. cond b (waits (s .args .u) (s .args .k) (s .args .a) st) st) (sym e) ∙ sym (offer-by (s .args .a) (s .args .q) (s .args .u) (s .args .k) st), w .1)
 
 returns-2 : tie.Need-returns-2
 returns-2 c =
     let s = c .before .before .before .before .before .before .before .before .before .before .before in
     let st = stateOf (s .args .status .now) (s .args .weight .now) (s .args .previous .now) in
-    let e : accepts (statusAt st (s .args .u)) (changes (s .args .u) (s .args .k) (s .args .q) (weightAt st (s .args .u)) (previousAt st (s .args .u))) ≡ false = ap (accepts (statusAt st (s .args .u))) (sym (c .before .before .before .tie-rule .ensures)) ∙ sym (c .before .is-accepted .ensures) ∙ c .if1 .left in
+    let e : takesUp (statusAt st (s .args .u)) (changes (s .args .u) (s .args .k) (s .args .q) (weightAt st (s .args .u)) (previousAt st (s .args .u))) ≡ false = ap (takesUp (statusAt st (s .args .u))) (sym (c .before .before .before .tie-rule .ensures)) ∙ sym (c .before .is-accepted .ensures) ∙ c .if1 .left in
     (ap (λ b. cond b (waits (s .args .u) (s .args .k) (s .args .a) st) st) (sym e) ∙ sym (offer-by (s .args .a) (s .args .q) (s .args .u) (s .args .k) st), s .pre .0)
 
 pub offer-to-spec : {M : Type 1} → statement M

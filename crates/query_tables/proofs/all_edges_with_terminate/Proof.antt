@@ -13,7 +13,7 @@ use Rattle.engine_walks.specs.Answers.{table}
 use Rattle.query_relaxing.specs.Ready.{endOf, graphOf, weighs}
 use Rattle.query_questions.specs.Queries.{graphIn, weightsIn, scratchLong}
 use Rattle.query_tables.specs.Ends.{endIn, stopOf}
-use Rattle.query_tables.specs.Steps.{tableDoor}
+use Rattle.query_tables.specs.Steps.{tableRefusal}
 use Rattle.query_tables.proofs.Tables.{TableAsked, table-of, table-number}
 use Rattle.columns_answers.proofs.Said.{accepts-of, refuses-of}
 use Rattle.query_search.proofs.Asked.{ScratchLong, scratch-of, searchable, cut-length}
@@ -30,7 +30,7 @@ scratch-at s = scratchLong (s .args .c .vertices) (s .args .c .edges) (length (s
 
 number-at : tie.Start → ℕ
 unfolding engine-of scratch-at
-number-at s = tableDoor (engine-of s) (scratch-at s) (s .args .source .0) (s .args .end) (length (s .args .out-weight .now)) (length (s .args .out-previous .now))
+number-at s = tableRefusal (engine-of s) (scratch-at s) (s .args .source .0) (s .args .end) (length (s .args .out-weight .now)) (length (s .args .out-previous .now))
 
 asked-at : (s : tie.Start) → number-at s ≡ 0 → TableAsked (engine-of s) (scratch-at s) (s .args .source .0) (s .args .end) (length (s .args .out-weight .now)) (length (s .args .out-previous .now))
 unfolding number-at
@@ -42,7 +42,7 @@ scratch-long-at s z = scratch-of _ _ _ _ _ _ _ _ _ (asked-at s z .scratch-is)
 
 number-then : (c : tie.Then1) → number-at (c .before .before .before .before .before .before .before .before .before .before .before .before .before .before .before .before .before .before .before .before .before .before .before .before .before .before .before) ≡ 0
 unfolding number-at engine-of scratch-at
-number-then c = sym (table-number (engine-of (c .before .before .before .before .before .before .before .before .before .before .before .before .before .before .before .before .before .before .before .before .before .before .before .before .before .before .before)) (scratch-at (c .before .before .before .before .before .before .before .before .before .before .before .before .before .before .before .before .before .before .before .before .before .before .before .before .before .before .before)) (c .before .before .before .before .before .before .before .before .before .before .before .before .before .before .before .before .before .before .before .before .before .before .before .before .before .before .before .args .source .0) (c .before .before .before .before .before .before .before .before .before .before .before .before .before .before .before .before .before .before .before .before .before .before .before .before .before .before .before .args .end) _ _ (c .before .query-door .ensures) (c .before .before .before .before .before .before .both2 .ensures) (c .before .before .before .before .before .before .before .both .ensures) (c .before .before .before .before .before .before .before .before .before .at-most .ensures) (c .before .before .before .before .before .before .before .before .at-most2 .ensures) (c .before .before .before .before .before .before .before .before .before .before .scratch-long .ensures) (c .before .before .both3 .ensures) (c .before .before .before .end-in-range .ensures)) ∙ c .if1 .taken
+number-then c = sym (table-number (engine-of (c .before .before .before .before .before .before .before .before .before .before .before .before .before .before .before .before .before .before .before .before .before .before .before .before .before .before .before)) (scratch-at (c .before .before .before .before .before .before .before .before .before .before .before .before .before .before .before .before .before .before .before .before .before .before .before .before .before .before .before)) (c .before .before .before .before .before .before .before .before .before .before .before .before .before .before .before .before .before .before .before .before .before .before .before .before .before .before .before .args .source .0) (c .before .before .before .before .before .before .before .before .before .before .before .before .before .before .before .before .before .before .before .before .before .before .before .before .before .before .before .args .end) _ _ (c .before .query-refusal .ensures) (c .before .before .before .before .before .before .both2 .ensures) (c .before .before .before .before .before .before .before .both .ensures) (c .before .before .before .before .before .before .before .before .before .at-most .ensures) (c .before .before .before .before .before .before .before .before .at-most2 .ensures) (c .before .before .before .before .before .before .before .before .before .before .scratch-long .ensures) (c .before .before .both3 .ensures) (c .before .before .before .end-in-range .ensures)) ∙ c .if1 .taken
 
 slice-aggregate-run-table : tie.Need-slice-aggregate-run-table
 unfolding number-at engine-of scratch-at
@@ -177,10 +177,10 @@ returns c =
     let o = c .before .before .before .before .before .before .before .before .before .before .before .before .before .before .before .before .before .run-table .ensures in (
       record {
         answer = accepts-of z;
-        weights-left = o .0 (take n (s .args .boundary .now)) ∙ (λ i. sets (s .args .out-weight .now) 0 (table (graphOf (len i) (take (s .args .c .edges) (s .args .ends-a .now)) (take (s .args .c .edges) (s .args .ends-b .now)) (take n (s .args .boundary .now))) w src (endOf (len i) (c .before .before .before .before .before .before .before .before .before .before .before .before .before .before .before .before .before .before .before .before .before .before .before .before .before .before .before .before .before .before .stop-of .result)) .weights))
+        weights-after = o .0 (take n (s .args .boundary .now)) ∙ (λ i. sets (s .args .out-weight .now) 0 (table (graphOf (len i) (take (s .args .c .edges) (s .args .ends-a .now)) (take (s .args .c .edges) (s .args .ends-b .now)) (take n (s .args .boundary .now))) w src (endOf (len i) (c .before .before .before .before .before .before .before .before .before .before .before .before .before .before .before .before .before .before .before .before .before .before .before .before .before .before .before .before .before .before .stop-of .result)) .weights))
             ∙ ap (λ x. sets (s .args .out-weight .now) 0 (x .weights)) t-is ∙ sets-over (s .args .out-weight .now) (table g w src (endIn (s .args .end)) .weights) (omega (arith, table-weights-length g w src (endIn (s .args .end)), k .weights-long))
             ∙ sym (after-accepted (number-at s) (table g w src (endIn (s .args .end)) .weights) (s .args .out-weight .now) z);
-        previous-left = o .1 (take n (s .args .boundary .now)) ∙ (λ i. sets (s .args .out-previous .now) 0 (table (graphOf (len i) (take (s .args .c .edges) (s .args .ends-a .now)) (take (s .args .c .edges) (s .args .ends-b .now)) (take n (s .args .boundary .now))) w src (endOf (len i) (c .before .before .before .before .before .before .before .before .before .before .before .before .before .before .before .before .before .before .before .before .before .before .before .before .before .before .before .before .before .before .stop-of .result)) .previous))
+        previous-after = o .1 (take n (s .args .boundary .now)) ∙ (λ i. sets (s .args .out-previous .now) 0 (table (graphOf (len i) (take (s .args .c .edges) (s .args .ends-a .now)) (take (s .args .c .edges) (s .args .ends-b .now)) (take n (s .args .boundary .now))) w src (endOf (len i) (c .before .before .before .before .before .before .before .before .before .before .before .before .before .before .before .before .before .before .before .before .before .before .before .before .before .before .before .before .before .before .stop-of .result)) .previous))
             ∙ ap (λ x. sets (s .args .out-previous .now) 0 (x .previous)) t-is ∙ sets-over (s .args .out-previous .now) (table g w src (endIn (s .args .end)) .previous) (omega (arith, table-previous-length g w src (endIn (s .args .end)), k .previous-long))
             ∙ sym (after-accepted (number-at s) (table g w src (endIn (s .args .end)) .previous) (s .args .out-previous .now) z);
       },
@@ -191,12 +191,12 @@ returns-2 : tie.Need-returns-2
 unfolding number-at engine-of scratch-at
 returns-2 c =
     let s : tie.Start = c .before .before .before .before .before .before .before .before .before .before .before .before .before .before .before .before .before .before .before .before .before .before .before .before .before .before .before in
-    let d : c .before .query-door .result ≡ number-at s = table-number (engine-of s) (scratch-at s) (s .args .source .0) (s .args .end) _ _ (c .before .query-door .ensures) (c .before .before .before .before .before .before .both2 .ensures) (c .before .before .before .before .before .before .before .both .ensures) (c .before .before .before .before .before .before .before .before .before .at-most .ensures) (c .before .before .before .before .before .before .before .before .at-most2 .ensures) (c .before .before .before .before .before .before .before .before .before .before .scratch-long .ensures) (c .before .before .both3 .ensures) (c .before .before .before .end-in-range .ensures) in
+    let d : c .before .query-refusal .result ≡ number-at s = table-number (engine-of s) (scratch-at s) (s .args .source .0) (s .args .end) _ _ (c .before .query-refusal .ensures) (c .before .before .before .before .before .before .both2 .ensures) (c .before .before .before .before .before .before .before .both .ensures) (c .before .before .before .before .before .before .before .before .before .at-most .ensures) (c .before .before .before .before .before .before .before .before .at-most2 .ensures) (c .before .before .before .before .before .before .before .before .before .before .scratch-long .ensures) (c .before .before .both3 .ensures) (c .before .before .before .end-in-range .ensures) in
     let f : number-at s ≡ 0 → ⊥ = λ e. c .if1 .left (d ∙ e) in (
       record {
         answer = refuses-of d (c .if1 .left);
-        weights-left = sym (after-refused (number-at s) (table (graphIn (engine-of s)) (weightsIn (engine-of s)) (s .args .source .0) (endIn (s .args .end)) .weights) (s .args .out-weight .now) f);
-        previous-left = sym (after-refused (number-at s) (table (graphIn (engine-of s)) (weightsIn (engine-of s)) (s .args .source .0) (endIn (s .args .end)) .previous) (s .args .out-previous .now) f);
+        weights-after = sym (after-refused (number-at s) (table (graphIn (engine-of s)) (weightsIn (engine-of s)) (s .args .source .0) (endIn (s .args .end)) .weights) (s .args .out-weight .now) f);
+        previous-after = sym (after-refused (number-at s) (table (graphIn (engine-of s)) (weightsIn (engine-of s)) (s .args .source .0) (endIn (s .args .end)) .previous) (s .args .out-previous .now) f);
       },
       refl,
     )

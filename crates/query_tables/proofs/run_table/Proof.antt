@@ -17,7 +17,7 @@ use Rattle.engine_walks.specs.Settling.{settled}
 use Rattle.query_relaxing.proofs.Keys.{ready-as}
 use Rattle.query_search.specs.Search.{Waiting}
 use Rattle.query_search.proofs.Listing.{searchable-as, waiting-as}
-use Rattle.query_search.proofs.Sources.{sources-only, waiting-one}
+use Rattle.query_search.proofs.OneSource.{sources-only, waiting-one}
 use Rattle.query_tables.proofs.run_table.Statement.{statement}
 use Rattle.query_tables.proofs.run_table.Tie as tie
 

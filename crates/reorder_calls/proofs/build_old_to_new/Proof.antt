@@ -7,20 +7,20 @@ use Rattle.reorder_calls.proofs.build_old_to_new.Tie as tie
 use Rattle.reorder_calls.proofs.build_old_to_new.Reads as reads
 use Rattle.reorder_calls.proofs.build_old_to_new.Lts as lts
 use Rattle.columns.proofs.done_of.Reads as done-of-reads
-use Rattle.reorder_calls.proofs.build_door.Reads as build-door-reads
+use Rattle.reorder_calls.proofs.build_refusal.Reads as build-refusal-reads
 use Rattle.reorder_orders.proofs.place_numbers.Reads as place-numbers-reads
 
 returns : tie.Need-returns
-returns c = let a = c .before .before .before .before .before .before .args in built-refused (a .order .now) (a .column .now) (c .before .before .build-door .ensures) (c .before .if1 .taken) (c .done-of .ensures)
+returns c = let a = c .before .before .before .before .before .before .args in built-refused (a .order .now) (a .column .now) (c .before .before .build-refusal .ensures) (c .before .if1 .taken) (c .done-of .ensures)
 
 place-numbers-requires : tie.Need-place-numbers-requires
-place-numbers-requires c κs = let a = c .before .before .before .before .before .before .args in build-met (a .order .now) (a .column .now) (sym (c .before .before .build-door .ensures) ∙ c .before .if1 .left)
+place-numbers-requires c κs = let a = c .before .before .before .before .before .before .args in build-met (a .order .now) (a .column .now) (sym (c .before .before .build-refusal .ensures) ∙ c .before .if1 .left)
 
 same-length-2 : tie.Need-same-length-2
 same-length-2 c = c .before .column .given
 
 returns-2 : tie.Need-returns-2
-returns-2 c = let a = c .before .before .before .before .before .before .before .before .before .args in built-accepted (a .order .now) (a .column .now) (sym (c .before .before .before .before .before .build-door .ensures) ∙ c .before .before .before .before .if1 .left) (c .before .before .place-numbers .ensures)
+returns-2 c = let a = c .before .before .before .before .before .before .before .before .before .args in built-accepted (a .order .now) (a .column .now) (sym (c .before .before .before .before .before .build-refusal .ensures) ∙ c .before .before .before .before .if1 .left) (c .before .before .place-numbers .ensures)
 
 pub build-old-to-new-spec : {M : Type 1} → statement M
 build-old-to-new-spec = tie.close (tie.spec (λ c κs. tt) (λ c κs. tt) (λ c. search needs) returns place-numbers-requires same-length-2 returns-2)

@@ -1,7 +1,7 @@
 -- `reorder_calls::columns_long` meets its contract. Assumes nothing.
 use mathlib.Core.Bool.{_&&_}
 use mathlib.Core.Path.{_∙_}
-use Rattle.reorder_calls.specs.Columns.{columnsLong}
+use Rattle.reorder_calls.specs.Columns.{reorderLong}
 use Rattle.reorder_calls.proofs.columns_long.Statement.{statement}
 use Rattle.reorder_calls.proofs.columns_long.Tie as tie
 use Rattle.reorder_calls.proofs.columns_long.Reads as reads
@@ -13,7 +13,7 @@ use Rattle.reorder_calls.proofs.positions_long.Reads as positions-long-
 use Rattle.reorder_calls.proofs.vertex_long.Reads as vertex-long-reads
 
 returns : tie.Need-returns
-unfolding columnsLong
+unfolding reorderLong
 returns c = c .both4 .ensures ∙ (λ i. (c .before .before .before .before .before .before .before .before .ends-long .ensures) i && (c .before .both3 .ensures ∙ (λ i. (c .before .before .before .before .before .before .before .vertex-long .ensures) i && (c .before .before .both2 .ensures ∙ (λ i. (c .before .before .before .before .before .before .positions-long .ensures) i && (c .before .before .before .both .ensures ∙ (λ i. (c .before .before .before .before .before .lists-long .ensures) i && (c .before .before .before .before .lists-long2 .ensures) i)) i)) i)) i)
 
 pub columns-long-spec : {M : Type 1} → statement M

@@ -1,17 +1,17 @@
 -- `reorder_calls::columns_sound` meets its contract. Assumes nothing.
 use mathlib.Core.Bool.{_&&_}
 use mathlib.Core.Path.{_∙_}
-use Rattle.reorder_calls.specs.Columns.{columnsSound}
+use Rattle.reorder_calls.specs.Columns.{reorderSound}
 use Rattle.reorder_calls.proofs.columns_sound.Statement.{statement}
 use Rattle.reorder_calls.proofs.columns_sound.Tie as tie
 use Rattle.reorder_calls.proofs.columns_sound.Reads as reads
 use Rattle.reorder_calls.proofs.columns_sound.Lts as lts
 use Rattle.columns.proofs.questions.both.Reads as both-reads
 use Rattle.columns.proofs.questions.marks_sound.Reads as marks-sound-reads
-use Rattle.sampling_calls.proofs.doors.code_sound.Reads as code-sound-reads
+use Rattle.sampling_calls.proofs.questions.code_sound.Reads as code-sound-reads
 
 returns : tie.Need-returns
-unfolding columnsSound
+unfolding reorderSound
 returns c = c .both .ensures ∙ (λ i. (c .before .before .code-sound .ensures) i && (c .before .marks-sound .ensures) i)
 
 pub columns-sound-spec : {M : Type 1} → statement M

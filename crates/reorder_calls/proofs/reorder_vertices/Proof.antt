@@ -5,7 +5,7 @@ use Prim.Native.Nat.{ℕ, _≤_, _<_}
 use native.Mathlib.Omega.{arith}
 use lib.ListN.{length, getD}
 use Rattle.columns_neighbors.specs.Steps.{sumTo}
-use Rattle.reorder_calls.specs.Columns.{CodeColumns, codeColumns, reorderDoor}
+use Rattle.reorder_calls.specs.Columns.{ReorderColumns, reorderColumns, reorderRefusal}
 use Rattle.reorder_calls.proofs.Accepting.{ReorderMet, reorder-met, reordered-refused, reordered-accepted}
 use borrow.Author.Needs.{needs}
 use Rattle.reorder_calls.proofs.reorder_vertices.Statement.{statement}
@@ -18,51 +18,51 @@ use Rattle.reorder_columns.proofs.move_positions.Reads as move-positions-reads
 use Rattle.reorder_columns.proofs.move_u32.Reads as move-u32-reads
 use Rattle.reorder_columns.proofs.move_u8.Reads as move-u8-reads
 use Rattle.reorder_orders.proofs.rename_ends.Reads as rename-ends-reads
-use Rattle.reorder_calls.proofs.reorder_door.Reads as reorder-door-reads
+use Rattle.reorder_calls.proofs.reorder_refusal.Reads as reorder-refusal-reads
 
 returns : tie.Need-returns
 returns c =
     let a = c .before .before .before .before .before .before .before .before .before .before .before .before .before .before .before .before .before .before .before .before .before .before .before .before .args in
-    let b : CodeColumns = codeColumns (a .ends-a .now) (a .ends-b .now) (a .boundary .now) (a .defect .now) (a .is .now) (a .js .now) (a .ts .now) (a .lengths .now) (a .numbers .now) (a .scratch .now) in
-    reordered-refused (a .vertex-num) (a .edge-num) (a .order .now) b (c .before .before .reorder-door .ensures) (c .before .if1 .taken) (c .done-of .ensures)
+    let b : ReorderColumns = reorderColumns (a .ends-a .now) (a .ends-b .now) (a .boundary .now) (a .defect .now) (a .is .now) (a .js .now) (a .ts .now) (a .lengths .now) (a .numbers .now) (a .scratch .now) in
+    reordered-refused (a .vertex-num) (a .edge-num) (a .order .now) b (c .before .before .reorder-refusal .ensures) (c .before .if1 .taken) (c .done-of .ensures)
 
 rename-ends-requires : tie.Need-rename-ends-requires
 rename-ends-requires c κs =
     let a = c .before .before .before .before .before .before .before .before .before .before .before .before .before .before .before .before .before .before .before .before .before .before .before .before .before .args in
-    let b : CodeColumns = codeColumns (a .ends-a .now) (a .ends-b .now) (a .boundary .now) (a .defect .now) (a .is .now) (a .js .now) (a .ts .now) (a .lengths .now) (a .numbers .now) (a .scratch .now) in
-    let z : reorderDoor (a .vertex-num) (a .edge-num) (a .order .now) b ≡ 0 = sym (c .before .before .before .reorder-door .ensures) ∙ c .before .before .if1 .left in
+    let b : ReorderColumns = reorderColumns (a .ends-a .now) (a .ends-b .now) (a .boundary .now) (a .defect .now) (a .is .now) (a .js .now) (a .ts .now) (a .lengths .now) (a .numbers .now) (a .scratch .now) in
+    let z : reorderRefusal (a .vertex-num) (a .edge-num) (a .order .now) b ≡ 0 = sym (c .before .before .before .reorder-refusal .ensures) ∙ c .before .before .if1 .left in
     let k : ReorderMet (a .vertex-num) (a .edge-num) (a .order .now) b = reorder-met (a .vertex-num) (a .edge-num) (a .order .now) b z in
     ((k .order-is, k .sound .graph .long-a, k .sound .graph .long-b), ((λ i h. omega (arith, k .many, k .sound .graph .in-a i h)), (λ i h. omega (arith, k .many, k .sound .graph .in-b i h))))
 
 move-u8-requires : tie.Need-move-u8-requires
 move-u8-requires c κs =
     let a = c .before .before .before .before .before .before .before .before .before .before .before .before .before .before .before .before .before .before .before .before .before .before .before .before .before .before .before .before .before .before .before .args in
-    let b : CodeColumns = codeColumns (a .ends-a .now) (a .ends-b .now) (a .boundary .now) (a .defect .now) (a .is .now) (a .js .now) (a .ts .now) (a .lengths .now) (a .numbers .now) (a .scratch .now) in
-    let z : reorderDoor (a .vertex-num) (a .edge-num) (a .order .now) b ≡ 0 = sym (c .before .before .before .before .before .before .before .before .before .reorder-door .ensures) ∙ c .before .before .before .before .before .before .before .before .if1 .left in
+    let b : ReorderColumns = reorderColumns (a .ends-a .now) (a .ends-b .now) (a .boundary .now) (a .defect .now) (a .is .now) (a .js .now) (a .ts .now) (a .lengths .now) (a .numbers .now) (a .scratch .now) in
+    let z : reorderRefusal (a .vertex-num) (a .edge-num) (a .order .now) b ≡ 0 = sym (c .before .before .before .before .before .before .before .before .before .reorder-refusal .ensures) ∙ c .before .before .before .before .before .before .before .before .if1 .left in
     let k : ReorderMet (a .vertex-num) (a .edge-num) (a .order .now) b = reorder-met (a .vertex-num) (a .edge-num) (a .order .now) b z in
     (k .order-is, omega (arith, k .many, k .long-boundary))
 
 move-u8-requires-2 : tie.Need-move-u8-requires-2
 move-u8-requires-2 c κs =
     let a = c .before .before .before .before .before .before .before .before .before .before .before .before .before .before .before .before .before .before .before .before .before .before .before .before .before .before .before .before .before .before .before .before .before .before .before .args in
-    let b : CodeColumns = codeColumns (a .ends-a .now) (a .ends-b .now) (a .boundary .now) (a .defect .now) (a .is .now) (a .js .now) (a .ts .now) (a .lengths .now) (a .numbers .now) (a .scratch .now) in
-    let z : reorderDoor (a .vertex-num) (a .edge-num) (a .order .now) b ≡ 0 = sym (c .before .before .before .before .before .before .before .before .before .before .before .before .before .reorder-door .ensures) ∙ c .before .before .before .before .before .before .before .before .before .before .before .before .if1 .left in
+    let b : ReorderColumns = reorderColumns (a .ends-a .now) (a .ends-b .now) (a .boundary .now) (a .defect .now) (a .is .now) (a .js .now) (a .ts .now) (a .lengths .now) (a .numbers .now) (a .scratch .now) in
+    let z : reorderRefusal (a .vertex-num) (a .edge-num) (a .order .now) b ≡ 0 = sym (c .before .before .before .before .before .before .before .before .before .before .before .before .before .reorder-refusal .ensures) ∙ c .before .before .before .before .before .before .before .before .before .before .before .before .if1 .left in
     let k : ReorderMet (a .vertex-num) (a .edge-num) (a .order .now) b = reorder-met (a .vertex-num) (a .edge-num) (a .order .now) b z in
     (k .order-is, omega (arith, k .many, k .long-defect))
 
 move-positions-requires : tie.Need-move-positions-requires
 move-positions-requires c κs =
     let a = c .before .before .before .before .before .before .before .before .before .before .before .before .before .before .before .before .before .before .before .before .before .before .before .before .before .before .before .before .before .before .before .before .before .before .before .before .before .before .before .before .before .args in
-    let b : CodeColumns = codeColumns (a .ends-a .now) (a .ends-b .now) (a .boundary .now) (a .defect .now) (a .is .now) (a .js .now) (a .ts .now) (a .lengths .now) (a .numbers .now) (a .scratch .now) in
-    let z : reorderDoor (a .vertex-num) (a .edge-num) (a .order .now) b ≡ 0 = sym (c .before .before .before .before .before .before .before .before .before .before .before .before .before .before .before .before .before .before .before .reorder-door .ensures) ∙ c .before .before .before .before .before .before .before .before .before .before .before .before .before .before .before .before .before .before .if1 .left in
+    let b : ReorderColumns = reorderColumns (a .ends-a .now) (a .ends-b .now) (a .boundary .now) (a .defect .now) (a .is .now) (a .js .now) (a .ts .now) (a .lengths .now) (a .numbers .now) (a .scratch .now) in
+    let z : reorderRefusal (a .vertex-num) (a .edge-num) (a .order .now) b ≡ 0 = sym (c .before .before .before .before .before .before .before .before .before .before .before .before .before .before .before .before .before .before .before .reorder-refusal .ensures) ∙ c .before .before .before .before .before .before .before .before .before .before .before .before .before .before .before .before .before .before .if1 .left in
     let k : ReorderMet (a .vertex-num) (a .edge-num) (a .order .now) b = reorder-met (a .vertex-num) (a .edge-num) (a .order .now) b z in
     (k .order-is, omega (arith, k .many, k .long-i), omega (arith, k .many, k .long-j), omega (arith, k .many, k .long-t))
 
 move-lists-requires : tie.Need-move-lists-requires
 move-lists-requires c κs =
     let a = c .before .before .before .before .before .before .before .before .before .before .before .before .before .before .before .before .before .before .before .before .before .before .before .before .before .before .before .before .before .before .before .before .before .before .before .before .before .before .before .before .before .before .before .before .before .before .before .before .before .before .before .args in
-    let b : CodeColumns = codeColumns (a .ends-a .now) (a .ends-b .now) (a .boundary .now) (a .defect .now) (a .is .now) (a .js .now) (a .ts .now) (a .lengths .now) (a .numbers .now) (a .scratch .now) in
-    let z : reorderDoor (a .vertex-num) (a .edge-num) (a .order .now) b ≡ 0 = sym (c .before .before .before .before .before .before .before .before .before .before .before .before .before .before .before .before .before .before .before .before .before .before .before .before .before .before .before .before .before .reorder-door .ensures) ∙ c .before .before .before .before .before .before .before .before .before .before .before .before .before .before .before .before .before .before .before .before .before .before .before .before .before .before .before .before .if1 .left in
+    let b : ReorderColumns = reorderColumns (a .ends-a .now) (a .ends-b .now) (a .boundary .now) (a .defect .now) (a .is .now) (a .js .now) (a .ts .now) (a .lengths .now) (a .numbers .now) (a .scratch .now) in
+    let z : reorderRefusal (a .vertex-num) (a .edge-num) (a .order .now) b ≡ 0 = sym (c .before .before .before .before .before .before .before .before .before .before .before .before .before .before .before .before .before .before .before .before .before .before .before .before .before .before .before .before .before .reorder-refusal .ensures) ∙ c .before .before .before .before .before .before .before .before .before .before .before .before .before .before .before .before .before .before .before .before .before .before .before .before .before .before .before .before .if1 .left in
     let k : ReorderMet (a .vertex-num) (a .edge-num) (a .order .now) b = reorder-met (a .vertex-num) (a .edge-num) (a .order .now) b z in
     let e : sumTo (length (a .order .now)) (a .lengths .now) ≡ sumTo (a .vertex-num) (a .lengths .now) = ap (λ (n : ℕ). sumTo n (a .lengths .now)) (k .many) in
     ((k .order-is, omega (arith, k .many, k .long-lengths)), (omega (arith, e, k .long-numbers), omega (arith, e, k .long-scratch)))
@@ -70,8 +70,8 @@ move-lists-requires c κs =
 move-u32-requires : tie.Need-move-u32-requires
 move-u32-requires c κs =
     let a = c .before .before .before .before .before .before .before .before .before .before .before .before .before .before .before .before .before .before .before .before .before .before .before .before .before .before .before .before .before .before .before .before .before .before .before .before .before .before .before .before .before .before .before .before .before .before .before .before .before .before .before .before .before .before .before .before .before .args in
-    let b : CodeColumns = codeColumns (a .ends-a .now) (a .ends-b .now) (a .boundary .now) (a .defect .now) (a .is .now) (a .js .now) (a .ts .now) (a .lengths .now) (a .numbers .now) (a .scratch .now) in
-    let z : reorderDoor (a .vertex-num) (a .edge-num) (a .order .now) b ≡ 0 = sym (c .before .before .before .before .before .before .before .before .before .before .before .before .before .before .before .before .before .before .before .before .before .before .before .before .before .before .before .before .before .before .before .before .before .before .before .reorder-door .ensures) ∙ c .before .before .before .before .before .before .before .before .before .before .before .before .before .before .before .before .before .before .before .before .before .before .before .before .before .before .before .before .before .before .before .before .before .before .if1 .left in
+    let b : ReorderColumns = reorderColumns (a .ends-a .now) (a .ends-b .now) (a .boundary .now) (a .defect .now) (a .is .now) (a .js .now) (a .ts .now) (a .lengths .now) (a .numbers .now) (a .scratch .now) in
+    let z : reorderRefusal (a .vertex-num) (a .edge-num) (a .order .now) b ≡ 0 = sym (c .before .before .before .before .before .before .before .before .before .before .before .before .before .before .before .before .before .before .before .before .before .before .before .before .before .before .before .before .before .before .before .before .before .before .before .reorder-refusal .ensures) ∙ c .before .before .before .before .before .before .before .before .before .before .before .before .before .before .before .before .before .before .before .before .before .before .before .before .before .before .before .before .before .before .before .before .before .before .if1 .left in
     let k : ReorderMet (a .vertex-num) (a .edge-num) (a .order .now) b = reorder-met (a .vertex-num) (a .edge-num) (a .order .now) b z in
     (k .order-is, omega (arith, k .many, k .long-lengths))
 
@@ -108,8 +108,8 @@ same-length-20 c = c .before .before .before .before .before .scratch .given
 returns-2 : tie.Need-returns-2
 returns-2 c =
     let a = c .before .before .before .before .before .before .before .before .before .before .before .before .before .before .before .before .before .before .before .before .before .before .before .before .before .before .before .before .before .before .before .before .before .before .before .before .before .before .before .before .before .before .before .before .before .before .before .before .before .before .before .before .before .before .before .before .before .before .before .before .args in
-    let b : CodeColumns = codeColumns (a .ends-a .now) (a .ends-b .now) (a .boundary .now) (a .defect .now) (a .is .now) (a .js .now) (a .ts .now) (a .lengths .now) (a .numbers .now) (a .scratch .now) in
-    let z : reorderDoor (a .vertex-num) (a .edge-num) (a .order .now) b ≡ 0 = sym (c .before .before .before .before .before .before .before .before .before .before .before .before .before .before .before .before .before .before .before .before .before .before .before .before .before .before .before .before .before .before .before .before .before .before .before .before .before .before .reorder-door .ensures) ∙ c .before .before .before .before .before .before .before .before .before .before .before .before .before .before .before .before .before .before .before .before .before .before .before .before .before .before .before .before .before .before .before .before .before .before .before .before .before .if1 .left in
+    let b : ReorderColumns = reorderColumns (a .ends-a .now) (a .ends-b .now) (a .boundary .now) (a .defect .now) (a .is .now) (a .js .now) (a .ts .now) (a .lengths .now) (a .numbers .now) (a .scratch .now) in
+    let z : reorderRefusal (a .vertex-num) (a .edge-num) (a .order .now) b ≡ 0 = sym (c .before .before .before .before .before .before .before .before .before .before .before .before .before .before .before .before .before .before .before .before .before .before .before .before .before .before .before .before .before .before .before .before .before .before .before .before .before .before .reorder-refusal .ensures) ∙ c .before .before .before .before .before .before .before .before .before .before .before .before .before .before .before .before .before .before .before .before .before .before .before .before .before .before .before .before .before .before .before .before .before .before .before .before .before .if1 .left in
     let k : ReorderMet (a .vertex-num) (a .edge-num) (a .order .now) b = reorder-met (a .vertex-num) (a .edge-num) (a .order .now) b z in
     let ends = c .before .before .before .before .before .before .before .before .before .before .before .before .before .before .before .before .before .before .before .before .before .before .before .before .before .before .before .before .before .before .before .before .before .before .rename-ends .ensures in
     let at = c .before .before .before .before .before .before .before .before .before .before .before .before .before .before .before .before .before .before .move-positions .ensures in

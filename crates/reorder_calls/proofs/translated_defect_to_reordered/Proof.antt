@@ -7,22 +7,22 @@ use Rattle.reorder_calls.proofs.translated_defect_to_reordered.Tie as t
 use Rattle.reorder_calls.proofs.translated_defect_to_reordered.Reads as reads
 use Rattle.reorder_calls.proofs.translated_defect_to_reordered.Lts as lts
 use Rattle.reorder_orders.proofs.translate.Reads as translate-reads
-use Rattle.reorder_calls.proofs.translate_door.Reads as translate-door-reads
+use Rattle.reorder_calls.proofs.translate_refusal.Reads as translate-refusal-reads
 
 translate-requires : tie.Need-translate-requires
 translate-requires c κs =
     let a = c .before .before .before .before .before .before .before .args in
-    let k : TranslateMet (a .order .now) (a .list .now) (a .column .now) = translate-met (a .order .now) (a .list .now) (a .column .now) (sym (c .before .before .translate-door .ensures) ∙ c .before .if1 .taken) in
+    let k : TranslateMet (a .order .now) (a .list .now) (a .column .now) = translate-met (a .order .now) (a .list .now) (a .column .now) (sym (c .before .before .translate-refusal .ensures) ∙ c .before .if1 .taken) in
     ((k .order-is, k .room), k .listed)
 
 same-length : tie.Need-same-length
 same-length c = c .before .column .given
 
 returns : tie.Need-returns
-returns c = let a = c .before .before .before .before .before .before .before .before .before .before .args in translated-accepted (a .order .now) (a .list .now) (a .column .now) (sym (c .before .before .before .before .before .translate-door .ensures) ∙ c .before .before .before .before .if1 .taken) (c .before .before .translate .ensures)
+returns c = let a = c .before .before .before .before .before .before .before .before .before .before .args in translated-accepted (a .order .now) (a .list .now) (a .column .now) (sym (c .before .before .before .before .before .translate-refusal .ensures) ∙ c .before .before .before .before .if1 .taken) (c .before .before .translate .ensures)
 
 returns-2 : tie.Need-returns-2
-returns-2 c = let a = c .before .before .before .before .before .before .args in translated-refused (a .order .now) (a .list .now) (a .column .now) (c .before .translate-door .ensures) (c .if1 .left)
+returns-2 c = let a = c .before .before .before .before .before .before .args in translated-refused (a .order .now) (a .list .now) (a .column .now) (c .before .translate-refusal .ensures) (c .if1 .left)
 
 pub translated-defect-to-reordered-spec : {M : Type 1} → statement M
 translated-defect-to-reordered-spec = tie.close (tie.spec (λ c κs. tt) translate-requires same-length returns (λ c. search needs) returns-2)

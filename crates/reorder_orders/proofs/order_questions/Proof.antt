@@ -6,7 +6,7 @@ use lib.ListN.{length, getD}
 use Rattle.columns.proofs.Tests.{below-at}
 use Rattle.columns.specs.Questions.{ask}
 use Rattle.reorder_orders.specs.Order.{noneTwice}
-use Rattle.columns.proofs.Doors.{asks}
+use Rattle.columns.proofs.Refusals.{asks}
 use Rattle.reorder_orders.proofs.Asking.{stops, passes}
 use Rattle.reorder_orders.proofs.order_questions.Statement.{statement}
 use Rattle.reorder_orders.proofs.order_questions.Tie as tie

@@ -7,7 +7,7 @@ use lib.ListN.{length, getD, take}
 use lib.Seq.{length-take-le}
 use Rattle.sampling_calls.specs.Records.{CodeGraph, codeGraph, SyndromeColumns, syndromeColumns}
 use Rattle.sampling_flips.specs.Flip.{flipEach}
-use Rattle.sampling_calls.specs.Errors.{errorsDoor}
+use Rattle.sampling_calls.specs.Errors.{errorsRefusal}
 use Rattle.sampling_flips.specs.Steps.{Fits}
 use Rattle.sampling_flips.proofs.Flipping.{length-flipEach}
 use Rattle.sampling_calls.proofs.Accepting.{ErrorsMet, errors-met, fits-of, over-take, flipEach-over, left-refused, left-accepted}
@@ -16,7 +16,7 @@ use Rattle.sampling_calls.proofs.generate_errors.Statement.{statement}
 use Rattle.sampling_calls.proofs.generate_errors.Tie as tie
 use Rattle.sampling_calls.proofs.generate_errors.Reads as reads
 use Rattle.sampling_calls.proofs.generate_errors.Lts as lts
-use Rattle.sampling_calls.proofs.doors.errors_door.Reads as errors-door-reads
+use Rattle.sampling_calls.proofs.questions.errors_refusal.Reads as errors-refusal-reads
 use Rattle.sampling_flips.proofs.flip_all.Reads as flip-all-reads
 use Rattle.columns_marks.proofs.list_set.Reads as list-set-reads
 
@@ -25,7 +25,7 @@ flip-all-requires c κs =
     let a = c .before .before .before .before .before .before .before .before .before .before .before .before .before .before .args in
     let g : CodeGraph = codeGraph (a .vertex-num) (a .edge-num) (a .ends-a .now) (a .ends-b .now) (a .boundary .now) in
     let s : SyndromeColumns = syndromeColumns (a .defect .now) (a .erasure .now) (a .defect-list .now) (a .erasure-list .now) in
-    let k : ErrorsMet g (a .list .now) s = errors-met g (a .list .now) s (sym (c .before .before .errors-door .ensures) ∙ c .before .if1 .taken) in
+    let k : ErrorsMet g (a .list .now) s = errors-met g (a .list .now) s (sym (c .before .before .errors-refusal .ensures) ∙ c .before .if1 .taken) in
     (fits-of g (a .defect .now) (k .long) (k .sound) (k .lists .long-defect), k .named)
 
 list-set-requires : tie.Need-list-set-requires
@@ -33,7 +33,7 @@ list-set-requires c κs =
     let a = c .before .before .before .before .before .before .before .before .before .before .before .before .before .before .before .before .before .before .before .args in
     let g : CodeGraph = codeGraph (a .vertex-num) (a .edge-num) (a .ends-a .now) (a .ends-b .now) (a .boundary .now) in
     let s : SyndromeColumns = syndromeColumns (a .defect .now) (a .erasure .now) (a .defect-list .now) (a .erasure-list .now) in
-    let k : ErrorsMet g (a .list .now) s = errors-met g (a .list .now) s (sym (c .before .before .before .before .before .before .before .errors-door .ensures) ∙ c .before .before .before .before .before .before .if1 .taken) in
+    let k : ErrorsMet g (a .list .now) s = errors-met g (a .list .now) s (sym (c .before .before .before .before .before .before .before .errors-refusal .ensures) ∙ c .before .before .before .before .before .before .if1 .taken) in
     let l = simp length-flipEach at (ap length (c .before .before .before .before .flip-all .ensures)) in
     (omega (arith, l, k .lists .long-defect), omega (arith, k .lists .long-defects))
 
@@ -42,7 +42,7 @@ list-set-requires-2 c κs =
     let a = c .before .before .before .before .before .before .before .before .before .before .before .before .before .before .before .before .before .before .before .before .before .before .before .args in
     let g : CodeGraph = codeGraph (a .vertex-num) (a .edge-num) (a .ends-a .now) (a .ends-b .now) (a .boundary .now) in
     let s : SyndromeColumns = syndromeColumns (a .defect .now) (a .erasure .now) (a .defect-list .now) (a .erasure-list .now) in
-    let k : ErrorsMet g (a .list .now) s = errors-met g (a .list .now) s (sym (c .before .before .before .before .before .before .before .before .before .before .before .errors-door .ensures) ∙ c .before .before .before .before .before .before .before .before .before .before .if1 .taken) in
+    let k : ErrorsMet g (a .list .now) s = errors-met g (a .list .now) s (sym (c .before .before .before .before .before .before .before .before .before .before .before .errors-refusal .ensures) ∙ c .before .before .before .before .before .before .before .before .before .before .if1 .taken) in
     (omega (arith, k .lists .long-erasure), omega (arith, k .lists .long-erasures))
 
 same-length : tie.Need-same-length
@@ -59,12 +59,12 @@ returns c =
     let a = c .before .before .before .before .before .before .before .before .before .before .before .before .before .before .before .before .before .before .before .before .before .before .before .before .before .before .args in
     let g : CodeGraph = codeGraph (a .vertex-num) (a .edge-num) (a .ends-a .now) (a .ends-b .now) (a .boundary .now) in
     let s : SyndromeColumns = syndromeColumns (a .defect .now) (a .erasure .now) (a .defect-list .now) (a .erasure-list .now) in
-    let z : errorsDoor g (a .list .now) s ≡ 0 = sym (c .before .before .before .before .before .before .before .before .before .before .before .before .before .before .errors-door .ensures) ∙ c .before .before .before .before .before .before .before .before .before .before .before .before .before .if1 .taken in
+    let z : errorsRefusal g (a .list .now) s ≡ 0 = sym (c .before .before .before .before .before .before .before .before .before .before .before .before .before .before .errors-refusal .ensures) ∙ c .before .before .before .before .before .before .before .before .before .before .before .before .before .if1 .taken in
     let k : ErrorsMet g (a .list .now) s = errors-met g (a .list .now) s z in
     let f : Fits (a .vertex-num) (a .edge-num) (a .ends-a .now) (a .ends-b .now) (a .boundary .now) (a .defect .now) = fits-of g (a .defect .now) (k .long) (k .sound) (k .lists .long-defect) in
     let x = c .before .before .before .before .before .before .list-set .ensures in
     let y = c .before .before .list-set2 .ensures in
-    left-accepted (errorsDoor g (a .list .now) s) (a .vertex-num) (a .edge-num)
+    left-accepted (errorsRefusal g (a .list .now) s) (a .vertex-num) (a .edge-num)
     (flipEach (a .ends-a .now) (a .ends-b .now) (a .boundary .now) (a .list .now) (take (a .vertex-num) (a .defect .now))) (take (a .edge-num) (a .erasure .now)) s _ z
     (length-flipEach (a .ends-a .now) (a .ends-b .now) (a .boundary .now) (a .list .now) (take (a .vertex-num) (a .defect .now)) ∙ length-take-le (a .vertex-num) (a .defect .now) (k .lists .long-defect))
     (length-take-le (a .edge-num) (a .erasure .now) (k .lists .long-erasure))
@@ -79,9 +79,9 @@ returns-2 c =
     let a = c .before .before .before .before .before .before .before .before .before .before .before .before .before .args in
     let g : CodeGraph = codeGraph (a .vertex-num) (a .edge-num) (a .ends-a .now) (a .ends-b .now) (a .boundary .now) in
     let s : SyndromeColumns = syndromeColumns (a .defect .now) (a .erasure .now) (a .defect-list .now) (a .erasure-list .now) in
-    left-refused (errorsDoor g (a .list .now) s) (a .vertex-num) (a .edge-num)
+    left-refused (errorsRefusal g (a .list .now) s) (a .vertex-num) (a .edge-num)
     (flipEach (a .ends-a .now) (a .ends-b .now) (a .boundary .now) (a .list .now) (take (a .vertex-num) (a .defect .now))) (take (a .edge-num) (a .erasure .now)) s
-    (c .before .errors-door .ensures) (c .if1 .left)
+    (c .before .errors-refusal .ensures) (c .if1 .left)
 
 pub generate-errors-spec : {M : Type 1} → statement M
 generate-errors-spec = tie.close (tie.spec (λ c κs. tt) flip-all-requires list-set-requires list-set-requires-2 same-length same-length-2 same-length-3 returns (λ c. search needs) (λ c. search needs) (λ c. search needs) returns-2)

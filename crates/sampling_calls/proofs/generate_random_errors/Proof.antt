@@ -9,7 +9,7 @@ use lib.Ieee.{Float}
 use Rattle.sampling_generator.specs.Random.{seedFromU64}
 use Rattle.sampling_calls.specs.Records.{CodeGraph, codeGraph, SyndromeColumns, syndromeColumns}
 use Rattle.sampling_edges.specs.Draws.{sampledErasures}
-use Rattle.sampling_calls.specs.Sampling.{samplingDoor, sampledDefects}
+use Rattle.sampling_calls.specs.Sampling.{samplingRefusal, sampledDefects}
 use Rattle.sampling_calls.proofs.Accepting.{fits-of, left-refused, left-accepted}
 use Rattle.sampling_calls.proofs.Draws.{SamplingMet, sampling-met, sampled-from, sampled-defect, sampled-erasure, length-defect, length-erasure, length-sampledDefects, length-sampledErasures}
 use borrow.Author.Needs.{needs}
@@ -19,7 +19,7 @@ use Rattle.sampling_calls.proofs.generate_random_errors.Reads as reads
 use Rattle.sampling_calls.proofs.generate_random_errors.Lts as lts
 use Rattle.columns_stores.proofs.fill_u8.Reads as fill-u8-reads
 use Rattle.sampling_generator.proofs.DeterministicRng.seed_from_u64.Reads as seed-from-u64-reads
-use Rattle.sampling_calls.proofs.doors.sampling_door.Reads as sampling-door-reads
+use Rattle.sampling_calls.proofs.questions.sampling_refusal.Reads as sampling-refusal-reads
 use Rattle.columns_marks.proofs.list_set.Reads as list-set-reads
 use Rattle.sampling_edges.proofs.sample_edges.Reads as sample-edges-reads
 
@@ -28,7 +28,7 @@ sample-edges-requires c κs =
     let a = c .before .before .before .before .before .before .before .before .before .before .before .before .before .before .before .before .before .before .before .before .before .before .args in
     let g : CodeGraph = codeGraph (a .vertex-num) (a .edge-num) (a .ends-a .now) (a .ends-b .now) (a .boundary .now) in
     let s : SyndromeColumns = syndromeColumns (a .defect .now) (a .erasure .now) (a .defect-list .now) (a .erasure-list .now) in
-    let k : SamplingMet g (a .p .now) (a .pe .now) s = sampling-met g (a .p .now) (a .pe .now) s (sym (c .before .before .before .before .before .before .before .before .sampling-door .ensures) ∙ c .before .before .before .before .before .before .before .if1 .taken) in
+    let k : SamplingMet g (a .p .now) (a .pe .now) s = sampling-met g (a .p .now) (a .pe .now) s (sym (c .before .before .before .before .before .before .before .before .sampling-refusal .ensures) ∙ c .before .before .before .before .before .before .before .if1 .taken) in
     let l = simp length-sets at (ap length (c .before .before .before .before .before .fill-u8 .ensures)) in
     (fits-of g _ (k .long) (k .sound) (omega (arith, l, k .lists .long-defect)), (k .long-p, k .long-pe, k .lists .long-erasure))
 
@@ -37,7 +37,7 @@ list-set-requires c κs =
     let a = c .before .before .before .before .before .before .before .before .before .before .before .before .before .before .before .before .before .before .before .before .before .before .before .before .before .before .before .before .before .args in
     let g : CodeGraph = codeGraph (a .vertex-num) (a .edge-num) (a .ends-a .now) (a .ends-b .now) (a .boundary .now) in
     let s : SyndromeColumns = syndromeColumns (a .defect .now) (a .erasure .now) (a .defect-list .now) (a .erasure-list .now) in
-    let k : SamplingMet g (a .p .now) (a .pe .now) s = sampling-met g (a .p .now) (a .pe .now) s (sym (c .before .before .before .before .before .before .before .before .before .before .before .before .before .before .before .sampling-door .ensures) ∙ c .before .before .before .before .before .before .before .before .before .before .before .before .before .before .if1 .taken) in
+    let k : SamplingMet g (a .p .now) (a .pe .now) s = sampling-met g (a .p .now) (a .pe .now) s (sym (c .before .before .before .before .before .before .before .before .before .before .before .before .before .before .before .sampling-refusal .ensures) ∙ c .before .before .before .before .before .before .before .before .before .before .before .before .before .before .if1 .taken) in
     let l = length-defect _ g (a .p .now) (a .pe .now) (a .defect .now) (a .erasure .now) (k .sound) (k .lists .long-defect) (k .lists .long-erasure) (c .before .before .before .before .before .before .before .before .before .before .before .before .fill-u8 .ensures) (c .before .before .before .before .before .before .sample-edges .ensures) in
     (omega (arith, l, k .lists .long-defect), k .lists .long-defects)
 
@@ -46,7 +46,7 @@ list-set-requires-2 c κs =
     let a = c .before .before .before .before .before .before .before .before .before .before .before .before .before .before .before .before .before .before .before .before .before .before .before .before .before .before .before .before .before .before .before .before .before .before .args in
     let g : CodeGraph = codeGraph (a .vertex-num) (a .edge-num) (a .ends-a .now) (a .ends-b .now) (a .boundary .now) in
     let s : SyndromeColumns = syndromeColumns (a .defect .now) (a .erasure .now) (a .defect-list .now) (a .erasure-list .now) in
-    let k : SamplingMet g (a .p .now) (a .pe .now) s = sampling-met g (a .p .now) (a .pe .now) s (sym (c .before .before .before .before .before .before .before .before .before .before .before .before .before .before .before .before .before .before .before .before .sampling-door .ensures) ∙ c .before .before .before .before .before .before .before .before .before .before .before .before .before .before .before .before .before .before .before .if1 .taken) in
+    let k : SamplingMet g (a .p .now) (a .pe .now) s = sampling-met g (a .p .now) (a .pe .now) s (sym (c .before .before .before .before .before .before .before .before .before .before .before .before .before .before .before .before .before .before .before .before .sampling-refusal .ensures) ∙ c .before .before .before .before .before .before .before .before .before .before .before .before .before .before .before .before .before .before .before .if1 .taken) in
     let l = length-erasure _ g (a .p .now) (a .pe .now) (a .defect .now) (a .erasure .now) (k .sound) (k .lists .long-defect) (k .lists .long-erasure) (c .before .before .before .before .before .before .before .before .before .before .before .before .before .before .before .before .before .fill-u8 .ensures) (c .before .before .before .before .before .before .before .before .before .before .before .sample-edges .ensures) in
     (omega (arith, l, k .lists .long-erasure), k .lists .long-erasures)
 
@@ -64,13 +64,13 @@ returns c =
     let a = c .before .before .before .before .before .before .before .before .before .before .before .before .before .before .before .before .before .before .before .before .before .before .before .before .before .before .before .before .before .before .before .before .before .before .before .before .before .args in
     let g : CodeGraph = codeGraph (a .vertex-num) (a .edge-num) (a .ends-a .now) (a .ends-b .now) (a .boundary .now) in
     let s : SyndromeColumns = syndromeColumns (a .defect .now) (a .erasure .now) (a .defect-list .now) (a .erasure-list .now) in
-    let z : samplingDoor g (a .p .now) (a .pe .now) s ≡ 0 = sym (c .before .before .before .before .before .before .before .before .before .before .before .before .before .before .before .before .before .before .before .before .before .before .before .sampling-door .ensures) ∙ c .before .before .before .before .before .before .before .before .before .before .before .before .before .before .before .before .before .before .before .before .before .before .if1 .taken in
+    let z : samplingRefusal g (a .p .now) (a .pe .now) s ≡ 0 = sym (c .before .before .before .before .before .before .before .before .before .before .before .before .before .before .before .before .before .before .before .before .before .before .before .sampling-refusal .ensures) ∙ c .before .before .before .before .before .before .before .before .before .before .before .before .before .before .before .before .before .before .before .before .before .before .if1 .taken in
     let k : SamplingMet g (a .p .now) (a .pe .now) s = sampling-met g (a .p .now) (a .pe .now) s z in
     let r = seedFromU64 (a .seed) in
     let this = sampled-from (c .before .before .before .before .before .before .before .before .before .before .before .before .before .before .before .before .before .seed-from-u64 .ensures) (c .before .before .before .before .before .before .before .before .before .before .before .before .before .before .sample-edges .ensures) in
     let x = c .before .before .before .before .before .before .before .list-set .ensures in
     let y = c .before .before .list-set2 .ensures in
-    left-accepted (samplingDoor g (a .p .now) (a .pe .now) s) (a .vertex-num) (a .edge-num)
+    left-accepted (samplingRefusal g (a .p .now) (a .pe .now) s) (a .vertex-num) (a .edge-num)
     (sampledDefects r g (a .p .now) (a .pe .now)) (sampledErasures r (a .pe .now) (a .edge-num)) s _ z
     (length-sampledDefects r g (a .p .now) (a .pe .now)) (length-sampledErasures r (a .pe .now) (a .edge-num))
     (sampled-defect r g (a .p .now) (a .pe .now) (a .defect .now) (a .erasure .now) (k .sound) (k .lists .long-defect) (k .lists .long-erasure) (c .before .before .before .before .before .before .before .before .before .before .before .before .before .before .before .before .before .before .before .before .fill-u8 .ensures) this)
@@ -82,9 +82,9 @@ returns-2 c =
     let a = c .before .before .before .before .before .before .before .before .before .before .before .before .before .before .before .args in
     let g : CodeGraph = codeGraph (a .vertex-num) (a .edge-num) (a .ends-a .now) (a .ends-b .now) (a .boundary .now) in
     let s : SyndromeColumns = syndromeColumns (a .defect .now) (a .erasure .now) (a .defect-list .now) (a .erasure-list .now) in
-    left-refused (samplingDoor g (a .p .now) (a .pe .now) s) (a .vertex-num) (a .edge-num)
+    left-refused (samplingRefusal g (a .p .now) (a .pe .now) s) (a .vertex-num) (a .edge-num)
     (sampledDefects (seedFromU64 (a .seed)) g (a .p .now) (a .pe .now)) (sampledErasures (seedFromU64 (a .seed)) (a .pe .now) (a .edge-num)) s
-    (c .before .sampling-door .ensures) (c .if1 .left)
+    (c .before .sampling-refusal .ensures) (c .if1 .left)
 
 pub generate-random-errors-spec : {M : Type 1} → statement M
 generate-random-errors-spec = tie.close (tie.spec (λ c κs. tt) (λ c κs. tt) (λ c κs. tt) sample-edges-requires list-set-requires list-set-requires-2 (λ c. search needs) same-length-2 same-length-3 same-length-4 returns (λ c. search needs) (λ c. search needs) (λ c. search needs) (λ c. search needs) returns-2)

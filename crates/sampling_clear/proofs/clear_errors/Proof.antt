@@ -1,6 +1,6 @@
 -- `sampling_clear::clear_errors` meets its contract. Assumes nothing.
 use mathlib.Core.Path.{_≡_, refl, sym, ap, _∙_}
-use Rattle.sampling_clear.specs.Clear.{clearDoor}
+use Rattle.sampling_clear.specs.Clear.{clearRefusal}
 use Rattle.sampling_clear.proofs.Clearing.{clear-refused, clear-accepted}
 use borrow.Author.Needs.{needs}
 use Rattle.sampling_clear.proofs.clear_errors.Statement.{statement}
@@ -9,12 +9,12 @@ use Rattle.sampling_clear.proofs.clear_errors.Reads as reads
 use Rattle.sampling_clear.proofs.clear_errors.Lts as lts
 use Rattle.columns.proofs.done_of.Reads as done-of-reads
 use Rattle.columns_stores.proofs.fill_u8.Reads as fill-u8-reads
-use Rattle.sampling_clear.proofs.clear_door.Reads as clear-door-reads
+use Rattle.sampling_clear.proofs.clear_refusal.Reads as clear-refusal-reads
 
 returns : tie.Need-returns
 returns c =
     let a = c .before .before .before .before .before .before .before .args in
-    clear-refused (a .vertex-num) (a .edge-num) (a .defect .now) (a .erasure .now) (c .before .before .clear-door .ensures) (c .before .if1 .taken) (c .done-of .ensures)
+    clear-refused (a .vertex-num) (a .edge-num) (a .defect .now) (a .erasure .now) (c .before .before .clear-refusal .ensures) (c .before .if1 .taken) (c .done-of .ensures)
 
 same-length-3 : tie.Need-same-length-3
 same-length-3 c = c .before .before .before .before .before .defect .given
@@ -25,7 +25,7 @@ same-length-4 c = c .before .erasure .given
 returns-2 : tie.Need-returns-2
 returns-2 c =
     let a = c .before .before .before .before .before .before .before .before .before .before .before .before .before .before .args in
-    clear-accepted (a .vertex-num) (a .edge-num) (a .defect .now) (a .erasure .now) (sym (c .before .before .before .before .before .before .before .before .before .clear-door .ensures) ∙ c .before .before .before .before .before .before .before .before .if1 .left) (c .before .before .before .before .before .before .fill-u8 .ensures) (c .before .before .fill-u82 .ensures)
+    clear-accepted (a .vertex-num) (a .edge-num) (a .defect .now) (a .erasure .now) (sym (c .before .before .before .before .before .before .before .before .before .clear-refusal .ensures) ∙ c .before .before .before .before .before .before .before .before .if1 .left) (c .before .before .before .before .before .before .fill-u8 .ensures) (c .before .before .fill-u82 .ensures)
 
 pub clear-errors-spec : {M : Type 1} → statement M
 clear-errors-spec = tie.close (tie.spec (λ c κs. tt) (λ c κs. tt) (λ c. search needs) (λ c. search needs) returns (λ c κs. tt) (λ c κs. tt) same-length-3 same-length-4 returns-2)

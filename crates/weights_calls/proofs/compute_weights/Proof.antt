@@ -18,15 +18,15 @@ use Rattle.columns.proofs.Columns.{after-accepted, after-refused}
 use Rattle.columns.proofs.Tests.{and-both}
 use Rattle.weights_recipe.specs.Logarithm.{edgeWeight}
 use Rattle.weights_recipe.specs.Rounding.{halfWeight}
-use Rattle.weights_calls.specs.Calls.{edgeWeights, largestWeight, halfWeights, computeDoor}
-use Rattle.columns.proofs.Doors.{met, asks, ands}
+use Rattle.weights_calls.specs.Calls.{edgeWeights, largestWeight, halfWeights, computeRefusal}
+use Rattle.columns.proofs.Refusals.{met, asks, ands}
 use Rattle.weights_calls.proofs.Largest.{some-above}
 use Rattle.weights_calls.proofs.compute_weights.Statement.{statement}
 use Rattle.weights_calls.proofs.compute_weights.Tie as tie
 
 -- the number that the questions give
 number : (c : tie.After-asked5) → let s = c .before .before .before .before .before .before .before .before .before .before .before .before .before .before .before .args in
-    c .asked5 .result ≡ computeDoor (s .edge-num) (s .p .now) (s .half-weight .now) (s .max-half-weight)
+    c .asked5 .result ≡ computeRefusal (s .edge-num) (s .p .now) (s .half-weight .now) (s .max-half-weight)
 number c =
     let s = c .before .before .before .before .before .before .before .before .before .before .before .before .before .before .before .args in
     let six = c .before .before .before .before .before .before .before .before .before .before .both .ensures ∙ ands (c .before .before .before .before .before .before .before .before .before .before .before .before .at-most .ensures) (c .before .before .before .before .before .before .before .before .before .before .before .at-most2 .ensures) in
@@ -53,7 +53,7 @@ returns : tie.Need-returns
 returns c =
     let s = c .before .before .before .before .before .before .before .before .before .before .before .before .before .before .before .before .before .args in
     let is = number (c .before .before) in
-    let q = computeDoor (s .edge-num) (s .p .now) (s .half-weight .now) (s .max-half-weight) in
+    let q = computeRefusal (s .edge-num) (s .p .now) (s .half-weight .now) (s .max-half-weight) in
     record {
       answers = said-of _ _ (c .done-of .ensures ∙ ap done is);
       writes = sym (after-refused q (halfWeights (s .max-half-weight) (take (s .edge-num) (s .p .now))) (s .half-weight .now) (λ e. c .before .if1 .taken (is ∙ e)));
@@ -72,7 +72,7 @@ returns-2 c =
     let s = c .before .before .before .before .before .before .before .before .before .before .before .before .before .before .before .before .before .before .before .before .args in
     let ps = take (s .edge-num) (s .p .now) in
     let now = s .half-weight .now in
-    let q = computeDoor (s .edge-num) (s .p .now) now (s .max-half-weight) in
+    let q = computeRefusal (s .edge-num) (s .p .now) now (s .max-half-weight) in
     let zero = sym (number (c .before .before .before .before .before)) ∙ c .before .before .before .before .if1 .left in
     record {
       answers = accepts-of zero;

@@ -9,7 +9,7 @@ use Rattle.columns.specs.Places.{zeroFloat}
 use Rattle.weights_recipe.specs.Logarithm.{edgeWeight}
 use Rattle.weights_calls.specs.Calls.{larger, largest, edgeWeights, largestWeight}
 use Rattle.weights_calls.specs.Steps.{Known}
-use Rattle.columns.proofs.Doors.{take-first, map-more}
+use Rattle.columns.proofs.Refusals.{take-first, map-more}
 use Rattle.weights_calls.proofs.Largest.{largest-more}
 use Rattle.weights_calls.proofs.Tables.{known-length}
 use Rattle.weights_calls.proofs.largest_by_table.Statement.{statement}

@@ -10,7 +10,7 @@ use lib.Ieee.{nan}
 use borrow.Author.Needs.{needs}
 use Rattle.columns.proofs.Columns.{sets-over}
 use Rattle.weights_calls.specs.Steps.{Known, halfWeightOf}
-use Rattle.columns.proofs.Doors.{store-more}
+use Rattle.columns.proofs.Refusals.{store-more}
 use Rattle.weights_calls.proofs.Tables.{known-length}
 use Rattle.weights_calls.proofs.store_by_table.Statement.{statement}
 use Rattle.weights_calls.proofs.store_by_table.Tie as tie

@@ -7,7 +7,7 @@ use Rattle.columns_answers.proofs.Done.{said-of}
 use Rattle.columns.specs.Places.{zeroFloat}
 use Rattle.columns.proofs.Columns.{after-accepted, after-refused}
 use Rattle.columns_neighbors.specs.Lists.{lists, degrees}
-use Rattle.access_calls.specs.Fill.{vertices, fillDoor}
+use Rattle.access_calls.specs.Fill.{vertices, fillRefusal}
 use Rattle.access_calls.proofs.Filling.{fill-met, fill-after}
 use borrow.Author.Needs.{needs}
 use Rattle.access_calls.proofs.fill.fill_vertices.Statement.{statement}
@@ -21,8 +21,8 @@ write-lists-requires c κs =
     let col = vertices (s .pos-i .now) (s .pos-j .now) (s .pos-t .now) (s .boundary .now) (s .defect .now) (s .list-lengths .now) (s .neighbor-numbers .now) in
     let v = s .vertex-num in
     let e = s .edge-num in
-    let q = fillDoor v e a b col in
-    let m = fill-met v e a b col (sym (c .before .before .before .before .before .before .before .before .before .before .before .before .before .before .before .before .before .before .before .before .before .before .before .fill-door .ensures) ∙ c .before .before .before .before .before .before .before .before .before .before .before .before .before .before .before .before .before .before .before .before .before .before .if1 .taken) in
+    let q = fillRefusal v e a b col in
+    let m = fill-met v e a b col (sym (c .before .before .before .before .before .before .before .before .before .before .before .before .before .before .before .before .before .before .before .before .before .before .before .fill-refusal .ensures) ∙ c .before .before .before .before .before .before .before .before .before .before .before .before .before .before .before .before .before .before .before .before .before .before .if1 .taken) in
     let g = m .sound in
     ((g .long-a, g .long-b, m .lengths, m .numbers), (g .few-edges, g .few-vertices, g .in-a, g .in-b))
 
@@ -55,19 +55,19 @@ returns c =
     let col = vertices (s .pos-i .now) (s .pos-j .now) (s .pos-t .now) (s .boundary .now) (s .defect .now) (s .list-lengths .now) (s .neighbor-numbers .now) in
     let v = s .vertex-num in
     let e = s .edge-num in
-    let q = fillDoor v e a b col in
-    let z : q ≡ 0 = sym (c .before .before .before .before .before .before .before .before .before .before .before .before .before .before .before .before .before .before .before .before .before .before .before .before .before .before .before .before .fill-door .ensures) ∙ c .before .before .before .before .before .before .before .before .before .before .before .before .before .before .before .before .before .before .before .before .before .before .before .before .before .before .before .if1 .taken in
+    let q = fillRefusal v e a b col in
+    let z : q ≡ 0 = sym (c .before .before .before .before .before .before .before .before .before .before .before .before .before .before .before .before .before .before .before .before .before .before .before .before .before .before .before .before .fill-refusal .ensures) ∙ c .before .before .before .before .before .before .before .before .before .before .before .before .before .before .before .before .before .before .before .before .before .before .before .before .before .before .before .if1 .taken in
     let m = fill-met v e a b col z in
     let w = c .before .before .before .before .write-lists .ensures in
     record {
       answers = accepts-of z;
-      i-left = c .before .before .before .before .before .before .before .before .before .before .before .before .before .before .before .before .before .before .before .before .before .before .before .before .before .fill-f64 .ensures ∙ fill-after v q (s .pos-i .now) zeroFloat z (m .i);
-      j-left = c .before .before .before .before .before .before .before .before .before .before .before .before .before .before .before .before .before .before .before .before .before .fill-f642 .ensures ∙ fill-after v q (s .pos-j .now) zeroFloat z (m .j);
-      t-left = c .before .before .before .before .before .before .before .before .before .before .before .before .before .before .before .before .before .fill-f643 .ensures ∙ fill-after v q (s .pos-t .now) zeroFloat z (m .t);
-      boundary-left = c .before .before .before .before .before .before .before .before .before .before .before .before .before .fill-u8 .ensures ∙ fill-after v q (s .boundary .now) 0 z (m .boundary);
-      defect-left = c .before .before .before .before .before .before .before .before .before .fill-u82 .ensures ∙ fill-after v q (s .defect .now) 0 z (m .defect);
-      lengths-left = w .0 ∙ sym (after-accepted q (degrees a b e v) (s .list-lengths .now) z);
-      numbers-left = w .1 ∙ sym (after-accepted q (lists a b e v) (s .neighbor-numbers .now) z);
+      i-after = c .before .before .before .before .before .before .before .before .before .before .before .before .before .before .before .before .before .before .before .before .before .before .before .before .before .fill-f64 .ensures ∙ fill-after v q (s .pos-i .now) zeroFloat z (m .i);
+      j-after = c .before .before .before .before .before .before .before .before .before .before .before .before .before .before .before .before .before .before .before .before .before .fill-f642 .ensures ∙ fill-after v q (s .pos-j .now) zeroFloat z (m .j);
+      t-after = c .before .before .before .before .before .before .before .before .before .before .before .before .before .before .before .before .before .fill-f643 .ensures ∙ fill-after v q (s .pos-t .now) zeroFloat z (m .t);
+      boundary-after = c .before .before .before .before .before .before .before .before .before .before .before .before .before .fill-u8 .ensures ∙ fill-after v q (s .boundary .now) 0 z (m .boundary);
+      defect-after = c .before .before .before .before .before .before .before .before .before .fill-u82 .ensures ∙ fill-after v q (s .defect .now) 0 z (m .defect);
+      lengths-after = w .0 ∙ sym (after-accepted q (degrees a b e v) (s .list-lengths .now) z);
+      numbers-after = w .1 ∙ sym (after-accepted q (lists a b e v) (s .neighbor-numbers .now) z);
     }
 
 returns-2 : tie.Need-returns-2
@@ -78,18 +78,18 @@ returns-2 c =
     let col = vertices (s .pos-i .now) (s .pos-j .now) (s .pos-t .now) (s .boundary .now) (s .defect .now) (s .list-lengths .now) (s .neighbor-numbers .now) in
     let v = s .vertex-num in
     let e = s .edge-num in
-    let q = fillDoor v e a b col in
-    let d = c .before .before .fill-door .ensures in
+    let q = fillRefusal v e a b col in
+    let d = c .before .before .fill-refusal .ensures in
     let f : q ≡ 0 → ⊥ = λ x. c .before .if1 .left (d ∙ x) in
     record {
       answers = said-of _ _ (c .done-of .ensures ∙ ap done d);
-      i-left = sym (after-refused q (replicate v zeroFloat) (s .pos-i .now) f);
-      j-left = sym (after-refused q (replicate v zeroFloat) (s .pos-j .now) f);
-      t-left = sym (after-refused q (replicate v zeroFloat) (s .pos-t .now) f);
-      boundary-left = sym (after-refused q (replicate v 0) (s .boundary .now) f);
-      defect-left = sym (after-refused q (replicate v 0) (s .defect .now) f);
-      lengths-left = sym (after-refused q (degrees a b e v) (s .list-lengths .now) f);
-      numbers-left = sym (after-refused q (lists a b e v) (s .neighbor-numbers .now) f);
+      i-after = sym (after-refused q (replicate v zeroFloat) (s .pos-i .now) f);
+      j-after = sym (after-refused q (replicate v zeroFloat) (s .pos-j .now) f);
+      t-after = sym (after-refused q (replicate v zeroFloat) (s .pos-t .now) f);
+      boundary-after = sym (after-refused q (replicate v 0) (s .boundary .now) f);
+      defect-after = sym (after-refused q (replicate v 0) (s .defect .now) f);
+      lengths-after = sym (after-refused q (degrees a b e v) (s .list-lengths .now) f);
+      numbers-after = sym (after-refused q (lists a b e v) (s .neighbor-numbers .now) f);
     }
 
 pub fill-vertices-spec : {M : Type 1} → statement M

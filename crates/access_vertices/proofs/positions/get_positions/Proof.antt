@@ -5,7 +5,7 @@ use Rattle.columns.specs.Answers.{done}
 use Rattle.columns_answers.proofs.Said.{accepts-of}
 use Rattle.columns_answers.proofs.Done.{said-of}
 use Rattle.columns.proofs.Columns.{copy-after, after-refused}
-use Rattle.access_vertices.specs.Positions.{positions, positionsDoor}
+use Rattle.access_vertices.specs.Positions.{positions, positionsRefusal}
 use Rattle.access_vertices.proofs.Long.{positions-long}
 use borrow.Author.Needs.{needs}
 use Rattle.access_vertices.proofs.positions.get_positions.Statement.{statement}
@@ -26,14 +26,14 @@ returns c =
     let from = positions (s .pos-i .now) (s .pos-j .now) (s .pos-t .now) in
     let to = positions (s .to-i .now) (s .to-j .now) (s .to-t .now) in
     let v = s .vertex-num in
-    let q = positionsDoor v from to in
-    let z : q ≡ 0 = sym (c .before .before .before .before .before .before .before .before .before .before .before .before .before .positions-door .ensures) ∙ c .before .before .before .before .before .before .before .before .before .before .before .before .if1 .taken in
+    let q = positionsRefusal v from to in
+    let z : q ≡ 0 = sym (c .before .before .before .before .before .before .before .before .before .before .before .before .before .positions-refusal .ensures) ∙ c .before .before .before .before .before .before .before .before .before .before .before .before .if1 .taken in
     let l = positions-long v from to z in
     record {
       answers = accepts-of z;
-      i-left = c .before .before .before .before .before .before .before .before .before .before .copy-f64 .ensures ∙ copy-after v q (to .i) (from .i) z (l .0 .0) (l .1 .0);
-      j-left = c .before .before .before .before .before .before .copy-f642 .ensures ∙ copy-after v q (to .j) (from .j) z (l .0 .1) (l .1 .1);
-      t-left = c .before .before .copy-f643 .ensures ∙ copy-after v q (to .t) (from .t) z (l .0 .2) (l .1 .2);
+      i-after = c .before .before .before .before .before .before .before .before .before .before .copy-f64 .ensures ∙ copy-after v q (to .i) (from .i) z (l .0 .0) (l .1 .0);
+      j-after = c .before .before .before .before .before .before .copy-f642 .ensures ∙ copy-after v q (to .j) (from .j) z (l .0 .1) (l .1 .1);
+      t-after = c .before .before .copy-f643 .ensures ∙ copy-after v q (to .t) (from .t) z (l .0 .2) (l .1 .2);
     }
 
 returns-2 : tie.Need-returns-2
@@ -42,14 +42,14 @@ returns-2 c =
     let from = positions (s .pos-i .now) (s .pos-j .now) (s .pos-t .now) in
     let to = positions (s .to-i .now) (s .to-j .now) (s .to-t .now) in
     let v = s .vertex-num in
-    let q = positionsDoor v from to in
-    let d = c .before .before .positions-door .ensures in
+    let q = positionsRefusal v from to in
+    let d = c .before .before .positions-refusal .ensures in
     let f : q ≡ 0 → ⊥ = λ e. c .before .if1 .left (d ∙ e) in
     record {
       answers = said-of _ _ (c .done-of .ensures ∙ ap done d);
-      i-left = sym (after-refused q (take v (from .i)) (to .i) f);
-      j-left = sym (after-refused q (take v (from .j)) (to .j) f);
-      t-left = sym (after-refused q (take v (from .t)) (to .t) f);
+      i-after = sym (after-refused q (take v (from .i)) (to .i) f);
+      j-after = sym (after-refused q (take v (from .j)) (to .j) f);
+      t-after = sym (after-refused q (take v (from .t)) (to .t) f);
     }
 
 pub get-positions-spec : {M : Type 1} → statement M

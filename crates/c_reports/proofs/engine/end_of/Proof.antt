@@ -1,13 +1,13 @@
 -- `c_reports::engine::end_of` meets its contract. Assumes nothing.
 use Prim.Native.Nat.{ℕ}
 use mathlib.Core.Path.{_≡_, sym, ap}
-use Rattle.c_reports.specs.Engine.{endOf}
+use Rattle.c_reports.specs.Engine.{givenEnd}
 use Rattle.c_reports.proofs.Ends.{end-given}
 use Rattle.c_reports.proofs.engine.end_of.Statement.{statement}
 use Rattle.c_reports.proofs.engine.end_of.Tie as tie
 
 returns : tie.Need-returns
-returns c = ap (λ (n : ℕ). endOf n (c .before .args .end)) (sym (c .if1 .taken))
+returns c = ap (λ (n : ℕ). givenEnd n (c .before .args .end)) (sym (c .if1 .taken))
 
 returns-2 : tie.Need-returns-2
 returns-2 c = end-given (c .before .args .has-end) (c .before .args .end) (c .if1 .left)

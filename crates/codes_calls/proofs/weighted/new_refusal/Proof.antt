@@ -7,7 +7,7 @@ use Rattle.columns.specs.Places.{zeroFloat}
 use Rattle.weights_recipe.specs.Probabilities.{isProbability}
 use Rattle.weights_diagonal.specs.Diagonal.{isDiagonalProbability}
 use Rattle.weights_calls.specs.Calls.{isLargestHalfWeight}
-use Rattle.codes_weights.specs.Steps.{doorNumber}
+use Rattle.codes_weights.specs.Steps.{weightsRefusal}
 use Rattle.codes_calls.proofs.weighted.new_refusal.Statement.{statement}
 use Rattle.codes_calls.proofs.weighted.new_refusal.Tie as tie
 
@@ -15,7 +15,7 @@ returns : tie.Need-returns
 returns c =
     let s = c .before .before .args in
     c .weights-refusal .ensures
-    ∙ ap (λ (q : ℕ). doorNumber q (isLargestHalfWeight (s .max-half-weight)) (isProbability (s .p) && isDiagonalProbability (s .diagonal)) (lt zeroFloat (s .largest))) (c .before .refusal-of .ensures)
+    ∙ ap (λ (q : ℕ). weightsRefusal q (isLargestHalfWeight (s .max-half-weight)) (isProbability (s .p) && isDiagonalProbability (s .diagonal)) (lt zeroFloat (s .largest))) (c .before .refusal-of .ensures)
 
 pub new-refusal-spec : {M : Type 1} → statement M
 new-refusal-spec = tie.close (tie.spec (λ c κs. tt) (λ c κs. tt) returns)

@@ -9,9 +9,9 @@ use Rattle.columns.specs.Lists.{each}
 use Rattle.columns.proofs.Counting.{length-each}
 use Rattle.columns.proofs.Columns.{sets-over, after-accepted, after-refused}
 use Rattle.engine_columns.specs.Records.{Engine, engine}
-use Rattle.query_questions.specs.Queries.{graphIn, weightsIn, scratchLong, queryDoor}
+use Rattle.query_questions.specs.Queries.{graphIn, weightsIn, scratchLong, queryRefusal}
 use Rattle.columns_answers.proofs.Said.{accepts-of, refuses-of}
-use Rattle.prebuilt_calls.specs.Boundaries.{boundaryWeight, boundaryVertex, boundariesDoor}
+use Rattle.prebuilt_calls.specs.Boundaries.{boundaryWeight, boundaryVertex, boundariesRefusal}
 use Rattle.prebuilt_calls.specs.Steps.{Fillable}
 use Rattle.prebuilt_calls.proofs.Asked.{fillable}
 use borrow.Author.Needs.{needs}
@@ -26,11 +26,11 @@ scratch-at s = scratchLong (s .args .c .vertices) (s .args .c .edges) (length (s
 
 number-at : tie.Start → ℕ
 unfolding engine-of scratch-at
-number-at s = boundariesDoor (engine-of s) (scratch-at s) (length (s .args .out-weight .now)) (length (s .args .out-vertex .now)) (length (s .args .least .now)) (length (s .args .before .now))
+number-at s = boundariesRefusal (engine-of s) (scratch-at s) (length (s .args .out-weight .now)) (length (s .args .out-vertex .now)) (length (s .args .least .now)) (length (s .args .before .now))
 
 number-then : (t : tie.Then1) → number-at (t .before .before .before .before .before .before .before .before .before .before .before .before .before .before .before .before .before .before .before .before .before .before .before .before .before .before .before) ≡ 0
 unfolding number-at engine-of scratch-at
-number-then t = sym (t .before .query-door .ensures ∙ (λ i. queryDoor (engine-of (t .before .before .before .before .before .before .before .before .before .before .before .before .before .before .before .before .before .before .before .before .before .before .before .before .before .before .before)) ((t .before .before .both4 .ensures ∙ (λ j. t .before .before .before .before .before .at-most3 .ensures j && (t .before .before .before .both3 .ensures ∙ (λ k. t .before .before .before .before .at-most4 .ensures k && (t .before .before .before .before .before .before .both2 .ensures ∙ (λ l. t .before .before .before .before .before .before .before .before .before .at-most .ensures l && (t .before .before .before .before .before .before .before .both .ensures ∙ (λ m. t .before .before .before .before .before .before .before .before .at-most2 .ensures m && t .before .before .before .before .before .before .before .before .before .before .scratch-long .ensures m)) l)) k)) j)) i) true 0)) ∙ t .if1 .taken
+number-then t = sym (t .before .query-refusal .ensures ∙ (λ i. queryRefusal (engine-of (t .before .before .before .before .before .before .before .before .before .before .before .before .before .before .before .before .before .before .before .before .before .before .before .before .before .before .before)) ((t .before .before .both4 .ensures ∙ (λ j. t .before .before .before .before .before .at-most3 .ensures j && (t .before .before .before .both3 .ensures ∙ (λ k. t .before .before .before .before .at-most4 .ensures k && (t .before .before .before .before .before .before .both2 .ensures ∙ (λ l. t .before .before .before .before .before .before .before .before .before .at-most .ensures l && (t .before .before .before .before .before .before .before .both .ensures ∙ (λ m. t .before .before .before .before .before .before .before .before .at-most2 .ensures m && t .before .before .before .before .before .before .before .before .before .before .scratch-long .ensures m)) l)) k)) j)) i) true 0)) ∙ t .if1 .taken
 
 fillable-at : (s : tie.Start) → number-at s ≡ 0 → Fillable (engine-of s) (length (s .args .out-weight .now)) (length (s .args .out-vertex .now)) (length (s .args .least .now)) (length (s .args .before .now)) (length (s .args .numbers .now)) (length (s .args .list-ends .now)) (length (s .args .status .now)) (length (s .args .weight .now)) (length (s .args .previous .now)) (length (s .args .node .now)) (length (s .args .leaf .now))
 unfolding number-at engine-of scratch-at
@@ -82,8 +82,8 @@ returns c = let t : tie.Then1 = c .before .before .before .before .before .befor
     let o = c .before .before .before .before .before .before .before .before .before .before .before .before .before .before .before .before .before .before .before .before .fill-all .ensures in (
       record {
         answer = accepts-of z;
-        weights-left = o .0 ∙ sets-over (s .args .out-weight .now) (each (s .args .c .vertices) (boundaryWeight (graphIn (engine-of s)) (weightsIn (engine-of s)))) (omega (arith, length-each (s .args .c .vertices) (boundaryWeight (graphIn (engine-of s)) (weightsIn (engine-of s))), k .weights-fit)) ∙ sym (after-accepted (number-at s) (each (s .args .c .vertices) (boundaryWeight (graphIn (engine-of s)) (weightsIn (engine-of s)))) (s .args .out-weight .now) z);
-        vertices-left = o .1 ∙ sets-over (s .args .out-vertex .now) (each (s .args .c .vertices) (boundaryVertex (graphIn (engine-of s)) (weightsIn (engine-of s)))) (omega (arith, length-each (s .args .c .vertices) (boundaryVertex (graphIn (engine-of s)) (weightsIn (engine-of s))), k .vertices-fit)) ∙ sym (after-accepted (number-at s) (each (s .args .c .vertices) (boundaryVertex (graphIn (engine-of s)) (weightsIn (engine-of s)))) (s .args .out-vertex .now) z);
+        weights-after = o .0 ∙ sets-over (s .args .out-weight .now) (each (s .args .c .vertices) (boundaryWeight (graphIn (engine-of s)) (weightsIn (engine-of s)))) (omega (arith, length-each (s .args .c .vertices) (boundaryWeight (graphIn (engine-of s)) (weightsIn (engine-of s))), k .weights-fit)) ∙ sym (after-accepted (number-at s) (each (s .args .c .vertices) (boundaryWeight (graphIn (engine-of s)) (weightsIn (engine-of s)))) (s .args .out-weight .now) z);
+        vertices-after = o .1 ∙ sets-over (s .args .out-vertex .now) (each (s .args .c .vertices) (boundaryVertex (graphIn (engine-of s)) (weightsIn (engine-of s)))) (omega (arith, length-each (s .args .c .vertices) (boundaryVertex (graphIn (engine-of s)) (weightsIn (engine-of s))), k .vertices-fit)) ∙ sym (after-accepted (number-at s) (each (s .args .c .vertices) (boundaryVertex (graphIn (engine-of s)) (weightsIn (engine-of s)))) (s .args .out-vertex .now) z);
       },
       (tt, tt),
     )
@@ -91,12 +91,12 @@ returns c = let t : tie.Then1 = c .before .before .before .before .before .befor
 returns-2 : tie.Need-returns-2
 unfolding number-at engine-of scratch-at
 returns-2 c = let s : tie.Start = c .before .before .before .before .before .before .before .before .before .before .before .before .before .before .before .before .before .before .before .before .before .before .before .before .before .before .before in
-    let d : c .before .query-door .result ≡ number-at s = (c .before .query-door .ensures ∙ (λ i. queryDoor (engine-of (c .before .before .before .before .before .before .before .before .before .before .before .before .before .before .before .before .before .before .before .before .before .before .before .before .before .before .before)) ((c .before .before .both4 .ensures ∙ (λ j. c .before .before .before .before .before .at-most3 .ensures j && (c .before .before .before .both3 .ensures ∙ (λ k. c .before .before .before .before .at-most4 .ensures k && (c .before .before .before .before .before .before .both2 .ensures ∙ (λ l. c .before .before .before .before .before .before .before .before .before .at-most .ensures l && (c .before .before .before .before .before .before .before .both .ensures ∙ (λ m. c .before .before .before .before .before .before .before .before .at-most2 .ensures m && c .before .before .before .before .before .before .before .before .before .before .scratch-long .ensures m)) l)) k)) j)) i) true 0)) in
+    let d : c .before .query-refusal .result ≡ number-at s = (c .before .query-refusal .ensures ∙ (λ i. queryRefusal (engine-of (c .before .before .before .before .before .before .before .before .before .before .before .before .before .before .before .before .before .before .before .before .before .before .before .before .before .before .before)) ((c .before .before .both4 .ensures ∙ (λ j. c .before .before .before .before .before .at-most3 .ensures j && (c .before .before .before .both3 .ensures ∙ (λ k. c .before .before .before .before .at-most4 .ensures k && (c .before .before .before .before .before .before .both2 .ensures ∙ (λ l. c .before .before .before .before .before .before .before .before .before .at-most .ensures l && (c .before .before .before .before .before .before .before .both .ensures ∙ (λ m. c .before .before .before .before .before .before .before .before .at-most2 .ensures m && c .before .before .before .before .before .before .before .before .before .before .scratch-long .ensures m)) l)) k)) j)) i) true 0)) in
     let f : number-at s ≡ 0 → ⊥ = λ e. c .if1 .left (d ∙ e) in (
       record {
         answer = refuses-of d (c .if1 .left);
-        weights-left = sym (after-refused (number-at s) (each (s .args .c .vertices) (boundaryWeight (graphIn (engine-of s)) (weightsIn (engine-of s)))) (s .args .out-weight .now) f);
-        vertices-left = sym (after-refused (number-at s) (each (s .args .c .vertices) (boundaryVertex (graphIn (engine-of s)) (weightsIn (engine-of s)))) (s .args .out-vertex .now) f);
+        weights-after = sym (after-refused (number-at s) (each (s .args .c .vertices) (boundaryWeight (graphIn (engine-of s)) (weightsIn (engine-of s)))) (s .args .out-weight .now) f);
+        vertices-after = sym (after-refused (number-at s) (each (s .args .c .vertices) (boundaryVertex (graphIn (engine-of s)) (weightsIn (engine-of s)))) (s .args .out-vertex .now) f);
       },
       ((refl, refl), refl),
     )

@@ -14,7 +14,7 @@ use Rattle.engine_columns.specs.Records.{Engine, engine}
 use Rattle.engine_walks.specs.Answers.{table}
 use Rattle.query_tables.specs.declared.End.the-variants.{None}
 use Rattle.query_questions.specs.Queries.{graphIn, weightsIn, scratchLong}
-use Rattle.query_tables.specs.Steps.{tableDoor}
+use Rattle.query_tables.specs.Steps.{tableRefusal}
 use Rattle.query_tables.proofs.Tables.{TableAsked, table-of}
 use Rattle.query_tables.proofs.Sources.{table-weights-length}
 use Rattle.prebuilt_entries.specs.Nearest.{boundaryIn, weightTo, vertexTo}
@@ -32,7 +32,7 @@ scratch-at s = scratchLong (s .args .c .vertices) (s .args .c .edges) (length (s
 
 number-at : tie.Start → ℕ
 unfolding engine-of scratch-at
-number-at s = tableDoor (engine-of s) (scratch-at s) (s .args .v) None (length (s .args .least .now)) (length (s .args .before .now))
+number-at s = tableRefusal (engine-of s) (scratch-at s) (s .args .v) None (length (s .args .least .now)) (length (s .args .before .now))
 
 number-is : (s : tie.Start) → number-at s ≡ 0
 unfolding number-at engine-of scratch-at
@@ -55,7 +55,7 @@ slice-reshare-prefix-store-boundary : tie.Need-slice-reshare-prefix-store-bounda
 unfolding number-at engine-of scratch-at table-at
 slice-reshare-prefix-store-boundary c = let s : tie.Start = c .before .before .before .before .before .before .before .before .before .before .before .before .before .before .before .before .before .before .before .before .before .before .before .before .before .before .before .before .before .before .before .before .before .before .before .before .before .before .before .before .before .before .before .before in
     let k = asked-at s in
-    let w = c .before .before .before .before .before .before .before .before .before .before .before .before .before .before .before .before .before .before .before .all-edges .ensures .0 .weights-left ∙ after-accepted (number-at s) (table-at s) (s .args .least .now) (number-is s) in
+    let w = c .before .before .before .before .before .before .before .before .before .before .before .before .before .before .before .before .before .before .before .all-edges .ensures .0 .weights-after ∙ after-accepted (number-at s) (table-at s) (s .args .least .now) (number-is s) in
     let f = cut-fits (table-at s) (s .args .least .now) (s .args .c .vertices) w (table-weights-length (graphIn (engine-of s)) (weightsIn (engine-of s)) (s .args .v) none) (k .weights-long) in
     f .0
 
@@ -63,7 +63,7 @@ slice-aggregate-store-boundary-2 : tie.Need-slice-aggregate-store-boundary-2
 unfolding number-at engine-of scratch-at table-at
 slice-aggregate-store-boundary-2 c = let s : tie.Start = c .before .before .before .before .before .before .before .before .before .before .before .before .before .before .before .before .before .before .before .before .before .before .before .before .before .before .before .before .before .before .before .before .before .before .before .before .before .before .before .before .before .before .before .before .before in
     let k = asked-at s in
-    let w = c .before .before .before .before .before .before .before .before .before .before .before .before .before .before .before .before .before .before .before .before .all-edges .ensures .0 .weights-left ∙ after-accepted (number-at s) (table-at s) (s .args .least .now) (number-is s) in
+    let w = c .before .before .before .before .before .before .before .before .before .before .before .before .before .before .before .before .before .before .before .before .all-edges .ensures .0 .weights-after ∙ after-accepted (number-at s) (table-at s) (s .args .least .now) (number-is s) in
     let f = cut-fits (table-at s) (s .args .least .now) (s .args .c .vertices) w (table-weights-length (graphIn (engine-of s)) (weightsIn (engine-of s)) (s .args .v) none) (k .weights-long) in
     sym (f .1)
 
@@ -71,7 +71,7 @@ store-boundary-requires : tie.Need-store-boundary-requires
 unfolding number-at engine-of scratch-at table-at
 store-boundary-requires c κs = let s : tie.Start = c .before .before .before .before .before .before .before .before .before .before .before .before .before .before .before .before .before .before .before .before .before .before .before .before .before .before .before .before .before .before .before .before .before .before .before .before .before .before .before .before .before .before .before .before .before .before .before in
     let k = asked-at s in
-    let w = c .before .before .before .before .before .before .before .before .before .before .before .before .before .before .before .before .before .before .before .before .before .before .all-edges .ensures .0 .weights-left ∙ after-accepted (number-at s) (table-at s) (s .args .least .now) (number-is s) in
+    let w = c .before .before .before .before .before .before .before .before .before .before .before .before .before .before .before .before .before .before .before .before .before .before .all-edges .ensures .0 .weights-after ∙ after-accepted (number-at s) (table-at s) (s .args .least .now) (number-is s) in
     let f = cut-fits (table-at s) (s .args .least .now) (s .args .c .vertices) w (table-weights-length (graphIn (engine-of s)) (weightsIn (engine-of s)) (s .args .v) none) (k .weights-long) in
     let lb = length-take-le (s .args .c .vertices) (s .args .boundary .now) (k .long .columns .boundary) in
     let few = graph-says (s .args .c .vertices) (s .args .c .edges) (s .args .ends-a .now) (s .args .ends-b .now) (k .sound .columns .graph) .few-vertices in
@@ -114,7 +114,7 @@ returns : tie.Need-returns
 unfolding number-at engine-of scratch-at table-at
 returns c = let s : tie.Start = c .before .before .before .before .before .before .before .before .before .before .before .before .before .before .before .before .before .before .before .before .before .before .before .before .before .before .before .before .before .before .before .before .before .before .before .before .before .before .before .before .before .before .before .before .before .before .before .before .before .before .before in
     let k = asked-at s in
-    let w = c .before .before .before .before .before .before .before .before .before .before .before .before .before .before .before .before .before .before .before .before .before .before .before .before .before .before .all-edges .ensures .0 .weights-left ∙ after-accepted (number-at s) (table-at s) (s .args .least .now) (number-is s) in
+    let w = c .before .before .before .before .before .before .before .before .before .before .before .before .before .before .before .before .before .before .before .before .before .before .before .before .before .before .all-edges .ensures .0 .weights-after ∙ after-accepted (number-at s) (table-at s) (s .args .least .now) (number-is s) in
     let f = cut-fits (table-at s) (s .args .least .now) (s .args .c .vertices) w (table-weights-length (graphIn (engine-of s)) (weightsIn (engine-of s)) (s .args .v) none) (k .weights-long) in
     let m = take (s .args .c .vertices) (s .args .boundary .now) in
     let o = c .before .before .before .store-boundary .ensures in

@@ -15,7 +15,7 @@ use Rattle.engine_columns.specs.Records.{Engine, engine}
 use Rattle.engine_walks.specs.Answers.{table}
 use Rattle.query_tables.specs.declared.End.the-variants.{None}
 use Rattle.query_questions.specs.Queries.{graphIn, weightsIn, scratchLong}
-use Rattle.query_tables.specs.Steps.{tableDoor}
+use Rattle.query_tables.specs.Steps.{tableRefusal}
 use Rattle.query_tables.proofs.Tables.{TableAsked, table-of}
 use Rattle.query_tables.proofs.Sources.{table-weights-length}
 use Rattle.prebuilt_entries.specs.Nearest.{boundaryIn}
@@ -36,7 +36,7 @@ scratch-at s = scratchLong (s .args .c .vertices) (s .args .c .edges) (length (s
 
 number-at : tie.Start → ℕ
 unfolding engine-of scratch-at
-number-at s = tableDoor (engine-of s) (scratch-at s) (s .args .vertex .0) None (length (s .args .least .now)) (length (s .args .before .now))
+number-at s = tableRefusal (engine-of s) (scratch-at s) (s .args .vertex .0) None (length (s .args .least .now)) (length (s .args .before .now))
 
 asked-at : (s : tie.Start) → number-at s ≡ 0 → TableAsked (engine-of s) (scratch-at s) (s .args .vertex .0) None (length (s .args .least .now)) (length (s .args .before .now))
 unfolding number-at
@@ -64,7 +64,7 @@ slice-reshare-prefix-boundary-answer c =
     let s : tie.Start = t .before .before .before .before .before .before .before .before .before .before .before .before .before .before .before .before .before .before .before .before .before .before .before .before .before .before .before .before .before .before .before .before .before .before .before .before .before .before .before .before .before .before .before in
     let z = number-then t in
     let k = asked-at s z in
-    let w = c .before .before .before .before .before .before .before .before .before .before .before .before .before .before .before .before .before .before .before .before .before .all-edges .ensures .0 .weights-left ∙ after-accepted (number-at s) (table (graphIn (engine-of s)) (weightsIn (engine-of s)) (s .args .vertex .0) none .weights) (s .args .least .now) z in
+    let w = c .before .before .before .before .before .before .before .before .before .before .before .before .before .before .before .before .before .before .before .before .before .all-edges .ensures .0 .weights-after ∙ after-accepted (number-at s) (table (graphIn (engine-of s)) (weightsIn (engine-of s)) (s .args .vertex .0) none .weights) (s .args .least .now) z in
     let f = cut-fits (table (graphIn (engine-of s)) (weightsIn (engine-of s)) (s .args .vertex .0) none .weights) (s .args .least .now) (s .args .c .vertices) w (table-weights-length (graphIn (engine-of s)) (weightsIn (engine-of s)) (s .args .vertex .0) none) (k .weights-long) in
     f .0
 
@@ -75,7 +75,7 @@ slice-aggregate-boundary-answer-2 c =
     let s : tie.Start = t .before .before .before .before .before .before .before .before .before .before .before .before .before .before .before .before .before .before .before .before .before .before .before .before .before .before .before .before .before .before .before .before .before .before .before .before .before .before .before .before .before .before .before in
     let z = number-then t in
     let k = asked-at s z in
-    let w = c .before .before .before .before .before .before .before .before .before .before .before .before .before .before .before .before .before .before .before .before .before .before .all-edges .ensures .0 .weights-left ∙ after-accepted (number-at s) (table (graphIn (engine-of s)) (weightsIn (engine-of s)) (s .args .vertex .0) none .weights) (s .args .least .now) z in
+    let w = c .before .before .before .before .before .before .before .before .before .before .before .before .before .before .before .before .before .before .before .before .before .before .all-edges .ensures .0 .weights-after ∙ after-accepted (number-at s) (table (graphIn (engine-of s)) (weightsIn (engine-of s)) (s .args .vertex .0) none .weights) (s .args .least .now) z in
     let f = cut-fits (table (graphIn (engine-of s)) (weightsIn (engine-of s)) (s .args .vertex .0) none .weights) (s .args .least .now) (s .args .c .vertices) w (table-weights-length (graphIn (engine-of s)) (weightsIn (engine-of s)) (s .args .vertex .0) none) (k .weights-long) in
     sym (f .1)
 
@@ -86,7 +86,7 @@ boundary-answer-requires c κs =
     let s : tie.Start = t .before .before .before .before .before .before .before .before .before .before .before .before .before .before .before .before .before .before .before .before .before .before .before .before .before .before .before .before .before .before .before .before .before .before .before .before .before .before .before .before .before .before .before in
     let z = number-then t in
     let k = asked-at s z in
-    let w = c .before .before .before .before .before .before .before .before .before .before .before .before .before .before .before .before .before .before .before .before .before .before .all-edges .ensures .0 .weights-left ∙ after-accepted (number-at s) (table (graphIn (engine-of s)) (weightsIn (engine-of s)) (s .args .vertex .0) none .weights) (s .args .least .now) z in
+    let w = c .before .before .before .before .before .before .before .before .before .before .before .before .before .before .before .before .before .before .before .before .before .before .all-edges .ensures .0 .weights-after ∙ after-accepted (number-at s) (table (graphIn (engine-of s)) (weightsIn (engine-of s)) (s .args .vertex .0) none .weights) (s .args .least .now) z in
     let f = cut-fits (table (graphIn (engine-of s)) (weightsIn (engine-of s)) (s .args .vertex .0) none .weights) (s .args .least .now) (s .args .c .vertices) w (table-weights-length (graphIn (engine-of s)) (weightsIn (engine-of s)) (s .args .vertex .0) none) (k .weights-long) in
     let lb = length-take-le (s .args .c .vertices) (s .args .boundary .now) (k .long .columns .boundary) in
     let few = graph-says (s .args .c .vertices) (s .args .c .edges) (s .args .ends-a .now) (s .args .ends-b .now) (k .sound .columns .graph) .few-vertices in
@@ -126,7 +126,7 @@ returns c =
     let s : tie.Start = t .before .before .before .before .before .before .before .before .before .before .before .before .before .before .before .before .before .before .before .before .before .before .before .before .before .before .before .before .before .before .before .before .before .before .before .before .before .before .before .before .before .before .before in
     let z = number-then t in
     let k = asked-at s z in
-    let w = c .before .before .before .before .before .before .before .before .before .before .before .before .before .before .before .before .before .before .before .before .before .before .before .all-edges .ensures .0 .weights-left ∙ after-accepted (number-at s) (table (graphIn (engine-of s)) (weightsIn (engine-of s)) (s .args .vertex .0) none .weights) (s .args .least .now) z in
+    let w = c .before .before .before .before .before .before .before .before .before .before .before .before .before .before .before .before .before .before .before .before .before .before .before .all-edges .ensures .0 .weights-after ∙ after-accepted (number-at s) (table (graphIn (engine-of s)) (weightsIn (engine-of s)) (s .args .vertex .0) none .weights) (s .args .least .now) z in
     let f = cut-fits (table (graphIn (engine-of s)) (weightsIn (engine-of s)) (s .args .vertex .0) none .weights) (s .args .least .now) (s .args .c .vertices) w (table-weights-length (graphIn (engine-of s)) (weightsIn (engine-of s)) (s .args .vertex .0) none) (k .weights-long) in
     let r : said (c .boundary-answer .result) ≡ accepts (boundaryFound (table (graphIn (engine-of s)) (weightsIn (engine-of s)) (s .args .vertex .0) none .weights) (boundaryIn (take (s .args .c .vertices) (s .args .boundary .now)) (table (graphIn (engine-of s)) (weightsIn (engine-of s)) (s .args .vertex .0) none .weights) (s .args .c .vertices) (s .args .vertex .0))) =
     c .boundary-answer .ensures ∙ (λ i. accepts (boundaryFound (f .2 i) (boundaryIn (take (s .args .c .vertices) (s .args .boundary .now)) (f .2 i) (f .1 i) (s .args .vertex .0)))) in
@@ -167,8 +167,8 @@ returns-2 c =
     let f : number-at s ≡ 0 → ⊥ = λ e. c .if1 .left (d ∙ e) in (
       refuses-of d (c .if1 .left),
       (
-        c .before .before .before .before .before .before .before .before .before .before .before .before .before .before .before .before .before .before .before .all-edges .ensures .0 .weights-left ∙ after-refused (number-at s) (table (graphIn (engine-of s)) (weightsIn (engine-of s)) (s .args .vertex .0) none .weights) (s .args .least .now) f,
-        c .before .before .before .before .before .before .before .before .before .before .before .before .before .before .before .before .before .before .before .all-edges .ensures .0 .previous-left ∙ after-refused (number-at s) (table (graphIn (engine-of s)) (weightsIn (engine-of s)) (s .args .vertex .0) none .previous) (s .args .before .now) f,
+        c .before .before .before .before .before .before .before .before .before .before .before .before .before .before .before .before .before .before .before .all-edges .ensures .0 .weights-after ∙ after-refused (number-at s) (table (graphIn (engine-of s)) (weightsIn (engine-of s)) (s .args .vertex .0) none .weights) (s .args .least .now) f,
+        c .before .before .before .before .before .before .before .before .before .before .before .before .before .before .before .before .before .before .before .all-edges .ensures .0 .previous-after ∙ after-refused (number-at s) (table (graphIn (engine-of s)) (weightsIn (engine-of s)) (s .args .vertex .0) none .previous) (s .args .before .now) f,
         kept-of (c .before .before .before .before .before .before .before .before .before .before .before .before .before .before .before .before .before .before .before .all-edges .result) _ _ (λ e. c .if1 .left (c .before .number .ensures ∙ e)) (c .before .before .before .before .before .before .before .before .before .before .before .before .before .before .before .before .before .before .before .all-edges .ensures .1),
       ),
     )

@@ -10,13 +10,13 @@ use Rattle.columns.specs.Answers.{done}
 use Rattle.columns_answers.proofs.Said.{accepts-of}
 use Rattle.columns_answers.proofs.Done.{said-of}
 use Rattle.columns.proofs.Columns.{after-accepted, after-refused, sets-over}
-use Rattle.weights_calls.specs.Setters.{setDoor}
-use Rattle.columns.proofs.Doors.{met, asks}
+use Rattle.weights_calls.specs.Setters.{setEachRefusal}
+use Rattle.columns.proofs.Refusals.{met, asks}
 use Rattle.weights_calls.proofs.setters.set_each.Statement.{statement}
 use Rattle.weights_calls.proofs.setters.set_each.Tie as tie
 
 -- the number that the questions give
-number : (c : tie.After-asked3) → let s = c .before .before .before .before .before .before .args in c .asked3 .result ≡ setDoor (s .met) (s .edge-num) (s .column .now)
+number : (c : tie.After-asked3) → let s = c .before .before .before .before .before .before .args in c .asked3 .result ≡ setEachRefusal (s .met) (s .edge-num) (s .column .now)
 number c =
     let from7 = c .before .asked2 .ensures ∙ asks 7 (c .before .before .before .at-most2 .ensures) (c .before .before .asked .ensures) in
     c .asked3 .ensures ∙ asks 6 (c .before .before .before .before .at-most .ensures) from7
@@ -27,7 +27,7 @@ returns c =
     let is = number (c .before .before) in
     record {
       answers = said-of _ _ (c .done-of .ensures ∙ ap done is);
-      writes = sym (after-refused (setDoor (s .met) (s .edge-num) (s .column .now)) (replicate (s .edge-num) (s .value)) (s .column .now) (λ e. c .before .if1 .taken (is ∙ e)));
+      writes = sym (after-refused (setEachRefusal (s .met) (s .edge-num) (s .column .now)) (replicate (s .edge-num) (s .value)) (s .column .now) (λ e. c .before .if1 .taken (is ∙ e)));
     }
 
 same-length : tie.Need-same-length

@@ -1,0 +1,23 @@
+-- `sampling_calls::questions::errors_refusal` meets its contract. Assumes nothing.
+use Rattle.columns.specs.Questions.{ask}
+use mathlib.Core.Bool.{_&&_}
+use mathlib.Core.Path.{_∙_}
+use Rattle.sampling_calls.specs.Errors.{errorsRefusal}
+use Rattle.sampling_calls.proofs.questions.errors_refusal.Statement.{statement}
+use Rattle.sampling_calls.proofs.questions.errors_refusal.Tie as tie
+use Rattle.sampling_calls.proofs.questions.errors_refusal.Reads as reads
+use Rattle.sampling_calls.proofs.questions.errors_refusal.Lts as lts
+use Rattle.columns.proofs.questions.asked.Reads as asked-reads
+use Rattle.columns.proofs.questions.both.Reads as both-reads
+use Rattle.columns.proofs.questions.each_below.Reads as each-below-reads
+use Rattle.columns.proofs.questions.marks_sound.Reads as marks-sound-reads
+use Rattle.sampling_calls.proofs.questions.code_sound.Reads as code-sound-reads
+use Rattle.sampling_calls.proofs.questions.graph_long.Reads as graph-long-reads
+use Rattle.sampling_calls.proofs.questions.syndrome_long.Reads as syndrome-long-reads
+
+returns : tie.Need-returns
+unfolding errorsRefusal
+returns c = c .asked3 .ensures ∙ (λ i. ask ((c .before .before .before .before .before .both .ensures ∙ (λ i. (c .before .before .before .before .before .before .before .before .before .before .before .graph-long .ensures) i && (c .before .before .before .before .before .before .before .before .before .before .syndrome-long .ensures) i)) i) 6 ((c .before .asked2 .ensures ∙ (λ i. ask ((c .before .before .before .both3 .ensures ∙ (λ i. (c .before .before .before .before .before .before .before .before .before .code-sound .ensures) i && (c .before .before .before .before .both2 .ensures ∙ (λ i. (c .before .before .before .before .before .before .before .before .marks-sound .ensures) i && (c .before .before .before .before .before .before .before .marks-sound2 .ensures) i)) i)) i) 7 ((c .before .before .asked .ensures ∙ (λ i. ask ((c .before .before .before .before .before .before .each-below .ensures) i) 13 0)) i))) i))
+
+pub errors-refusal-spec : {M : Type 1} → statement M
+errors-refusal-spec = tie.close (tie.spec (λ c κs. tt) (λ c κs. tt) (λ c κs. tt) (λ c κs. tt) (λ c κs. tt) (λ c κs. tt) (λ c κs. tt) (λ c κs. tt) (λ c κs. tt) (λ c κs. tt) (λ c κs. tt) (λ c κs. tt) returns)

@@ -1,0 +1,18 @@
+-- `sampling_calls::questions::probabilities_sound` meets its contract. Assumes nothing.
+use mathlib.Core.Bool.{_&&_}
+use mathlib.Core.Path.{_∙_}
+use Rattle.sampling_calls.specs.Sampling.{probabilitiesSound}
+use Rattle.sampling_calls.proofs.questions.probabilities_sound.Statement.{statement}
+use Rattle.sampling_calls.proofs.questions.probabilities_sound.Tie as tie
+use Rattle.sampling_calls.proofs.questions.probabilities_sound.Reads as reads
+use Rattle.sampling_calls.proofs.questions.probabilities_sound.Lts as lts
+use Rattle.columns.proofs.questions.both.Reads as both-reads
+use Rattle.weights_questions.proofs.are_erasure_probabilities.Reads as are-erasure-probabilities-reads
+use Rattle.weights_questions.proofs.are_probabilities.Reads as are-probabilities-reads
+
+returns : tie.Need-returns
+unfolding probabilitiesSound
+returns c = c .both .ensures ∙ (λ i. (c .before .before .are-probabilities .ensures) i && (c .before .are-erasure-probabilities .ensures) i)
+
+pub probabilities-sound-spec : {M : Type 1} → statement M
+probabilities-sound-spec = tie.close (tie.spec (λ c κs. tt) (λ c κs. tt) (λ c κs. tt) returns)

@@ -11,11 +11,11 @@ use lib.Dec.{eqb, ltb}
 use lib.Ieee.{Float, binary64, add, neg}
 use borrow.Author.Tests.{eq-eqb, ne-eqb, lt-ltb, ltb-true}
 use Rattle.columns.specs.Lists.{each, joined, layered, when}
-use Rattle.columns.specs.Places.{position}
+use Rattle.columns.specs.Places.{position, one, half}
 use Rattle.columns.specs.declared.VisualizePosition.{VisualizePosition}
 use Rattle.columns.proofs.Counting.{times-next, length-each}
 use Rattle.codes_writers.specs.Edges.{Ends, float, straightEdges}
-use Rattle.codes_planar.specs.Planar.{one, half, planarAcross, deepVertex, rowEdges, planarRow, planarLayer}
+use Rattle.codes_planar.specs.Planar.{planarAcross, deepVertex, rowEdges, planarRow, planarLayer}
 use Rattle.codes_circuit.specs.Circuit.{circuitCell, circuitRow, circuitGap}
 use Rattle.codes_layers.specs.Codes.{rows, width, layerSize, vertexOf, layerEdges, gapEdges, edgesOf}
 use Rattle.codes_layers.specs.Counts.{vertexNum}

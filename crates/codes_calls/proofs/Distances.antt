@@ -8,11 +8,9 @@ use lib.Ieee.{Float, binary64, ofBits, toBits, ofInt, add, sub, neg, lt}
 use lib.Ieee.Bits.{ofBits-toBits}
 use lib.Ieee.Fits.{sub-fits}
 use Rattle.columns.specs.Questions.{every}
-use Rattle.columns.specs.Places.{zeroFloat, position}
+use Rattle.columns.specs.Places.{zeroFloat, position, half, one}
 use Rattle.columns.proofs.Tests.{every-at}
 use Rattle.codes_writers.specs.Edges.{float}
-use Rattle.codes_planar.specs.Planar.{half, one}
-use Rattle.weights_recipe.specs.Constants as constants
 use Rattle.weights_diagonal.specs.Diagonal.{absolute, manhattanDistance, isDiagonal}
 
 -- -1
@@ -63,9 +61,9 @@ left-across = refl
 -- ---- whether an edge is diagonal, by its differences
 
 by-differences : (i i′ j j′ t t′ x y z : Float) → sub binary64 i i′ ≡ x → sub binary64 j j′ ≡ y → sub binary64 t t′ ≡ z
-    → isDiagonal (position i j t) (position i′ j′ t′) ≡ lt constants.one (add binary64 (add binary64 (absolute x) (absolute y)) (absolute z))
+    → isDiagonal (position i j t) (position i′ j′ t′) ≡ lt one (add binary64 (add binary64 (absolute x) (absolute y)) (absolute z))
 unfolding manhattanDistance
-by-differences i i′ j j′ t t′ x y z p q r = λ k. lt constants.one (add binary64 (add binary64 (absolute (p k)) (absolute (q k))) (absolute (r k)))
+by-differences i i′ j j′ t t′ x y z p q r = λ k. lt one (add binary64 (add binary64 (absolute (p k)) (absolute (q k))) (absolute (r k)))
 
 -- 1 is not above 1, and 2 is
 abbrev plusOne : Float
@@ -74,8 +72,8 @@ plusOne = ofBits binary64 0x3ff0000000000000
 distance : Float → Float → Float → Float
 distance x y z = add binary64 (add binary64 (absolute x) (absolute y)) (absolute z)
 
-sums : (lt constants.one (distance zeroFloat minusOne zeroFloat) ≡ false) × (lt constants.one (distance zeroFloat plusOne zeroFloat) ≡ false)
-    × (lt constants.one (distance minusOne zeroFloat zeroFloat) ≡ false) × (lt constants.one (distance zeroFloat minusOne minusOne) ≡ true)
+sums : (lt one (distance zeroFloat minusOne zeroFloat) ≡ false) × (lt one (distance zeroFloat plusOne zeroFloat) ≡ false)
+    × (lt one (distance minusOne zeroFloat zeroFloat) ≡ false) × (lt one (distance zeroFloat minusOne minusOne) ≡ true)
 unfolding distance absolute lt add ofBits
 sums = (refl, refl, refl, refl)
 

@@ -123,8 +123,12 @@ gap-few kind d h = elim (ℕ-discrete kind 3) [
   ]
 ]
 
+-- at most six edges a vertex
+pub edges-six : (kind d rounds : ℕ) → 3 ≤ d → edgeNum kind d rounds ≤ 6 * vertexNum kind d rounds
+edges-six kind d rounds three =
+    let l : (rounds + 1) * layerEdgeNum kind d ≤ (rounds + 1) * (2 * layerVertexNum kind d) = mul-le-mul-left (rounds + 1) (layer-few kind d three) in
+    let g : rounds * gapEdgeNum kind d ≤ rounds * (4 * layerVertexNum kind d) = mul-le-mul-left rounds (gap-few kind d three) in
+    omega (arith, l, g, mul-left-comm (rounds + 1) 2 (layerVertexNum kind d), mul-left-comm rounds 4 (layerVertexNum kind d), times-next rounds (layerVertexNum kind d))
+
 pub edges-few : (kind d rounds : ℕ) → Accepted kind d rounds → edgeNum kind d rounds ≤ 24576
-edges-few kind d rounds ok =
-    let l : (rounds + 1) * layerEdgeNum kind d ≤ (rounds + 1) * (2 * layerVertexNum kind d) = mul-le-mul-left (rounds + 1) (layer-few kind d (ok .distance .three)) in
-    let g : rounds * gapEdgeNum kind d ≤ rounds * (4 * layerVertexNum kind d) = mul-le-mul-left rounds (gap-few kind d (ok .distance .three)) in
-    omega (arith, l, g, mul-left-comm (rounds + 1) 2 (layerVertexNum kind d), mul-left-comm rounds 4 (layerVertexNum kind d), times-next rounds (layerVertexNum kind d), ok .few-vertices)
+edges-few kind d rounds ok = omega (arith, edges-six kind d rounds (ok .distance .three), ok .few-vertices)

@@ -4,10 +4,10 @@ use Prim.Native.Nat.{ℕ, _+_, _-_, _*_}
 use mathlib.Core.Bool.{cond}
 use mathlib.Core.List.{List, [], _∷_, _++_}
 use lib.Dec.{eqb, ltb}
-use lib.Ieee.{Float, binary64, ofBits, add, neg}
+use lib.Ieee.{Float, binary64, add, neg}
 use Rattle.columns.specs.Limits.{inner, left, right}
 use Rattle.columns.specs.Lists.{each, joined}
-use Rattle.columns.specs.Places.{zeroFloat, position}
+use Rattle.columns.specs.Places.{zeroFloat, one, half, position}
 use Rattle.codes_writers.specs.declared.CodeVertex.{CodeVertex}
 use Rattle.codes_writers.specs.Edges.{Ends, float, straightEdges, straightRows}
 
@@ -37,13 +37,6 @@ planarGap d base = straightRows d (d - 1) (d + 1) base (planarSize d)
 -- the boundary byte of place j of a row
 unfoldable pub planarBoundary : (d j : ℕ) → ℕ
 planarBoundary d j = cond (eqb j d) left (cond (eqb (j + 1) d) right inner)
-
--- 1 and 1/2
-abbrev pub one : Float
-one = ofBits binary64 0x3ff0000000000000
-
-abbrev pub half : Float
-half = ofBits binary64 0x3fe0000000000000
 
 -- where place j is across: the left one before the first
 unfoldable pub planarAcross : (d j : ℕ) → Float

@@ -4,6 +4,7 @@ ghost use mathlib.Core.Bool.{cond};
 ghost use Prim.Native.Nat.{_<_};
 ghost use lib.ListN.{length, set};
 ghost use Rattle.codes_weights.specs.Steps.{diagonalP, weighedOf, diagonalAt, WeighRoom, EdgesWeighed};
+use columns::wide;
 use super::Weighed;
 use columns::VisualizePosition;
 use columns::Weight;
@@ -36,12 +37,6 @@ fn picked(test: bool, x: Weighed, y: Weighed) -> Weighed
     ensures { λ r. ⌜ r ≡ cond test x y ⌝ }
 {
     if test { x } else { y }
-}
-
-fn wide(x: u32) -> usize
-    ensures { λ r. ⌜ r ≡ x ⌝ }
-{
-    x as usize
 }
 
 // Whether an edge is diagonal.

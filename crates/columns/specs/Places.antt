@@ -5,9 +5,15 @@ use lib.ListN.{getD}
 use lib.Ieee.{Float, binary64, ofBits}
 use Rattle.columns.specs.declared.VisualizePosition.{VisualizePosition}
 
--- 0 as an f64
+-- 0, 1 and 0.5 as f64
 abbrev pub zeroFloat : Float
 zeroFloat = ofBits binary64 0
+
+abbrev pub one : Float
+one = ofBits binary64 0x3ff0_0000_0000_0000
+
+abbrev pub half : Float
+half = ofBits binary64 0x3fe0_0000_0000_0000
 
 abbrev pub position : Float → Float → Float → VisualizePosition
 position i j t = record { i = i; j = j; t = t }

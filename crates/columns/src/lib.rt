@@ -5,6 +5,7 @@ pub mod stores;
 
 ghost use mathlib.Core.Path.{_≡_};
 ghost use lib.ListN.{set};
+ghost use lib.Ieee.{binary64, ofBits};
 ghost use Rattle.columns.specs.Answers.{done};
 ghost use Rattle.columns.specs.Places.{position, positionAt};
 
@@ -36,6 +37,24 @@ pub const BOUNDARY_LIMIT: u8 = 2;
 
 // Defect bytes and erasure bytes are 0 or 1.
 pub const MARK_LIMIT: u8 = 1;
+
+// A number at the width of places.
+pub fn wide(x: u32) -> usize
+    ensures { λ r. ⌜ r ≡ x ⌝ }
+{
+    x as usize
+}
+
+// The f64 with these bits, for any bits.
+pub fn of_bits(n: u64) -> f64
+    ensures { λ r. ⌜ r ≡ ofBits binary64 n ⌝ }
+{
+    if 0x7ff0_0000_0000_0000 < n % 0x8000_0000_0000_0000 {
+        0.0 / 0.0
+    } else {
+        f64::from_bits(n)
+    }
+}
 
 // What a call answers that has no value to report.
 pub enum Done {

@@ -1,6 +1,6 @@
 // The tests that the questions at the door are made of. Each is total and equal to one definition.
 ghost use mathlib.Core.Path.{_≡_};
-ghost use mathlib.Core.Bool.{_&&_};
+ghost use mathlib.Core.Bool.{_&&_, _||_};
 ghost use Prim.Native.Nat.{_+_, min};
 ghost use lib.Dec.{leb, eqb};
 ghost use lib.ListN.{take};
@@ -19,6 +19,13 @@ pub fn both(a: bool, b: bool) -> bool
     ensures { λ r. ⌜ r ≡ (a && b) ⌝ }
 {
     a & b
+}
+
+// Whether one of two tests is met.
+pub fn either(a: bool, b: bool) -> bool
+    ensures { λ r. ⌜ r ≡ (a || b) ⌝ }
+{
+    a | b
 }
 
 // A question: yes goes on to the next, no yields its number.

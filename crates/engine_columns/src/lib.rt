@@ -8,8 +8,8 @@ use columns::questions::both;
 use columns::questions::boundaries_sound;
 use columns::questions::has_room;
 use columns::questions::weights_sound;
-use columns_neighbors::engineSound::graph_sound;
-use columns_neighbors::engineSound::log_sound;
+use columns_neighbors::sound::graph_sound;
+use columns_neighbors::sound::log_sound;
 
 // How many vertices, edges and log entries the engine's columns hold. A log may hold more entries than there are edges.
 pub struct EngineCounts {

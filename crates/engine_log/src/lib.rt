@@ -4,12 +4,7 @@ ghost use Prim.Native.Nat.{ℕ, _<_, _≤_};
 ghost use lib.ListN.{length, set, getD};
 ghost use Rattle.engine_log.specs.Load.{loaded, earlier, named, undone, erased, given};
 use columns::Weight;
-
-fn wide(x: u32) -> usize
-    ensures { λ r. ⌜ r ≡ x ⌝ }
-{
-    x as usize
-}
+use columns::wide;
 
 // Sets edge e to x, and writes e and its earlier weight into place i of the log.
 fn set_weight(

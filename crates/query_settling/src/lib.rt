@@ -10,6 +10,7 @@ ghost use Rattle.engine_walks.specs.Settling.{takeChosen, toTake, settled};
 ghost use Rattle.engine_walks.proofs.Neighbours.{relaxAlong};
 ghost use Rattle.query_relaxing.specs.Ready.{graphOf, weighs, stateOf, Ready, Listed, Along, Offers, sources, endOf, startIn, Begun};
 use columns::Weight;
+use columns::wide;
 use query_relaxing::relax_edge;
 
 // The edges of vertex a at the places from `from` to `to` of the neighbour lists, one after another.
@@ -63,12 +64,6 @@ fn list_start(list_ends: &[u32], v: usize) -> usize
         return 0;
     }
     wide(list_ends[v - 1])
-}
-
-fn wide(x: u32) -> usize
-    ensures { λ r. ⌜ r ≡ x ⌝ }
-{
-    x as usize
 }
 
 // One turn: takes the waiting vertex of least weight, the smaller number among equals. False where none waits.

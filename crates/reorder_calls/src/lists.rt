@@ -10,7 +10,7 @@ ghost use Rattle.reorder_calls.specs.Columns.{movedLists};
 ghost use Rattle.reorder_orders.specs.Steps.{IsOrder};
 use columns::questions::lesser;
 use columns_stores::copy_u32;
-use reorder_orders::wide;
+use columns::wide;
 
 // Whether the first n lengths, or all where there are fewer, sum to at most the limit.
 pub fn sum_within(lengths: &[u32], n: usize, limit: usize) -> bool

@@ -8,12 +8,7 @@ ghost use Rattle.columns.specs.Questions.{ask, allBelow};
 ghost use Rattle.reorder_orders.specs.Order.{noneTwice, oldToNew, renamed, moved};
 ghost use Rattle.reorder_orders.specs.Steps.{IsOrder};
 use columns::questions::asked;
-
-pub fn wide(x: u32) -> usize
-    ensures { λ r. ⌜ (r ≡ x) × (r < 4294967296) ⌝ }
-{
-    x as usize
-}
+use columns::wide;
 
 // Whether no number is twice in the order; seen holds 0 alone.
 fn fresh_in(order: &[u32], seen: &mut [u8]) -> bool

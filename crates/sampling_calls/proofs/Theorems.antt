@@ -11,12 +11,11 @@ use lib.Dec.{eqb}
 use lib.Ieee.{Float, lt}
 use Rattle.columns.specs.Lists.{each, when, joined}
 use Rattle.columns.specs.Questions.{marksSound}
-use Rattle.columns.specs.Places.{zeroFloat}
+use Rattle.columns.specs.Places.{zeroFloat, half}
 use Rattle.columns.proofs.Columns.{after-accepted}
 use Rattle.columns.proofs.Counting.{each-same, length-each, getD-each}
 use Rattle.sampling_generator.specs.declared.DeterministicRng.{DeterministicRng}
 use Rattle.sampling_generator.specs.Random.{seedFromU64}
-use Rattle.weights_recipe.specs.Constants.{half}
 use Rattle.columns_neighbors.specs.Lists.{chosen}
 use Rattle.sampling_calls.specs.declared.SyndromeAnswer.{SyndromeAnswer}
 use Rattle.sampling_calls.specs.Records.{CodeGraph, SyndromeColumns}

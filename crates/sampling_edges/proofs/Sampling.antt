@@ -8,9 +8,8 @@ use native.Mathlib.Omega.{arith}
 use lib.ListN.{length, getD, set}
 use lib.Seq.{sets}
 use lib.Ieee.{Float, lt, nan}
-use Rattle.weights_recipe.specs.Constants.{half}
 use Rattle.columns.specs.Lists.{each, when}
-use Rattle.columns.specs.Places.{zeroFloat}
+use Rattle.columns.specs.Places.{zeroFloat, half}
 use Rattle.columns.proofs.Columns.{getD-any, sets-more}
 use Rattle.columns.proofs.Counting.{each-more, length-each}
 use Rattle.sampling_generator.specs.declared.DeterministicRng.{DeterministicRng}

@@ -4,9 +4,8 @@ use mathlib.Core.Bool.{Bool, cond}
 use mathlib.Core.List.{List}
 use lib.ListN.{getD}
 use lib.Ieee.{Float, lt}
-use Rattle.weights_recipe.specs.Constants.{half}
 use Rattle.columns.specs.Lists.{each}
-use Rattle.columns.specs.Places.{zeroFloat}
+use Rattle.columns.specs.Places.{zeroFloat, half}
 use Rattle.sampling_generator.specs.declared.DeterministicRng.{DeterministicRng}
 use Rattle.sampling_generator.specs.Random.{wordOf, nextOf, drawOf}
 use Rattle.columns_neighbors.specs.Lists.{chosen}

@@ -3,7 +3,7 @@ use Prim.Native.Nat.{ℕ, _*_}
 use mathlib.Core.List.{List}
 use lib.Seq.{sets}
 use lib.Ieee.{Float, lt}
-use Rattle.weights_recipe.specs.Constants.{half}
+use Rattle.columns.specs.Places.{half}
 use mathlib.Core.Path.{_≡_}
 use mathlib.Core.Bool.{cond}
 use Rattle.sampling_generator.specs.declared.DeterministicRng.{DeterministicRng}

@@ -3,7 +3,7 @@ ghost use mathlib.Core.Path.{_≡_};
 ghost use mathlib.Core.Bool.{cond};
 ghost use Prim.Native.Nat.{_≤_};
 ghost use lib.ListN.{length};
-ghost use Rattle.weights_recipe.specs.Constants.{half};
+ghost use Rattle.columns.specs.Places.{half};
 ghost use Rattle.sampling_flips.specs.Steps.{Fits};
 ghost use Rattle.sampling_edges.specs.Steps.{EdgeSampled, Sampled};
 use columns::EdgeIndex;

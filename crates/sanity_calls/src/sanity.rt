@@ -8,16 +8,11 @@ ghost use Rattle.sanity_verdicts.specs.Sanity.{total, orElse, verdict, sanityLo
 use columns::questions::at_most;
 use columns::questions::both;
 use columns::questions::lesser;
+use columns::wide;
 use sanity_lists::vertices_checked;
 use sanity_pairs::duplicates;
 use sanity_verdicts::Verdict;
 use sanity_verdicts::is_sound;
-
-fn wide(x: u32) -> usize
-    ensures { λ r. ⌜ r ≡ x ⌝ }
-{
-    x as usize
-}
 
 // Whether the first n lengths, or all where there are fewer, sum up to at most the room.
 fn lists_fit(lengths: &[u32], n: usize, room: usize) -> bool

@@ -7,14 +7,9 @@ ghost use Rattle.sanity_verdicts.specs.Sanity.{firstOf, twice, atVertex, listAt
 ghost use Rattle.sanity_lists.specs.Steps.{Seen, Stamped, Below};
 use columns::EdgeIndex;
 use columns::VertexIndex;
+use columns::wide;
 use sanity_verdicts::Verdict;
 use sanity_verdicts::is_sound;
-
-fn wide(x: u32) -> usize
-    ensures { λ r. ⌜ r ≡ x ⌝ }
-{
-    x as usize
-}
 
 // Whether x is one of the first i numbers from place start on.
 fn stands_before(numbers: &[u32], start: usize, i: usize, x: u32) -> bool

@@ -6,6 +6,7 @@ ghost use Prim.Native.Nat.{_+_, _≤_};
 ghost use lib.ListN.{length};
 ghost use lib.Ieee.{binary64, ofBits};
 use columns::Done;
+use columns::of_bits;
 use libc::STDOUT_FILENO;
 use weights_calls::WeightOfP;
 
@@ -45,17 +46,6 @@ fn number(text: &[u8], at: usize, count: usize) -> u64
         i += 1;
     }
     n
-}
-
-// The f64 with these bits, for any bits.
-fn of_bits(n: u64) -> f64
-    ensures { λ r. ⌜ r ≡ ofBits binary64 n ⌝ }
-{
-    if 0x7ff0_0000_0000_0000 < n % 0x8000_0000_0000_0000 {
-        0.0 / 0.0
-    } else {
-        f64::from_bits(n)
-    }
 }
 
 fn write_number(n: u32) {

@@ -1,4 +1,5 @@
 // What `codelist` prints for an input.
+use columns::of_bits;
 use text_input::LineRead;
 use text_input::read_line;
 use text_listing::write_code;
@@ -19,17 +20,6 @@ pub enum Listed {
 
 // The places that a text column needs.
 pub const TEXT_ROOM: usize = 320_000;
-
-// The f64 with these bits, for any bits.
-fn of_bits(n: u64) -> f64
-    ensures { λ r. ⌜ r ≡ ofBits binary64 n ⌝ }
-{
-    if 0x7ff0_0000_0000_0000 < n % 0x8000_0000_0000_0000 {
-        0.0 / 0.0
-    } else {
-        f64::from_bits(n)
-    }
-}
 
 // The text for an input line.
 fn write_answer(line: LineRead, text: &mut [u8]) -> usize

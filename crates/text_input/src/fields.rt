@@ -7,19 +7,13 @@ ghost use lib.ListN.{length, getD, take, drop};
 ghost use Rattle.columns.specs.Questions.{all};
 ghost use Rattle.text_input.specs.Line.{isDigit, isHexDigit, digits, digitOf, hexDigitOf, number, decimalSound, hexSound};
 use columns::questions::both;
+use columns::questions::either;
 
 // Whether a byte is a decimal digit.
 fn is_digit(b: u8) -> bool
     ensures { λ r. ⌜ r ≡ isDigit b ⌝ }
 {
     both(b'0' <= b, b <= b'9')
-}
-
-// Whether one of the two holds.
-fn either(a: bool, b: bool) -> bool
-    ensures { λ r. ⌜ r ≡ (a || b) ⌝ }
-{
-    if a { true } else { b }
 }
 
 // Whether a byte is a hexadecimal digit.

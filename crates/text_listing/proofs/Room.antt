@@ -10,10 +10,9 @@ use lib.Ieee.{Float}
 use lib.ListN.{length}
 use borrow.Author.Tests.{eq-eqb, ne-eqb, le-leb, lt-leb}
 use Rattle.columns.specs.Questions.{ask}
-use Rattle.columns.proofs.Counting.{times-next}
 use Rattle.codes_layers.specs.Counts.{layerVertexNum, vertexNum, layerEdgeNum, gapEdgeNum, edgeNum}
 use Rattle.codes_layers.specs.Accepts.{codeRefusal}
-use Rattle.codes_layers.proofs.ByKind.{few}
+use Rattle.codes_layers.proofs.Accepted.{edges-six}
 use Rattle.codes_questions.proofs.Clamped.{next-same}
 use Rattle.weights_diagonal.specs.declared.DiagonalProbability.{DiagonalProbability}
 use Rattle.weights_recipe.specs.Probabilities.{isProbability}
@@ -41,44 +40,6 @@ room-of c ea eb ep epe eh er vi vj vt vb vd vl n =
       edge-room = λ i. shortest (ea i) (eb i) (ep i) (epe i) (eh i) (er i);
       numbers = n;
     }
-
--- ---- at most six edges a vertex
-
-layer-few : (kind d : ℕ) → 3 ≤ d → layerEdgeNum kind d ≤ 2 * layerVertexNum kind d
-unfolding layerEdgeNum layerVertexNum
-layer-few kind d h = elim (ℕ-discrete kind 1) [
-  | yes e ↦ simp (eq-eqb _ _ e) (omega arith)
-  | no f ↦ elim (decLe kind 4) [
-    | yes l ↦ simp (ne-eqb _ _ f, le-leb _ _ l) (omega (arith, few (d - 1) (d - 1) (d) (d) (omega arith) (omega arith), mul-add d d 1))
-    | no l ↦ simp (ne-eqb _ _ f, lt-leb kind 4 (omega arith)) (omega (arith, few (d) (d) (2 * ((d + 1) / 2)) (d + 1) (omega arith) (omega arith), mul-assoc 2 ((d + 1) / 2) (d + 1)))
-  ]
-]
-
-gap-few : (kind d : ℕ) → 3 ≤ d → gapEdgeNum kind d ≤ 4 * layerVertexNum kind d
-unfolding gapEdgeNum layerVertexNum
-gap-few kind d h = elim (ℕ-discrete kind 3) [
-  | yes e ↦ simp (eq-eqb _ _ e, ne-eqb kind 1 (λ q. omega arith), le-leb kind 4 (omega arith)) (omega (arith, few (d) (d - 1) (d) (d + 1) (omega arith) (omega arith)))
-  | no f ↦ elim (ℕ-discrete kind 4) [
-    | yes e ↦ simp (ne-eqb _ _ f, eq-eqb _ _ e, ne-eqb kind 1 (λ q. omega arith), le-leb kind 4 (omega arith))
-        (omega (
-          arith,
-          few (d) (d - 1) (d) (d + 1) (omega arith) (omega arith),
-          few (d) (d - 2) (d) (d + 1) (omega arith) (omega arith),
-          few (d - 1) (d - 1) (d) (d + 1) (omega arith) (omega arith),
-          few (d - 1) (d - 2) (d) (d + 1) (omega arith) (omega arith),
-        ))
-    | no g ↦ elim (ℕ-discrete kind 6) [
-      | yes e ↦ simp (ne-eqb _ _ f, ne-eqb _ _ g, eq-eqb _ _ e) (omega arith)
-      | no l ↦ simp (ne-eqb _ _ f, ne-eqb _ _ g, ne-eqb _ _ l) (omega arith)
-    ]
-  ]
-]
-
-pub edges-six : (kind d rounds : ℕ) → 3 ≤ d → edgeNum kind d rounds ≤ 6 * vertexNum kind d rounds
-edges-six kind d rounds three =
-    let l : (rounds + 1) * layerEdgeNum kind d ≤ (rounds + 1) * (2 * layerVertexNum kind d) = mul-le-mul-left (rounds + 1) (layer-few kind d three) in
-    let g : rounds * gapEdgeNum kind d ≤ rounds * (4 * layerVertexNum kind d) = mul-le-mul-left rounds (gap-few kind d three) in
-    omega (arith, l, g, mul-left-comm (rounds + 1) 2 (layerVertexNum kind d), mul-left-comm rounds 4 (layerVertexNum kind d), times-next rounds (layerVertexNum kind d))
 
 -- ---- question 6
 

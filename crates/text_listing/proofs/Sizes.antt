@@ -19,7 +19,7 @@ use Rattle.columns.specs.Limits.{halfWeightLimit}
 use Rattle.text_numbers.specs.Text.{ended, refusalLine, graphLine, vertexLines, edgeLines, crossingLine, listing}
 use Rattle.text_numbers.proofs.Sizes.{ended-few, vertex-lines-few, edge-lines-few}
 use Rattle.text_listing.specs.Listing.{listRefusal, weightsOf, crossingOf, withCrossing, listingOf, codeText}
-use Rattle.text_listing.proofs.Room.{edges-six}
+use Rattle.codes_layers.proofs.Accepted.{edges-six}
 
 -- what an accepted line says
 pub record ListOpen (kind d rounds max : ℕ) : Type 0 where

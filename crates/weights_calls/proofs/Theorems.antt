@@ -15,12 +15,11 @@ use borrow.Author.Tests.{le-leb, leb-true}
 use Rattle.columns.specs.Limits.{edgeLimit, halfWeightLimit}
 use Rattle.columns.specs.Questions.{ask, all}
 use Rattle.columns_answers.specs.Done.{said}
-use Rattle.columns.specs.Places.{zeroFloat}
+use Rattle.columns.specs.Places.{zeroFloat, half}
 use Rattle.columns.specs.declared.Done.{Done}
 use Rattle.columns.specs.declared.Done.the-variants.{Accepted}
 use Rattle.columns.proofs.Columns.{getD-any, over-in, over-past, after-accepted}
 use Rattle.columns.proofs.Tests.{and-both, both-and, at-all}
-use Rattle.weights_recipe.specs.Constants.{half}
 use Rattle.weights_recipe.specs.Probabilities.{isProbability}
 use Rattle.weights_recipe.specs.Logarithm.{halve, series, logarithm, edgeWeight}
 use Rattle.weights_recipe.specs.Rounding.{reaches, greatest, scaled, atLeastOne, halfWeight}

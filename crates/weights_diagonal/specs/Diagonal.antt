@@ -2,7 +2,8 @@
 use mathlib.Core.Bool.{Bool, true, false, cond}
 use lib.Ieee.{Float, nan, inf, fin, binary64, add, sub, div, lt}
 use Rattle.columns.specs.declared.VisualizePosition.{VisualizePosition}
-use Rattle.weights_recipe.specs.Constants.{one, three}
+use Rattle.columns.specs.Places.{one}
+use Rattle.weights_recipe.specs.Constants.{three}
 use Rattle.weights_recipe.specs.Probabilities.{isProbability}
 use Rattle.weights_diagonal.specs.declared.DiagonalProbability.{DiagonalProbability}
 use Rattle.weights_diagonal.specs.declared.DiagonalProbability.the-variants.{None, Given}

@@ -7,17 +7,11 @@ ghost use lib.Ieee.{isNan};
 ghost use Rattle.columns.specs.Questions.{all};
 ghost use Rattle.weights_recipe.specs.Probabilities.{isPlusZero, isInRange, isProbability, isErasureProbability};
 use columns::questions::both;
+use columns::questions::either;
 use columns::questions::lesser;
 
 // 2 to the power -40.
 const LEAST_P: f64 = f64::from_bits(0x3d70_0000_0000_0000);
-
-// Whether either holds.
-fn either(a: bool, b: bool) -> bool
-    ensures { λ r. ⌜ r ≡ (a || b) ⌝ }
-{
-    a | b
-}
 
 // p where it is 0 or negative zero, else 1: never a NaN.
 fn zero_or_one(p: f64) -> f64

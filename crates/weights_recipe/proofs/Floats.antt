@@ -7,8 +7,8 @@ use lib.Ieee.{Float, nan, inf, fin, binary64, eq, ofBits, toBits, fits, isNan}
 use lib.Ieee.Bits.{is-false, ofBits-toBits}
 use lib.Ieee.Exact.{HasValue}
 use lib.Ieee.Positive.{positive}
-use Rattle.columns.specs.Places.{zeroFloat}
-use Rattle.weights_recipe.specs.Constants.{one, two, three, thirtyFive, half, leastP}
+use Rattle.columns.specs.Places.{zeroFloat, one, half}
+use Rattle.weights_recipe.specs.Constants.{two, three, thirtyFive, leastP}
 use Rattle.weights_recipe.specs.Probabilities.{isPlusZero, isInRange, isProbability}
 
 -- ---- what the constants are

@@ -17,8 +17,8 @@ use lib.Ieee.Back.{round-whole}
 use lib.Ieee.Order.{round-mono}
 use lib.Ieee.Scale.{round-same}
 use lib.Ieee.Positive.{num, den, den-pos, positive, positive-of-value, le→cross, cross→le, le-trans-positive, between, mul-at, mul-mono, sub-anti}
-use Rattle.columns.specs.Places.{zeroFloat}
-use Rattle.weights_recipe.specs.Constants.{one, two, half, leastP}
+use Rattle.columns.specs.Places.{zeroFloat, one, half}
+use Rattle.weights_recipe.specs.Constants.{two, leastP}
 use Rattle.weights_recipe.specs.Probabilities.{isPlusZero, isInRange, isProbability}
 use Rattle.weights_recipe.specs.Logarithm.{Halved, halve, odds, logarithm, edgeWeight}
 use Rattle.weights_recipe.proofs.Floats.{half-is, half-pos, one-pos, two-pos, least-pos, plus-zero, in-range}

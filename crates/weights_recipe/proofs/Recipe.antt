@@ -5,8 +5,8 @@ use Prim.Native.Nat.{ℕ, zero, suc, _+_, _-_, _<_}
 use native.Mathlib.Omega.{arith}
 use lib.IntN.{pos}
 use lib.Ieee.{Float, inf, binary64, add, mul, div, lt, eq, ofBits, ofInt}
-use Rattle.columns.specs.Places.{zeroFloat}
-use Rattle.weights_recipe.specs.Constants.{one, two, half, thirtyFive, ln2}
+use Rattle.columns.specs.Places.{zeroFloat, one, half}
+use Rattle.weights_recipe.specs.Constants.{two, thirtyFive, ln2}
 use Rattle.weights_recipe.proofs.Floats.{zero-equal}
 use Rattle.weights_recipe.specs.Logarithm.{odds, Halved, halve, series, fraction, logarithm, edgeWeight}
 

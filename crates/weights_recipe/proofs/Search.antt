@@ -13,7 +13,7 @@ use lib.Ieee.Bits.{is-false}
 use lib.Ieee.Back.{round-whole}
 use lib.Ieee.Order.{round-mono}
 use lib.Ieee.Positive.{num, den, den-pos, positive, above, above-of-le, positive-of-value, le→cross, le-trans-positive, between}
-use Rattle.weights_recipe.specs.Constants.{half}
+use Rattle.columns.specs.Places.{half}
 use Rattle.weights_recipe.specs.Rounding.{reaches, seek, greatest}
 use Rattle.weights_recipe.proofs.Floats.{half-pos}
 

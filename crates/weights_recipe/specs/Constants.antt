@@ -1,10 +1,7 @@
 -- The f64 numbers of document 01's "Weights" and of question 9, by their bits.
 use lib.Ieee.{Float, binary64, ofBits}
 
--- 1, 2, 3, 35 and 0.5
-abbrev pub one : Float
-one = ofBits binary64 0x3ff0_0000_0000_0000
-
+-- 2, 3 and 35
 abbrev pub two : Float
 two = ofBits binary64 0x4000_0000_0000_0000
 
@@ -13,9 +10,6 @@ three = ofBits binary64 0x4008_0000_0000_0000
 
 abbrev pub thirtyFive : Float
 thirtyFive = ofBits binary64 0x4041_8000_0000_0000
-
-abbrev pub half : Float
-half = ofBits binary64 0x3fe0_0000_0000_0000
 
 -- 2 to the power -40, the least p above 0
 abbrev pub leastP : Float

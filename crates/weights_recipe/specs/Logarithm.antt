@@ -3,8 +3,8 @@ use Prim.Native.Nat.{ℕ, zero, suc, _+_, _*_}
 use mathlib.Core.Bool.{Bool, true, false, cond}
 use lib.IntN.{pos}
 use lib.Ieee.{Float, inf, binary64, add, sub, mul, div, lt, eq, ofInt}
-use Rattle.columns.specs.Places.{zeroFloat}
-use Rattle.weights_recipe.specs.Constants.{one, two, half, thirtyFive, ln2}
+use Rattle.columns.specs.Places.{zeroFloat, one, half}
+use Rattle.weights_recipe.specs.Constants.{two, thirtyFive, ln2}
 
 -- q = (1 - p) / p
 abbrev pub odds : Float → Float

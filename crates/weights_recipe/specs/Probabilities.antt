@@ -2,8 +2,8 @@
 use mathlib.Core.Bool.{Bool, _&&_, _||_}
 use lib.Dec.{eqb}
 use lib.Ieee.{Float, binary64, le, toBits}
-use Rattle.columns.specs.Places.{zeroFloat}
-use Rattle.weights_recipe.specs.Constants.{one, half, leastP}
+use Rattle.columns.specs.Places.{zeroFloat, one, half}
+use Rattle.weights_recipe.specs.Constants.{leastP}
 
 -- 0, not negative zero: the f64 whose bits are all 0
 abbrev pub isPlusZero : Float → Bool

@@ -3,7 +3,7 @@ use Prim.Native.Nat.{ℕ, zero, suc}
 use mathlib.Core.Bool.{Bool, true, false}
 use lib.IntN.{pos}
 use lib.Ieee.{Float, binary64, sub, mul, div, le, ofInt}
-use Rattle.weights_recipe.specs.Constants.{half}
+use Rattle.columns.specs.Places.{half}
 
 -- v = (M·w) / (largest w)
 unfoldable pub scaled : ℕ → Float → Float → Float

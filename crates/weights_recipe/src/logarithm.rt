@@ -1,7 +1,8 @@
 // The stand-in for ln of (1 - p) / p, each operation rounded once.
 ghost use mathlib.Core.Path.{_≡_};
 ghost use lib.Ieee.{binary64, div};
-ghost use Rattle.weights_recipe.specs.Constants.{one, thirtyFive};
+ghost use Rattle.columns.specs.Places.{one};
+ghost use Rattle.weights_recipe.specs.Constants.{thirtyFive};
 ghost use Rattle.weights_recipe.specs.Logarithm.{edgeWeight, series};
 
 const LN2: f64 = f64::from_bits(0x3fe6_2e42_fefa_39ef);

@@ -1,9 +1,9 @@
 -- `codes_planar::deep_vertex` meets its contract. Assumes nothing.
 use mathlib.Core.Path.{ap, _∙_}
 use lib.Ieee.{Float, binary64, add}
-use Rattle.columns.specs.Places.{position}
+use Rattle.columns.specs.Places.{position, half}
 use Rattle.codes_writers.specs.Edges.{float}
-use Rattle.codes_planar.specs.Planar.{deepVertex, half}
+use Rattle.codes_planar.specs.Planar.{deepVertex}
 use borrow.Author.Needs.{needs}
 use Rattle.codes_planar.proofs.deep_vertex.Statement.{statement}
 use Rattle.codes_planar.proofs.deep_vertex.Tie as tie

@@ -16,7 +16,7 @@ use Rattle.reorder_columns.proofs.gather_positions.Reads as reads
 use Rattle.reorder_columns.proofs.gather_positions.Lts as lts
 use Rattle.columns.proofs.VisualizePosition.load.Reads as load-reads
 use Rattle.columns.proofs.VisualizePosition.store.Reads as store-reads
-use Rattle.reorder_orders.proofs.wide.Reads as wide-reads
+use Rattle.columns.proofs.wide.Reads as wide-reads
 
 abbrev Inv-loop : tie.InvT-loop
 Inv-loop list from-i from-j from-t is₀ js₀ ts₀ k₀ is js ts k = (k ≤ length list) × (is ≡ sets is₀ 0 (map (λ u. getD from-i u zeroFloat) (take k list))) × (js ≡ sets js₀ 0 (map (λ u. getD from-j u zeroFloat) (take k list))) × (ts ≡ sets ts₀ 0 (map (λ u. getD from-t u zeroFloat) (take k list)))
@@ -33,7 +33,7 @@ loop-again c =
     let a = s .args in
     let l = c .before .before .before .before .before .before .before .before .before .before .before .before .before .before .loop in
     let v = c .before .before .before .before .before .before .before .before .before .before .load .ensures in
-    let w = c .before .before .before .before .before .before .before .before .before .before .before .wide .ensures .0 in
+    let w = c .before .before .before .before .before .before .before .before .before .before .before .wide .ensures in
     let e = c .before .before .before .before .before .before .store .ensures in
     let b : l .k < length (a .list .now) = omega (arith, c .before .before .before .before .before .before .before .before .before .before .before .before .before .loop-test .taken) in (
       omega (arith, b),

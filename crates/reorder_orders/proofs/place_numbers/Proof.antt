@@ -11,7 +11,7 @@ use Rattle.reorder_orders.proofs.place_numbers.Statement.{statement}
 use Rattle.reorder_orders.proofs.place_numbers.Tie as tie
 use Rattle.reorder_orders.proofs.place_numbers.Reads as reads
 use Rattle.reorder_orders.proofs.place_numbers.Lts as lts
-use Rattle.reorder_orders.proofs.wide.Reads as wide-reads
+use Rattle.columns.proofs.wide.Reads as wide-reads
 
 abbrev Inv-loop : tie.InvT-loop
 Inv-loop order new-numbers₀ i₀ new-numbers i = (i ≤ length order) × ((o : IsOrder order) → Placed order o i new-numbers₀ new-numbers) × (length new-numbers ≡ length new-numbers₀)
@@ -31,13 +31,13 @@ slice-write-new-numbers : tie.Need-slice-write-new-numbers Inv-loop μ-loop
 slice-write-new-numbers c =
     let s = c .before .before .before .before .before .before in
     let l = c .before .before .before .loop in
-    omega (arith, l .inv .2, s .pre .1, c .wide .ensures .0, order-below (s .args .order .now) (s .pre .0) (l .i) (omega arith))
+    omega (arith, l .inv .2, s .pre .1, c .wide .ensures, order-below (s .args .order .now) (s .pre .0) (l .i) (omega arith))
 
 loop-again : tie.Need-loop-again Inv-loop μ-loop
 loop-again c =
     let s = c .before .before .before .before .before .before in
     let l = c .before .before .before .loop in
-    (omega arith, (λ o. placed-more (s .args .order .now) o (l .i) (s .args .new-numbers .now) (l .new-numbers) (omega arith) (s .pre .1) (l .inv .1 o) (c .wide .ensures .0)), simp lib.ListN.length-set (l .inv .2))
+    (omega arith, (λ o. placed-more (s .args .order .now) o (l .i) (s .args .new-numbers .now) (l .new-numbers) (omega arith) (s .pre .1) (l .inv .1 o) (c .wide .ensures)), simp lib.ListN.length-set (l .inv .2))
 
 same-length : tie.Need-same-length Inv-loop μ-loop
 same-length c = c .before .loop .inv .2

@@ -1,7 +1,7 @@
 -- `weights_diagonal::is_diagonal` meets its contract. Assumes nothing.
 use mathlib.Core.Path.{ap}
 use lib.Ieee.{Float, lt}
-use Rattle.weights_recipe.specs.Constants.{one}
+use Rattle.columns.specs.Places.{one}
 use Rattle.weights_diagonal.proofs.is_diagonal.Statement.{statement}
 use Rattle.weights_diagonal.proofs.is_diagonal.Tie as tie
 

@@ -14,7 +14,7 @@ use Rattle.reorder_calls.proofs.lists.sum_within.Tie as tie
 use Rattle.reorder_calls.proofs.lists.sum_within.Reads as reads
 use Rattle.reorder_calls.proofs.lists.sum_within.Lts as lts
 use Rattle.columns.proofs.questions.lesser.Reads as lesser-reads
-use Rattle.reorder_orders.proofs.wide.Reads as wide-reads
+use Rattle.columns.proofs.wide.Reads as wide-reads
 
 abbrev Inv-loop : tie.InvT-loop
 Inv-loop lengths n limit m sum₀ i₀ sum i = (i ≤ m) × (m ≡ min n (length lengths)) × (sum ≡ sumTo i lengths) × (sum ≤ limit)
@@ -37,13 +37,13 @@ returns c =
     let a = c .before .before .before .before .before .before .before .args in
     let l = c .before .before .before .before .loop in
     sym (lt-leb (sumTo (a .n) (a .lengths .now)) (a .limit)
-    (omega (arith, c .before .wide .ensures .0, l .inv .1, l .inv .2, l .inv .3, sum-more (l .i) (a .lengths .now), sum-ascends (l .i + 1) (a .n) (a .lengths .now) (omega (arith, l .inv .1)))))
+    (omega (arith, c .before .wide .ensures, l .inv .1, l .inv .2, l .inv .3, sum-more (l .i) (a .lengths .now), sum-ascends (l .i + 1) (a .n) (a .lengths .now) (omega (arith, l .inv .1)))))
 
 loop-again : tie.Need-loop-again Inv-loop μ-loop
 loop-again c =
     let a = c .before .before .before .before .before .before .before .args in
     let l = c .before .before .before .before .loop in
-    (omega arith, l .inv .1, ap (λ (x : ℕ). x + c .before .wide .result) (l .inv .2) ∙ ap (λ (x : ℕ). sumTo (l .i) (a .lengths .now) + x) (c .before .wide .ensures .0) ∙ sym (sum-more (l .i) (a .lengths .now)), omega (arith, l .inv .3))
+    (omega arith, l .inv .1, ap (λ (x : ℕ). x + c .before .wide .result) (l .inv .2) ∙ ap (λ (x : ℕ). sumTo (l .i) (a .lengths .now) + x) (c .before .wide .ensures) ∙ sym (sum-more (l .i) (a .lengths .now)), omega (arith, l .inv .3))
 
 returns-2 : tie.Need-returns-2 Inv-loop μ-loop
 returns-2 c =

@@ -6,7 +6,7 @@ use native.Mathlib.Omega.{arith}
 use borrow.Author.Needs.{needs}
 use lib.IntN.{pos}
 use lib.Ieee.{Float, binary64, add, mul, div, ofInt}
-use Rattle.weights_recipe.specs.Constants.{one}
+use Rattle.columns.specs.Places.{one}
 use Rattle.weights_recipe.specs.Logarithm.{series}
 use Rattle.weights_recipe.proofs.logarithm.sum_series.Statement.{statement}
 use Rattle.weights_recipe.proofs.logarithm.sum_series.Tie as tie

@@ -1,4 +1,4 @@
--- `test_weights::of_bits` meets its contract. Assumes nothing.
+-- `columns::of_bits` meets its contract. Assumes nothing.
 use mathlib.Core.Path.{_≡_, refl, sym, _∙_, subst}
 use mathlib.Core.Bool.{Bool, not}
 use Prim.Native.Nat.{ℕ, _*_, _%_, _≤_, _<_}
@@ -7,8 +7,8 @@ use lib.Ieee.{Float, nan, inf, fin, binary64, div, ofBits, isNan, nanBits, ones,
 use lib.Ieee.Bits.{nanBits-is, nanBits-above}
 use borrow.Author.Tests.{le-ltb, lt-ltb}
 use borrow.Author.Needs.{needs}
-use Rattle.test_weights.proofs.of_bits.Statement.{statement}
-use Rattle.test_weights.proofs.of_bits.Tie as tie
+use Rattle.columns.proofs.of_bits.Statement.{statement}
+use Rattle.columns.proofs.of_bits.Tie as tie
 
 nan-is : (x : Float) → T (isNan x) → x ≡ nan
 unfolding isNan

@@ -1,13 +1,12 @@
 -- What an accepted call says of its columns. Assumes nothing.
-use mathlib.Core.Path.{_≡_, refl, sym, ap, _∙_, subst}
-use mathlib.Core.Bool.{Bool, true, false, _&&_, cond}
+use mathlib.Core.Path.{_≡_, subst}
+use mathlib.Core.Bool.{Bool, _&&_}
 use mathlib.Core.List.{List}
 use Prim.Native.Nat.{ℕ, suc, _+_, _≤_, _<_}
-use native.Mathlib.Omega.{arith}
-use lib.ListN.{length, take, getD}
-use lib.Dec.{leb, ltb, eqb}
-use borrow.Author.Tests.{leb-true, ltb-true, ne-eqb}
-use Rattle.columns.specs.Questions.{ask, allBelow, vertexCountSound, marksSound, halfWeightsSound, boundariesSound}
+use lib.ListN.{length, getD}
+use lib.Dec.{leb}
+use borrow.Author.Tests.{leb-true}
+use Rattle.columns.specs.Questions.{allBelow, halfWeightsSound}
 use Rattle.columns.proofs.Tests.{and-both, within-first, below-at}
 use Rattle.columns_neighbors.specs.Sound.{graphSound}
 use Rattle.columns_room.specs.Room.{threeLong}

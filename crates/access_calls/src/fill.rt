@@ -1,6 +1,6 @@
 // Vertices from edges.
 ghost use mathlib.Core.Path.{_≡_};
-ghost use Prim.Native.Nat.{ℕ, _*_, _≤_};
+ghost use Prim.Native.Nat.{_*_, _≤_};
 ghost use lib.ListN.{length};
 ghost use Rattle.columns.specs.Lists.{over};
 ghost use Rattle.columns_neighbors.specs.Lists.{lists, degrees};

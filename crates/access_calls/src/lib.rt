@@ -25,7 +25,7 @@ use columns_room::three_long;
 use columns_stores::copy_u32;
 ghost use mathlib.Core.Path.{_≡_};
 ghost use Rattle.columns.specs.Questions.{vertexCountSound, edgeCountSound};
-ghost use Rattle.access_calls.specs.Calls.{code, initializer, initializerLong, initializerSound, initializerRefusal, GotInitializer, setMarksRefusal, SetMarks, syndrome, countsSound, setSyndromeRefusal, SetSyndrome, getMarksRefusal, GotMarks, getSyndromeRefusal, GotSyndrome};
+ghost use Rattle.access_calls.specs.Calls.{code, initializer, initializerLong, initializerSound, initializerRefusal, GotInitializer, SetMarks, syndrome, countsSound, setSyndromeRefusal, SetSyndrome, GotMarks, getSyndromeRefusal, GotSyndrome};
 
 // What a call answers that hands back a list: how many numbers it has.
 pub enum ListCount {

@@ -5,24 +5,23 @@ use mathlib.Core.List.{List, [], _∷_}
 use mathlib.Core.Option.{Option, some, none}
 use Prim.Native.Nat.{ℕ, zero, suc, _+_, _<_, _≤_}
 use native.Mathlib.Omega.{arith}
-use lib.ListN.{length, getD, take, length-take}
+use lib.ListN.{length, getD, take}
 use lib.Seq.{getD-take, length-take-le}
-use lib.Dec.{leb, eqb}
+use lib.Dec.{leb}
 use lib.IntN.{ℤ, negsuc}
 use Rattle.columns.specs.Lists.{over, after}
 use Rattle.columns.specs.Questions.{ask}
 use Rattle.columns.proofs.Columns.{over-in, after-accepted}
 use Rattle.engine_columns.specs.declared.EngineCounts.{EngineCounts}
 use Rattle.engine_columns.specs.Records.{Engine}
-use Rattle.engine_columns.specs.Questions.{engineSound}
-use Rattle.engine_tally.specs.Tally.{Tally, Fed, Lengths, lengthsOf, tallyLong, tallied, isAccepted, tallyStep, tallyAfter}
+use Rattle.engine_tally.specs.Tally.{Tally, Fed, lengthsOf, tallied, isAccepted, tallyStep, tallyAfter}
 use Rattle.engine_columns.specs.Step.{Call, loadErasures, loadWeights, reset}
 use Rattle.engine_tally.proofs.Agreement.{Agrees, long-same}
 use Rattle.engine_columns.proofs.Refusals.{sound-from}
-use Rattle.engine_walks.specs.Graph.{Graph, edges, GraphInRange}
+use Rattle.engine_walks.specs.Graph.{edges, GraphInRange}
 use Rattle.engine_walks.specs.Answers.{crossing, leastFromLeft, weightIn}
 use Rattle.query_crossing_answer.specs.declared.CrossingReply.{CrossingReply}
-use Rattle.query_crossing_answer.specs.declared.CrossingReply.the-variants.{Crossed, Refused}
+use Rattle.query_crossing_answer.specs.declared.CrossingReply.the-variants.{Crossed}
 use Rattle.query_questions.specs.Queries as Q
 use Rattle.query_questions.specs.Queries.{scratchLong}
 use Rattle.query_crossing_answer.specs.Crossing as C

@@ -1,11 +1,11 @@
 -- A built code that was opened is a graph of `codes_graphs`. Assumes nothing.
-use mathlib.Core.Path.{_≡_, sym, ap, _∙_, subst}
-use mathlib.Core.List.{List, [], _∷_}
+use mathlib.Core.Path.{_≡_, sym, ap, _∙_}
+use mathlib.Core.List.{List}
 use mathlib.Core.Option.{some}
 use Prim.Native.Nat.{ℕ, _≤_, _<_}
-use lib.ListN.{length, take, length-map}
+use lib.ListN.{take, length-map}
 use lib.Ieee.{Float}
-use Rattle.columns.specs.Lists.{over, after}
+use Rattle.columns.specs.Lists.{after}
 use Rattle.columns.proofs.Columns.{take-over, after-accepted}
 use Rattle.engine_columns.specs.Open.{GraphColumns}
 use Rattle.engine_tally.specs.Tally.{tallyOf}
@@ -19,10 +19,9 @@ use Rattle.codes_layers.proofs.Accepted.{buildable}
 use Rattle.codes_graphs.specs.Graphs.{builtGraph}
 use Rattle.codes_graphs.proofs.Sound.{codes-are-sound}
 use Rattle.codes_graphs.proofs.Distance.{codes-have-distance}
-use Rattle.codes_calls.specs.declared.Created.{Created}
-use Rattle.codes_calls.specs.declared.Created.the-variants.{Code, Refused}
+use Rattle.codes_calls.specs.declared.Created.the-variants.{Code}
 use Rattle.codes_calls.specs.Columns.{CodeColumns}
-use Rattle.codes_calls.specs.CreateCode.{createRefusal, refusalIn, newColumns, CreateCode}
+use Rattle.codes_calls.specs.CreateCode.{createRefusal, refusalIn, CreateCode}
 use Rattle.codes_calls.proofs.Cases.{code-case}
 use Rattle.weights_diagonal.specs.declared.DiagonalProbability.{DiagonalProbability}
 use Rattle.codes_calls.specs.NewCode.{newRefusal, newRefusalIn, WeightedCode}

@@ -1,5 +1,5 @@
 -- Document 01's starred examples, by computation. Assumes nothing.
-use mathlib.Core.Path.{_≡_, refl, sym, ap, _∙_}
+use mathlib.Core.Path.{_≡_, refl, ap, _∙_}
 use mathlib.Core.Bool.{true, _&&_}
 use mathlib.Core.List.{List, [], _∷_, map}
 use mathlib.Core.Option.{Option, some}
@@ -19,12 +19,12 @@ use Rattle.codes_planar.specs.Planar.{rowEdges, planarRow, planarLayer, planarG
 use Rattle.codes_circuit.specs.Circuit.{circuitCell, circuitRow, circuitGap}
 use Rattle.codes_rotated.specs.Rotated.{rotatedPlace, rotatedEdge, rotatedRow, rotatedLayer, rotatedGap, rotatedBoundary, rotatedVertex}
 use Rattle.codes_layers.specs.Codes.{rows, width, layerEdges, gapEdges, edgesOf, vertexOf, layerVertices, verticesOf}
-use Rattle.codes_layers.specs.Counts.{layerVertexNum, vertexNum, layerEdgeNum, gapEdgeNum, edgeNum}
+use Rattle.codes_layers.specs.Counts.{layerVertexNum, layerEdgeNum, gapEdgeNum}
 use Rattle.codes_layers.specs.Accepts.{kindKnown, distanceSound, roundsSound, codeRefusal}
 use Rattle.weights_calls.specs.Calls.{isLargestHalfWeight, halfWeights, largestWeight, computeRefusal, someAbove, edgeWeights}
 use Rattle.weights_recipe.specs.Probabilities.{isProbability}
 use Rattle.columns.specs.Limits.{edgeLimit}
-use Rattle.codes_questions.specs.declared.Count.the-variants.{Counted, Refused}
+use Rattle.codes_questions.specs.declared.Count.the-variants.{Refused}
 use Rattle.columns_answers.proofs.Said.{accepts-of, refuses-of}
 use Rattle.codes_questions.specs.Answers.{CountsVertices}
 use Rattle.weights_recipe.specs.Rounding.{halfWeight}
@@ -38,7 +38,7 @@ use Rattle.engine_walks.specs.Answers.{readBack, stepInto, pathIn, path, fromLe
 use Rattle.engine_walks.specs.Graph.{Graph}
 use Rattle.weights_recipe.specs.Logarithm.{edgeWeight}
 use Rattle.engine_columns.specs.Records.{Engine, engine, counts}
-use Rattle.engine_columns.specs.Step.{Call, loadErasures, loadWeights, reset}
+use Rattle.engine_columns.specs.Step.{loadErasures, loadWeights, reset}
 use Rattle.engine_columns.specs.Open.{GraphColumns, graphColumns}
 use Rattle.engine_tally.specs.Tally.{Tally, Fed, tallyOf, tallyAfter}
 use Rattle.query_questions.specs.Queries as Q

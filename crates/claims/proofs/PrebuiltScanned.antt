@@ -1,6 +1,6 @@
 -- An accepted `fill_boundaries` and an accepted `fill_row` over its column. Assumes nothing.
 use mathlib.Core.Path.{_≡_, sym, ap, _∙_, subst}
-use mathlib.Core.Logic.{_⊎_, inl, inr}
+use mathlib.Core.Logic.{inl, inr}
 use mathlib.Core.Bool.{Bool, true, false, cond, _||_}
 use mathlib.Core.List.{List}
 use mathlib.Core.Option.{none}
@@ -22,7 +22,7 @@ use Rattle.engine_walks.proofs.TableAndPath.{table-is-least}
 use Rattle.query_questions.specs.Queries.{graphIn, weightsIn}
 use Rattle.query_search.proofs.Ranges.{in-range}
 use Rattle.prebuilt_entries.specs.Entries.{inTheMiddle, rowEntry, entryBy}
-use Rattle.prebuilt_calls.specs.Rows.{RowStep, row, rowRefusal}
+use Rattle.prebuilt_calls.specs.Rows.{RowStep, rowRefusal}
 use Rattle.prebuilt_calls.proofs.Entries.{row-asked}
 use Rattle.prebuilt_calls.specs.Boundaries as ours
 use Rattle.claims.specs.Prebuilt.{virtual, getBoundaryWeight, getEdgeWeight, edgeEntry, weightEntry, vertexEntry}

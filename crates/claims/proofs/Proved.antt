@@ -1,26 +1,24 @@
 -- Demand 3. Assumes nothing.
 use mathlib.Core.Path.{_≡_, refl, sym, ap, _∙_, subst}
 use mathlib.Core.Logic.{_↔_}
-use mathlib.Core.List.{List, [], _∷_}
+use mathlib.Core.List.{List}
 use mathlib.Core.Option.{Option, some, none}
 use Prim.Native.Nat.{ℕ, _≤_, _<_}
 use native.Mathlib.Omega.{arith}
 use lib.ListN.{length, getD}
-use lib.IntN.{ℤ, pos, negsuc}
+use lib.IntN.{ℤ, pos}
 use Rattle.columns.specs.Lists.{over}
-use Rattle.engine_columns.specs.Records.{Engine}
-use Rattle.engine_tally.specs.Tally.{Tally, lengthsOf}
+use Rattle.engine_tally.specs.Tally.{lengthsOf}
 use Rattle.engine_tally.proofs.Agreement.{Agrees}
 use Rattle.engine_tally.proofs.LastNamed.{weighs-last-named}
 use Rattle.engine_walks.specs.Graph.{Graph, edges, GraphInRange, LeftJoinsRight}
 use Rattle.engine_walks.specs.Answers.{crossing, leastFromLeft, weightIn}
-use Rattle.engine_walks.specs.Claims.{CrossingAnswer, IsCrossing, LeftWeight, Alike, NotGreater, reached, unreached, signed}
+use Rattle.engine_walks.specs.Claims.{CrossingAnswer, IsCrossing, LeftWeight, NotGreater, reached, signed}
 use Rattle.engine_walks.proofs.LeastCrossing.{crossing-is-least}
 use Rattle.engine_walks.proofs.TwoGraphs.{weights-compare}
-use Rattle.query_crossing_answer.specs.declared.CrossingReply.{CrossingReply}
-use Rattle.query_crossing_answer.specs.declared.CrossingReply.the-variants.{Crossed, Refused}
+use Rattle.query_crossing_answer.specs.declared.CrossingReply.the-variants.{Crossed}
 use Rattle.query_crossing_answer.specs.Crossing.{replyNumber, replyWeight, CrossingStep}
-use Rattle.claims.specs.Listed.{tallyGraph, tallyWeights, tallyCrossingRefusal, modifying, numbers}
+use Rattle.claims.specs.Listed.{tallyGraph, tallyCrossingRefusal, modifying, numbers}
 use Rattle.claims.specs.Demand3.{History, CrossingThen, TwoLists, tallyFirst, tallyLast, graphLeft, weightsLeft, refusedBefore, Demand3}
 use Rattle.claims.proofs.Agreeing.{scratchFits, range, edges-are, weight-at, crossing-number, accepted-of, accepted-when, column-at, graph-kept}
 use Rattle.claims.proofs.Runs.{FreshGraph, fresh-of, crossing-of, runs}

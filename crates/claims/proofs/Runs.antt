@@ -1,6 +1,6 @@
 -- Every list of calls of the real functions keeps columns and tally in agreement. Assumes nothing.
 use mathlib.Core.Path.{_≡_, refl, sym, subst}
-use mathlib.Core.List.{List, [], _∷_}
+use mathlib.Core.List.{List, _∷_}
 use Prim.Native.Nat.{ℕ, _≤_, _<_}
 use lib.ListN.{length}
 use lib.IntN.{ℤ}
@@ -10,7 +10,7 @@ use Rattle.engine_columns.specs.declared.EngineAnswer.{EngineAnswer}
 use Rattle.engine_columns.specs.declared.EngineAnswer.the-variants.{Counts}
 use Rattle.engine_columns.specs.Records.{Engine, engine, counts}
 use Rattle.engine_columns.specs.Step.{Call, Step}
-use Rattle.engine_columns.specs.Open.{GraphColumns, graphColumns, openRefusal, OpenStep}
+use Rattle.engine_columns.specs.Open.{GraphColumns, openRefusal, OpenStep}
 use Rattle.engine_tally.specs.Tally.{Tally, tallyOf, lengthsOf, tallyStep}
 use Rattle.engine_tally.proofs.Agreement.{Agrees, step-agrees, opened-agrees}
 use Rattle.engine_columns.proofs.Refusals.{opens-of}

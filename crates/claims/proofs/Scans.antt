@@ -1,6 +1,6 @@
 -- The Rust's loop over the peers finds the nearest virtual vertex, and its test for edges in the middle is that of a row. Assumes nothing.
-use mathlib.Core.Path.{_≡_, refl, sym, ap, _∙_, subst}
-use mathlib.Core.Bool.{Bool, true, false, not, cond, _&&_, _||_}
+use mathlib.Core.Path.{_≡_, refl, sym, ap, _∙_}
+use mathlib.Core.Bool.{Bool, true, false, cond, _&&_, _||_}
 use mathlib.Core.List.{List}
 use mathlib.Core.Option.{Option, some, none}
 use Prim.Native.Nat.{ℕ, zero, suc, _+_, _<_, _≤_}
@@ -10,13 +10,13 @@ use lib.Dec.{ltb, eqb}
 use lib.IntN.{ℤ, pos, negsuc}
 use borrow.Author.Tests.{eqb-true}
 use Rattle.columns.proofs.Counting.{getD-each}
-use Rattle.engine_walks.specs.Graph.{Graph, boundaryAt}
+use Rattle.engine_walks.specs.Graph.{Graph}
 use Rattle.engine_walks.specs.Settling.{lesser, firstLeast, weightAt, settled}
 use Rattle.engine_walks.specs.Answers.{weightIn, table, taken, tableWeight, only}
 use Rattle.engine_walks.proofs.FirstLeast.{IsFirst, first-least}
 use Rattle.prebuilt_entries.specs.Entries.{isVirtual, entryBy}
 use Rattle.prebuilt_entries.specs.Nearest.{isReached, amount, nearestIn, boundaryIn, weightTo, vertexTo}
-use Rattle.claims.specs.Prebuilt.{virtual, reached, completeEdge, Peer, offered, boundaryBelow, getBoundaryWeight, collected, removed, remaining, getEdgeWeight, edgeEntry, weightEntry, vertexEntry}
+use Rattle.claims.specs.Prebuilt.{virtual, reached, completeEdge, Peer, offered, boundaryBelow, getBoundaryWeight, remaining, getEdgeWeight, edgeEntry, weightEntry, vertexEntry}
 
 peer : ℕ → ℕ → Peer
 peer u weight = record { vertex = u; weight = weight }

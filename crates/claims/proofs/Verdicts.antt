@@ -1,33 +1,25 @@
 -- The columns of a built code get verdict 0. Assumes nothing.
-use mathlib.Core.Path.{_≡_, refl, sym, ap, _∙_, subst}
+use mathlib.Core.Path.{_≡_, refl, sym, ap, _∙_}
 use mathlib.Core.Logic.{_⊎_, inl, inr}
-use mathlib.Core.Bool.{Bool, true, false}
-use mathlib.Core.List.{List, map}
+use mathlib.Core.List.{List}
 use Prim.Native.Nat.{ℕ, _+_, _*_, _≤_, _<_}
 use native.Mathlib.Omega.{arith}
 use lib.ListN.{length, getD, take}
-use lib.Ieee.{Float}
-use Rattle.columns.specs.Lists.{each, over, after}
-use Rattle.columns.proofs.Columns.{after-accepted, take-over, over-in}
+use Rattle.columns.specs.Lists.{over, after}
+use Rattle.columns.proofs.Columns.{after-accepted, take-over}
 use Rattle.columns.proofs.Counting.{length-each}
 use Rattle.columns_neighbors.specs.Lists.{neighbours, degrees, lists}
-use Rattle.columns_neighbors.specs.Sound.{graphSound}
 use Rattle.codes_writers.specs.Edges.{Ends, firsts, seconds}
 use Rattle.codes_layers.specs.Codes.{edgesOf}
 use Rattle.codes_layers.specs.Counts.{vertexNum, edgeNum}
-use Rattle.codes_layers.specs.Accepts.{codeRefusal, Buildable}
-use Rattle.codes_layers.proofs.Accepted.{Accepted, accepted, buildable}
+use Rattle.codes_layers.proofs.Accepted.{Accepted, accepted}
 use Rattle.codes_layers.proofs.Counted.{edges-counted}
 use Rattle.codes_graphs.proofs.Sound.{first-over, second-over, first-is, second-is, built}
-use Rattle.codes_graphs.proofs.Lists.{Touches, vertex-touched}
-use Rattle.sanity_verdicts.specs.declared.Verdict.{Verdict}
+use Rattle.codes_graphs.proofs.Lists.{vertex-touched}
 use Rattle.sanity_verdicts.specs.declared.Verdict.the-variants.{Sound}
-use Rattle.sanity_verdicts.specs.Sanity.{said, SanityChecked}
+use Rattle.sanity_verdicts.specs.Sanity.{said}
 use Rattle.sanity_calls.proofs.Verdicts.{sanityAnswer}
 use Rattle.sanity_calls.proofs.Theorems.{EndsEdge, sound-verdict}
-use Rattle.weights_diagonal.specs.declared.DiagonalProbability.{DiagonalProbability}
-use Rattle.codes_calls.specs.declared.Created.{Created}
-use Rattle.codes_calls.specs.declared.Created.the-variants.{Refused}
 use Rattle.codes_calls.specs.Columns.{CodeColumns}
 use Rattle.codes_calls.specs.CreateCode.{createRefusal, refusalIn, newColumns}
 use Rattle.codes_calls.proofs.Cases.{code-case}

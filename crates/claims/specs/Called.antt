@@ -1,7 +1,6 @@
 -- Calls of the real functions. `Learnt` is what a caller of a function learns of a call, made from the function's own contract: lifetimes, the arguments
 -- as they were passed, the result, and the parameters at exit. A parameter that is only read is at exit as it was passed.
 use Prim.Native.Nat.{ℕ}
-use mathlib.Core.Path.{_≡_}
 use mathlib.Core.List.{List, [], _∷_}
 use lib.ListN.{length}
 use lib.IntN.{ℤ}
@@ -11,14 +10,13 @@ use denote.Triple.Clauses.{AtExit}
 use denote.Ref.{now}
 use Rattle.engine_columns.specs.declared.EngineCounts.{EngineCounts}
 use Rattle.engine_columns.specs.declared.EngineAnswer.{EngineAnswer}
-use Rattle.engine_columns.specs.declared.EngineAnswer.the-variants.{Counts, Refused}
+use Rattle.engine_columns.specs.declared.EngineAnswer.the-variants.{Counts}
 use Rattle.engine_columns.specs.Records.{Engine, engine, kept, said}
 use Rattle.engine_columns.specs.Step.{Call, loadErasures, loadWeights, reset}
 use Rattle.engine_columns.specs.Open.{GraphColumns, graphColumns}
-use Rattle.engine_tally.specs.Tally.{Fed, lengthsOf}
+use Rattle.engine_tally.specs.Tally.{lengthsOf}
 use Rattle.query_crossing_answer.specs.declared.CrossingReply.{CrossingReply}
 use Rattle.query_crossing_answer.specs.Crossing.{replyNumber}
-use Rattle.codes_calls.specs.declared.Created.{Created}
 use Rattle.codes_calls.specs.declared.Created.the-variants.{Code}
 use Rattle.claims.specs.Listed.{OwnLengths, ListedCall, modifies, crosses}
 use Rattle.engine_calls.proofs.open.Kinds as open-kinds

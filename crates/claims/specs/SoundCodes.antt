@@ -6,7 +6,6 @@ use Rattle.weights_diagonal.specs.declared.DiagonalProbability.{DiagonalProbabi
 use Rattle.columns_answers.specs.Said.{accepts}
 use Rattle.sanity_verdicts.specs.declared.Verdict.{Verdict}
 use Rattle.sanity_verdicts.specs.Sanity.{said, SanityChecked}
-use Rattle.codes_calls.specs.declared.Created.{Created}
 use Rattle.codes_calls.specs.declared.Created.the-variants.{Code}
 use Rattle.codes_calls.specs.Columns.{CodeColumns}
 use Rattle.codes_calls.specs.CreateCode.{CreateCode}

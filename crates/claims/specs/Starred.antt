@@ -6,9 +6,8 @@ use mathlib.Core.Option.{Option, some}
 use Prim.Native.Nat.{ℕ, suc, _≤_}
 use lib.ListN.{length, replicate}
 use Rattle.columns.specs.Places.{zeroFloat}
-use Rattle.codes_writers.specs.Edges.{Ends, firsts, seconds, boundaries}
+use Rattle.codes_writers.specs.Edges.{firsts, seconds, boundaries}
 use Rattle.codes_layers.specs.Codes.{edgesOf, verticesOf}
-use Rattle.codes_questions.specs.declared.Count.{Count}
 use Rattle.codes_questions.specs.declared.Count.the-variants.{Counted, Refused}
 use Rattle.codes_questions.specs.Answers.{CountsVertices, CountsEdges}
 use Rattle.weights_calls.specs.Calls.{isLargestHalfWeight, halfWeights, computeRefusal}

@@ -7,7 +7,7 @@ use native.Mathlib.Nat.{zero-mul, mul-le-mul-right}
 use native.Mathlib.Decide.{decLe}
 use native.Mathlib.Omega.{arith}
 use lib.ListN.{length, getD}
-use lib.Dec.{eqb, ltb}
+use lib.Dec.{ltb}
 use lib.Ieee.{Float, binary64, add, neg}
 use borrow.Author.Tests.{eq-eqb, ne-eqb, lt-ltb, ltb-true}
 use Rattle.columns.specs.Lists.{each, joined, layered, when}
@@ -18,10 +18,9 @@ use Rattle.codes_writers.specs.Edges.{Ends, float, straightEdges}
 use Rattle.codes_planar.specs.Planar.{planarAcross, deepVertex, rowEdges, planarRow, planarLayer}
 use Rattle.codes_circuit.specs.Circuit.{circuitCell, circuitRow, circuitGap}
 use Rattle.codes_layers.specs.Codes.{rows, width, layerSize, vertexOf, layerEdges, gapEdges, edgesOf}
-use Rattle.codes_layers.specs.Counts.{vertexNum}
 use Rattle.codes_layers.proofs.ByKind.{planar-layers, circuit-gaps}
 use Rattle.codes_layers.proofs.Accepted.{Accepted}
-use Rattle.codes_graphs.proofs.Parts.{Has, has-first, has-then, has-joined, Starts, starts-at}
+use Rattle.codes_graphs.proofs.Parts.{Has, has-first, has-then, has-joined, starts-at}
 use Rattle.codes_graphs.proofs.AllEdges.{vertices-are}
 use Rattle.codes_graphs.proofs.Straight.{row-first, turned-first, along-row}
 use Rattle.codes_rotated.specs.Rotated.{rotatedWidth, rotatedEdge, rotatedRow}

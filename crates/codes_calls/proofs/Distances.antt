@@ -1,9 +1,8 @@
 -- Differences of coordinates, by computation for the numbers below 64, and the Manhattan distances that are made of them. Assumes nothing.
 use mathlib.Core.Path.{_≡_, refl, sym, ap, _∙_, subst}
-use mathlib.Core.Bool.{Bool, true, false}
+use mathlib.Core.Bool.{true, false}
 use Prim.Native.Nat.{ℕ, _+_, _<_}
 use lib.Dec.{T, eqb, eqb→eq}
-use lib.IntN.{pos}
 use lib.Ieee.{Float, binary64, ofBits, toBits, ofInt, add, sub, neg, lt}
 use lib.Ieee.Bits.{ofBits-toBits}
 use lib.Ieee.Fits.{sub-fits}

@@ -1,18 +1,16 @@
 -- Document 01's checked examples about built codes, as one statement about the definitions, by computation. Assumes nothing.
 use mathlib.Core.Path.{_≡_, refl}
-use mathlib.Core.Bool.{_&&_, cond}
-use mathlib.Core.List.{List, [], _∷_}
+use mathlib.Core.List.{[], _∷_}
 use Prim.Native.Nat.{ℕ}
 use native.Mathlib.Omega.{arith}
 use Rattle.columns.specs.Lists.{each, joined, layered}
-use Rattle.codes_writers.specs.Edges.{Ends, boundaries, straightEdges, straightRows}
+use Rattle.codes_writers.specs.Edges.{boundaries, straightEdges, straightRows}
 use Rattle.codes_planar.specs.Planar.{rowEdges, planarRow, planarLayer, planarGap}
 use Rattle.codes_circuit.specs.Circuit.{circuitCell, circuitRow, circuitGap}
 use Rattle.codes_rotated.specs.Rotated.{rotatedPlace, rotatedEdge, rotatedRow, rotatedLayer, rotatedGap, rotatedBoundary, rotatedVertex}
 use Rattle.codes_layers.specs.Codes.{rows, width, layerEdges, gapEdges, edgesOf, vertexOf, layerVertices, verticesOf}
-use Rattle.codes_layers.specs.Counts.{layerVertexNum, vertexNum, layerEdgeNum, gapEdgeNum, edgeNum}
+use Rattle.codes_layers.specs.Counts.{layerVertexNum, layerEdgeNum, gapEdgeNum}
 use Rattle.codes_layers.specs.Accepts.{kindKnown, distanceSound, roundsSound, codeRefusal}
-use Rattle.codes_questions.specs.declared.Count.{Count}
 use Rattle.codes_questions.specs.declared.Count.the-variants.{Counted, Refused}
 use Rattle.columns_answers.proofs.Said.{accepts-of, refuses-of}
 use Rattle.codes_questions.specs.Answers.{CountsVertices, CountsEdges}

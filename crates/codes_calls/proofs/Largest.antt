@@ -1,19 +1,15 @@
 -- The largest weight of a code's edges, from its two probabilities. Assumes nothing.
 use mathlib.Core.Path.{_≡_, refl, sym, ap, _∙_, subst}
-use mathlib.Core.Logic.{_⊎_, inl, inr}
+use mathlib.Core.Logic.{inl, inr}
 use mathlib.Core.Bool.{Bool, true, false, cond}
 use mathlib.Core.List.{List, [], _∷_, map}
 use Prim.Native.Nat.{ℕ, zero, suc, _≤_, _<_}
 use native.Mathlib.Decide.{ℕ-discrete}
 use native.Mathlib.Omega.{arith}
-use lib.Dec.{eqb}
-use lib.ListN.{length, getD}
 use lib.Ieee.{Float}
 use borrow.Author.Tests.{eq-eqb, ne-eqb}
 use Rattle.columns.specs.Places.{zeroFloat}
-use Rattle.codes_writers.specs.Edges.{Ends}
 use Rattle.codes_layers.specs.Codes.{edgesOf}
-use Rattle.codes_layers.specs.Counts.{edgeNum}
 use Rattle.codes_layers.proofs.Accepted.{Accepted}
 use Rattle.weights_recipe.specs.Logarithm.{edgeWeight}
 use Rattle.weights_diagonal.specs.Diagonal.{replaced}

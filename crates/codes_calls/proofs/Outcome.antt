@@ -1,30 +1,26 @@
 -- The columns and the answer of `create_code`, accepted and refused. Assumes nothing.
-use mathlib.Core.Path.{_≡_, sym, ap, _∙_, subst}
-use mathlib.Core.Bool.{Bool, true}
-use mathlib.Core.List.{List, map, _++_}
+use mathlib.Core.Path.{_≡_, sym, ap, _∙_}
+use mathlib.Core.List.{List, _++_}
 use Prim.Native.Nat.{ℕ, _+_, _*_, _≤_, _<_, min}
 use native.Mathlib.Omega.{arith}
-use lib.ListN.{length, getD, replicate, length-map, length-replicate, List·getD-map}
+use lib.ListN.{length, getD, length-map, List·getD-map}
 use lib.Dec.{leb}
-use lib.Ieee.{Float}
 use borrow.Author.Tests.{leb-true}
-use Rattle.columns.specs.Lists.{over, after, each, joined}
-use Rattle.columns.specs.Questions.{ask}
+use Rattle.columns.specs.Lists.{over, after}
 use Rattle.columns.proofs.Columns.{after-accepted, after-refused, length-over, over-in}
 use Rattle.columns.proofs.Counting.{each-same, joined-same}
 use Rattle.columns.proofs.Tests.{and-both}
 use Rattle.columns_neighbors.specs.Lists.{neighbours, hits, degrees, lists, ListsFilled}
 use Rattle.columns_neighbors.specs.Steps.{InRange}
 use Rattle.codes_writers.specs.Edges.{Ends, firsts, seconds}
-use Rattle.codes_layers.specs.Codes.{edgesOf, verticesOf}
+use Rattle.codes_layers.specs.Codes.{edgesOf}
 use Rattle.codes_layers.specs.Counts.{vertexNum, edgeNum}
-use Rattle.codes_layers.specs.Accepts.{codeRefusal, Buildable}
+use Rattle.codes_layers.specs.Accepts.{Buildable}
 use Rattle.codes_layers.proofs.Accepted.{Accepted, accepted, buildable, ask-zero, edges-few}
 use Rattle.codes_layers.proofs.Counted.{edges-counted}
-use Rattle.codes_graphs.proofs.AllEdges.{EdgeFacts, edge-facts}
-use Rattle.codes_calls.specs.declared.Created.{Created}
+use Rattle.codes_graphs.proofs.AllEdges.{edge-facts}
 use Rattle.codes_calls.specs.declared.Created.the-variants.{Code, Refused}
-use Rattle.codes_calls.specs.Columns.{CodeColumns, shortest, edgeRoom, vertexRoom, longEnough}
+use Rattle.codes_calls.specs.Columns.{CodeColumns, edgeRoom, vertexRoom, longEnough}
 use Rattle.columns_answers.proofs.Said.{accepts-of, refuses-of}
 use Rattle.codes_calls.specs.CreateCode.{createRefusal, refusalIn, newColumns, CodeCreated}
 use Rattle.codes_calls.specs.Steps.{EdgeColumnsLong, EdgeColumnsFilled, VertexColumnsLong, VertexColumnsFilled}

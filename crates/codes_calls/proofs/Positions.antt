@@ -1,11 +1,10 @@
 -- Where the vertices of a code are, by layer, row and place. Assumes nothing.
-use mathlib.Core.Path.{_≡_, refl, sym, ap, _∙_, subst}
+use mathlib.Core.Path.{_≡_, refl, ap, _∙_}
 use Prim.Native.Nat.{ℕ, _+_, _*_, _<_}
 use native.Mathlib.Omega.{arith}
-use lib.ListN.{length, getD, List·getD-map}
-use Rattle.columns.specs.Lists.{each, joined}
+use lib.ListN.{getD, List·getD-map}
+use Rattle.columns.specs.Lists.{each}
 use Rattle.columns.specs.Places.{zeroFloat, position}
-use Rattle.columns.specs.declared.VisualizePosition.{VisualizePosition}
 use Rattle.columns.proofs.Counting.{length-each, getD-each}
 use Rattle.codes_writers.specs.declared.CodeVertex.{CodeVertex}
 use Rattle.codes_writers.proofs.Wrote.{row-room}

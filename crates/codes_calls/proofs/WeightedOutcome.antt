@@ -1,6 +1,6 @@
 -- The number, the columns and the answer of `new`, accepted and refused. Assumes nothing.
 use mathlib.Core.Path.{_≡_, refl, sym, ap, _∙_, subst}
-use mathlib.Core.Logic.{_⊎_, inl, inr}
+use mathlib.Core.Logic.{inl, inr}
 use mathlib.Core.Bool.{Bool, true, false, _&&_, cond}
 use mathlib.Core.List.{List, map, _++_}
 use Prim.Native.Nat.{ℕ, zero, suc, _+_, _*_, _≤_, _<_}
@@ -9,20 +9,20 @@ use lib.Dec.{eqb, leb}
 use lib.ListN.{length, getD, drop, replicate, length-map, length-replicate}
 use lib.Seq.{sets}
 use lib.Ieee.{Float, lt}
-use borrow.Author.Tests.{eq-eqb, ne-eqb}
+use borrow.Author.Tests.{ne-eqb}
 use Rattle.columns.specs.Lists.{each, over, after}
 use Rattle.columns.specs.Limits.{vertexLimit}
 use Rattle.columns.specs.Questions.{ask}
 use Rattle.columns.specs.Places.{zeroFloat, position, positionAt}
 use Rattle.columns.specs.declared.VisualizePosition.{VisualizePosition}
 use Rattle.columns.proofs.Columns.{after-accepted, after-refused, length-over, over-in, drop-over, sets-over}
-use Rattle.columns.proofs.Counting.{each-same, each-getD, map-each, length-each}
+use Rattle.columns.proofs.Counting.{each-same, each-getD, map-each}
 use Rattle.codes_writers.specs.declared.CodeVertex.{CodeVertex}
 use Rattle.codes_writers.specs.Edges.{Ends, firsts, seconds, positionsI, positionsJ, positionsT}
 use Rattle.codes_layers.specs.Codes.{edgesOf, verticesOf}
 use Rattle.codes_layers.specs.Counts.{vertexNum, edgeNum}
-use Rattle.codes_layers.specs.Accepts.{kindKnown, distanceSound, roundsSound, codeRefusal, Buildable}
-use Rattle.codes_layers.proofs.Accepted.{Accepted, accepted, edges-few}
+use Rattle.codes_layers.specs.Accepts.{kindKnown, distanceSound, roundsSound, codeRefusal}
+use Rattle.codes_layers.proofs.Accepted.{Accepted, accepted}
 use Rattle.codes_layers.proofs.Counted.{edges-counted, vertices-counted}
 use Rattle.codes_graphs.proofs.AllEdges.{edge-facts}
 use Rattle.codes_graphs.proofs.Sound.{first-over, second-over}
@@ -32,15 +32,15 @@ use Rattle.weights_recipe.specs.Probabilities.{isProbability}
 use Rattle.weights_diagonal.specs.Diagonal.{isDiagonal, replaced, newDiagonal, isDiagonalProbability}
 use Rattle.weights_calls.specs.Calls.{largestWeight, edgeWeights, someAbove, isLargestHalfWeight, halfWeights}
 use Rattle.weights_diagonal.specs.declared.DiagonalProbability.{DiagonalProbability}
-use Rattle.weights_diagonal.specs.declared.DiagonalProbability.the-variants.{None, Given}
+use Rattle.weights_diagonal.specs.declared.DiagonalProbability.the-variants.{None}
 use Rattle.weights_calls.proofs.Largest.{some-above}
 use Rattle.codes_calls.specs.declared.Created.{Created}
-use Rattle.codes_calls.specs.declared.Created.the-variants.{Code, Refused}
-use Rattle.codes_calls.specs.Columns.{CodeColumns, edgeRoom, vertexRoom, longEnough}
+use Rattle.codes_calls.specs.declared.Created.the-variants.{Refused}
+use Rattle.codes_calls.specs.Columns.{CodeColumns, longEnough}
 use Rattle.columns_answers.specs.Said.{Answered}
 use Rattle.columns_answers.proofs.Said.{refuses-of}
-use Rattle.codes_calls.specs.CreateCode.{said, createRefusal, refusalIn, newColumns, CodeCreated}
-use Rattle.codes_calls.proofs.Outcome.{Open, opened, edges-long}
+use Rattle.codes_calls.specs.CreateCode.{said, createRefusal, newColumns, CodeCreated}
+use Rattle.codes_calls.proofs.Outcome.{Open, edges-long}
 use Rattle.codes_weights.specs.declared.Weighed.{Weighed}
 use Rattle.codes_calls.specs.Probabilities.{positionOf, probabilities, diagonalOf}
 use Rattle.codes_calls.specs.NewCode.{newRefusal, newRefusalIn, weightedColumns, HandedBack, Weighted}

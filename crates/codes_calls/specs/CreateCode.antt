@@ -1,7 +1,6 @@
 -- `create_code`: questions 2 to 6, the answer, and each column afterwards.
 use Prim.Native.Nat.{ℕ}
 use mathlib.Core.Path.{_≡_}
-use mathlib.Core.List.{List}
 use lib.ListN.{length, replicate}
 use Rattle.columns.specs.Lists.{after}
 use Rattle.columns.specs.Places.{zeroFloat}

@@ -1,10 +1,9 @@
 // `create_code`: builds a code into lent columns.
 ghost use mathlib.Core.Path.{_≡_};
-ghost use Prim.Native.Nat.{_+_, _*_, _≤_, _<_};
 ghost use lib.ListN.{length};
 ghost use Rattle.codes_layers.specs.Counts.{vertexNum, edgeNum};
 ghost use Rattle.codes_layers.specs.Accepts.{Buildable};
-ghost use Rattle.codes_calls.specs.Columns.{CodeColumns, shortest};
+ghost use Rattle.codes_calls.specs.Columns.{shortest};
 ghost use Rattle.codes_calls.specs.CreateCode.{createRefusal, CreateCode};
 ghost use Rattle.codes_calls.specs.Steps.{EdgeColumnsLong, EdgeColumnsFilled, VertexColumnsLong, VertexColumnsFilled};
 use super::Created;

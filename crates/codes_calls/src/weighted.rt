@@ -20,7 +20,6 @@ ghost use Rattle.weights_diagonal.specs.Diagonal.{isDiagonalProbability};
 ghost use Rattle.weights_calls.specs.Calls.{isLargestHalfWeight};
 ghost use Rattle.codes_layers.specs.Counts.{edgeNum};
 ghost use Rattle.codes_layers.specs.Accepts.{Buildable};
-ghost use Rattle.codes_calls.specs.Columns.{CodeColumns};
 ghost use Rattle.codes_calls.specs.CreateCode.{createRefusal};
 ghost use Rattle.codes_weights.specs.Steps.{weightsRefusal};
 ghost use Rattle.codes_calls.specs.Probabilities.{diagonalOf};

@@ -1,7 +1,6 @@
 -- The edges of every accepted code: first end smaller, in range, no pair joined twice, ends of heights at most 1 apart. Assumes nothing.
-use mathlib.Core.Path.{_≡_, refl, sym, ap, _∙_, subst}
-use mathlib.Core.Bool.{cond}
-use mathlib.Core.Logic.{_⊎_, inl, inr}
+use mathlib.Core.Path.{_≡_, sym, ap, _∙_, subst}
+use mathlib.Core.Logic.{inl, inr}
 use mathlib.Core.List.{List}
 use Prim.Native.Nat.{ℕ, _+_, _-_, _*_, _%_, _≤_, _<_}
 use native.Mathlib.Nat.{zero-mul, mul-comm}
@@ -10,7 +9,6 @@ use native.Mathlib.Omega.{arith}
 use lib.ListN.{length, getD}
 use borrow.Author.Tests.{le-leb, lt-leb}
 use Rattle.columns.specs.Lists.{joined, layered}
-use Rattle.columns.proofs.Counting.{times-next}
 use Rattle.codes_writers.specs.Edges.{Ends}
 use Rattle.codes_writers.proofs.Wrote.{row-room}
 use Rattle.codes_planar.specs.Planar.{planarSize, rowEdges, planarLayer, planarGap}
@@ -22,7 +20,7 @@ use Rattle.codes_layers.proofs.ByKind.{one-row, planar-rows, rotated-rows, one-
 use Rattle.codes_layers.proofs.Counted.{layer-size}
 use Rattle.codes_layers.proofs.Accepted.{Accepted, Layered}
 use Rattle.codes_graphs.specs.Graphs.{height, planarHeight, rotatedHeight}
-use Rattle.codes_graphs.proofs.Parts.{Keyed, keyed-from, keyed-to, keyed-layered}
+use Rattle.codes_graphs.proofs.Parts.{Keyed, keyed-layered}
 use Rattle.codes_graphs.proofs.Known.{Known, known-at, apart}
 use Rattle.codes_graphs.proofs.PlanarEdges.{PlanarEdge, planarKey, planarKeys, row-known, layer-known, planar-gap-known, circuit-gap-known}
 use Rattle.codes_graphs.proofs.RotatedEdges as rotated

@@ -1,15 +1,13 @@
 -- The boundary bytes of every accepted code: within 0 to 2; a left vertex has height 0, a right one height d. Assumes nothing.
 use mathlib.Core.Path.{_≡_, refl, sym, ap, _∙_, subst}
-use mathlib.Core.Bool.{Bool, true, false, cond}
-use mathlib.Core.List.{List, map}
 use Prim.Native.Nat.{ℕ, _+_, _-_, _*_, _/_, _%_, _≤_, _<_}
-use native.Mathlib.Nat.{mul-assoc, add-mul, mul-comm, mul-left-comm}
+use native.Mathlib.Nat.{mul-assoc, add-mul, mul-left-comm}
 use native.Mathlib.Decide.{ℕ-discrete, decLe}
 use native.Mathlib.Omega.{arith}
-use lib.ListN.{length, getD, length-map, List·getD-map}
+use lib.ListN.{getD, List·getD-map}
 use lib.Ieee.{Float}
 use borrow.Author.Tests.{eq-eqb, ne-eqb, le-leb, lt-leb}
-use Rattle.columns.specs.Lists.{each, joined}
+use Rattle.columns.specs.Lists.{each}
 use Rattle.columns.proofs.Counting.{length-each, getD-each}
 use Rattle.codes_writers.proofs.Wrote.{row-room}
 use Rattle.columns.specs.Places.{zeroFloat, position}

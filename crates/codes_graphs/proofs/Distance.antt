@@ -1,34 +1,32 @@
 -- With every weight 1 the crossing weight of every accepted code is d. Assumes nothing.
 use mathlib.Core.Path.{_≡_, refl, sym, ap, _∙_, subst}
-use mathlib.Core.Bool.{Bool, true}
-use mathlib.Core.Logic.{_⊎_, inl, inr}
-use mathlib.Core.List.{List, [], _∷_, _++_}
+use mathlib.Core.Logic.{inl, inr}
+use mathlib.Core.List.{List, _∷_}
 use Prim.Native.Nat.{ℕ, zero, suc, _+_, _-_, _*_, _/_, _%_, _≤_, _<_}
 use native.Mathlib.Decide.{ℕ-discrete, decLe}
 use native.Mathlib.Omega.{arith}
-use lib.ListN.{length, getD, length-map, length-append}
+use lib.ListN.{length, getD, length-map}
 use Rattle.columns.specs.Lists.{each}
 use Rattle.columns.proofs.Counting.{length-each}
-use Rattle.engine_walks.specs.Graph.{Graph, edges, endA, endB, boundaryAt, GraphInRange, Left, Right, Joins, Walk, stay, step, CrossingSet}
-use Rattle.engine_walks.specs.Lists.{sum}
+use Rattle.engine_walks.specs.Graph.{Graph, edges, endA, endB, boundaryAt, GraphInRange, Left, Right, Walk, stay, step}
 use Rattle.engine_walks.specs.Claims.{Potential}
 use Rattle.engine_walks.proofs.LeastWeights.{snoc}
 use Rattle.engine_walks.proofs.LeastCrossing.{certificate-decides}
 use Rattle.engine_walks.proofs.Sums.{sum-ones}
-use Rattle.codes_writers.specs.Edges.{Ends, firsts, seconds, boundaries}
+use Rattle.codes_writers.specs.Edges.{Ends}
 use native.Mathlib.Nat.{zero-mul}
 use borrow.Author.Tests.{eq-eqb, ne-eqb, le-leb, lt-leb}
 use Rattle.codes_planar.specs.Planar.{planarBoundary}
 use Rattle.codes_rotated.specs.Rotated.{rotatedWidth, rotatedBoundary, rotatedRow}
-use Rattle.codes_layers.specs.Codes.{edgesOf, verticesOf, layerSize, rows, width, vertexOf}
-use Rattle.codes_layers.specs.Counts.{vertexNum, edgeNum}
-use Rattle.codes_layers.proofs.Counted.{edges-counted, row-count}
+use Rattle.codes_layers.specs.Codes.{edgesOf, layerSize, rows, width}
+use Rattle.codes_layers.specs.Counts.{vertexNum}
+use Rattle.codes_layers.proofs.Counted.{row-count}
 use Rattle.codes_layers.proofs.Accepted.{Accepted, accepted}
 use Rattle.codes_graphs.specs.Graphs.{builtGraph, height}
 use Rattle.codes_graphs.specs.Claims.{HasDistance, CodesHaveDistance}
 use Rattle.codes_graphs.proofs.Parts.{starts-at}
-use Rattle.codes_graphs.proofs.AllEdges.{EdgeFacts, edge-facts, vertices-are}
-use Rattle.codes_graphs.proofs.AllVertices.{Byte, byte-at, boundary-at, planar-boundary, rotated-boundary}
+use Rattle.codes_graphs.proofs.AllEdges.{EdgeFacts, edge-facts}
+use Rattle.codes_graphs.proofs.AllVertices.{byte-at, boundary-at, planar-boundary, rotated-boundary}
 use Rattle.codes_graphs.proofs.Sound.{first-is, second-is}
 use Rattle.codes_graphs.proofs.Straight.{row-first, turned-first, along-row, left-most, along, along-even, along-odd, turned-row}
 

@@ -1,5 +1,5 @@
 -- Two blocks of one code in sequence are the block of the builder: a layer that starts x vertices later has the same edges, moved by x. Assumes nothing.
-use mathlib.Core.Path.{_≡_, refl, sym, ap, _∙_, subst}
+use mathlib.Core.Path.{_≡_, refl, sym, ap, _∙_}
 use mathlib.Core.Bool.{Bool, true, false, cond, _&&_}
 use mathlib.Core.List.{List, [], _∷_, _++_, map, map-append}
 use Prim.Native.Nat.{ℕ, zero, suc, _+_, _-_, _*_, _%_, _≤_, _<_}
@@ -8,11 +8,10 @@ use native.Mathlib.Omega.{arith}
 use lib.Dec.{eqb, leb, ltb}
 use Rattle.columns.specs.Lists.{each, joined, layered, when}
 use Rattle.columns.proofs.Counting.{each-same, joined-same, joined-plus, layered-join, map-each, map-joined, map-layered}
-use Rattle.codes_writers.specs.declared.CodeVertex.{CodeVertex}
 use Rattle.codes_writers.specs.Edges.{Ends, straightEdges, straightRows}
 use Rattle.codes_planar.specs.Planar.{planarSize, rowEdges, planarRow, planarLayer, planarGap}
 use Rattle.codes_circuit.specs.Circuit.{circuitCell, circuitRow, circuitGap}
-use Rattle.codes_rotated.specs.Rotated.{rotatedWidth, rotatedSize, rotatedPlace, rotatedEdge, rotatedRow, rotatedLayer, rotatedGap}
+use Rattle.codes_rotated.specs.Rotated.{rotatedWidth, rotatedSize, rotatedEdge, rotatedRow, rotatedLayer, rotatedGap}
 use Rattle.codes_layers.specs.Codes.{layerSize, layerEdges, gapEdges, edgesOf, layerVertices, verticesOf}
 
 -- an edge moved by x vertices

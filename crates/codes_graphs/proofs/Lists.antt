@@ -1,23 +1,23 @@
 -- Neighbour lists of built codes: no list is empty, and each ascends. Assumes nothing.
 use mathlib.Core.Path.{_≡_, refl, sym, ap, _∙_, subst}
-use mathlib.Core.Bool.{Bool, true, false, cond}
+use mathlib.Core.Bool.{Bool}
 use mathlib.Core.Logic.{_⊎_, inl, inr}
-use mathlib.Core.List.{List, [], _∷_, _++_}
+use mathlib.Core.List.{List, [], _∷_}
 use Prim.Native.Nat.{ℕ, _+_, _-_, _*_, _/_, _%_, _≤_, _<_}
-use native.Mathlib.Nat.{mod-lt, div-add-mod', div-lt-iff-lt-mul, mul-comm}
+use native.Mathlib.Nat.{mod-lt, div-add-mod', div-lt-iff-lt-mul}
 use native.Mathlib.Decide.{ℕ-discrete, decLe, decLt}
 use native.Mathlib.Omega.{arith}
-use lib.ListN.{length, getD, length-map, List·getD-map}
+use lib.ListN.{length, getD, List·getD-map}
 use Rattle.columns.specs.Lists.{each, joined, layered, when}
 use Rattle.columns.proofs.Counting.{times-next}
-use Rattle.columns_neighbors.specs.Lists.{neighbours, hits, chosen, endsAt}
-use Rattle.columns_neighbors.proofs.Placing.{neighbours-chosen, length-more, length-within, length-hit}
+use Rattle.columns_neighbors.specs.Lists.{neighbours, hits, chosen}
+use Rattle.columns_neighbors.proofs.Placing.{length-more, length-within, length-hit}
 use Rattle.codes_writers.specs.Edges.{Ends, firsts, seconds}
 use Rattle.codes_planar.specs.Planar.{rowEdges, planarRow, planarLayer}
 use Rattle.codes_rotated.specs.Rotated.{rotatedWidth, rotatedEdge, rotatedRow, rotatedLayer}
 use Rattle.codes_layers.specs.Codes.{rows, width, layerSize, layerEdges, gapEdges, edgesOf}
 use Rattle.codes_layers.specs.Counts.{vertexNum, edgeNum}
-use Rattle.codes_layers.proofs.ByKind.{one-row, planar-rows, rotated-rows, one-layer, planar-layers, rotated-layers}
+use Rattle.codes_layers.proofs.ByKind.{planar-rows, rotated-rows, one-layer, planar-layers, rotated-layers}
 use Rattle.codes_layers.proofs.Counted.{edges-counted}
 use Rattle.codes_layers.proofs.Accepted.{Accepted}
 use Rattle.codes_graphs.proofs.Parts.{Keyed, keyed-from, keyed-to, keyed-when, keyed-joined, keyed-two, Has, has-first, has-then, has-joined, has-layer, has-each}

@@ -1,5 +1,5 @@
 -- The edges of kinds 1 to 4, known by layer, row and place. Assumes nothing.
-use mathlib.Core.Path.{_≡_, refl, sym, ap, _∙_, subst}
+use mathlib.Core.Path.{_≡_, refl, sym, ap, _∙_}
 use mathlib.Core.Bool.{Bool, true, false, cond, _&&_}
 use mathlib.Core.Logic.{_⊎_, inl, inr}
 use mathlib.Core.List.{List, [], _∷_, _++_}
@@ -17,7 +17,7 @@ use Rattle.codes_writers.proofs.Wrote.{row-room}
 use Rattle.codes_planar.specs.Planar.{planarSize, rowEdges, planarRow, planarLayer, planarGap}
 use Rattle.codes_circuit.specs.Circuit.{circuitCell, circuitRow, circuitGap}
 use Rattle.codes_graphs.specs.Graphs.{planarHeight}
-use Rattle.codes_graphs.proofs.Parts.{Keyed, keyed-from, keyed-to, keyed-append, keyed-one, keyed-when, keyed-each, keyed-strides, keyed-joined}
+use Rattle.codes_graphs.proofs.Parts.{Keyed, keyed-to, keyed-append, keyed-one, keyed-when, keyed-each, keyed-strides, keyed-joined}
 use Rattle.codes_graphs.proofs.Known.{Known}
 
 -- ---- heights

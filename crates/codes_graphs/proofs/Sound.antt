@@ -1,18 +1,17 @@
 -- Every accepted code meets question 7, and each vertex has a neighbour list without repetition. Assumes nothing.
-use mathlib.Core.Path.{_≡_, refl, sym, ap, _∙_, subst}
-use mathlib.Core.Bool.{Bool, true}
-use mathlib.Core.Logic.{_⊎_, inl, inr}
+use mathlib.Core.Path.{_≡_, sym, ap, _∙_}
+use mathlib.Core.Bool.{true}
+use mathlib.Core.Logic.{inl, inr}
 use mathlib.Core.List.{List}
 use Prim.Native.Nat.{ℕ, zero, _+_, _*_, _≤_, _<_}
 use native.Mathlib.Omega.{arith}
 use lib.ListN.{length, getD, take, replicate, length-append, length-map, length-replicate, getD-replicate, List·getD-map}
 use Rattle.columns.specs.Lists.{over}
 use Rattle.columns.specs.Limits.{boundaryLimit, markLimit, halfWeightLimit}
-use Rattle.columns.specs.Questions.{allWithin, boundariesSound, marksSound, halfWeightsSound}
+use Rattle.columns.specs.Questions.{allWithin}
 use Rattle.columns.proofs.Columns.{take-over, over-in}
 use Rattle.columns.proofs.Tests.{at-within}
-use Rattle.columns_neighbors.specs.Lists.{neighbours, chosen, endsAt}
-use Rattle.columns_neighbors.specs.Sound.{graphSound}
+use Rattle.columns_neighbors.specs.Lists.{endsAt}
 use Rattle.columns_neighbors.proofs.Ends.{GraphSound, says-graph}
 use Rattle.columns_pairs.proofs.PairTests.{OnePair}
 use Rattle.columns_neighbors.proofs.Placing.{neighbours-chosen}
@@ -20,10 +19,9 @@ use Rattle.codes_writers.specs.declared.CodeVertex.{CodeVertex}
 use Rattle.codes_writers.specs.Edges.{Ends, firsts, seconds, boundaries}
 use Rattle.codes_layers.specs.Codes.{edgesOf, verticesOf}
 use Rattle.codes_layers.specs.Counts.{vertexNum, edgeNum}
-use Rattle.codes_layers.specs.Accepts.{Buildable}
 use Rattle.codes_layers.proofs.Counted.{edges-counted, vertices-counted}
 use Rattle.codes_layers.proofs.Accepted.{Accepted, accepted, edges-few}
-use Rattle.codes_graphs.specs.Claims.{listOf, BuiltCode, CodesAreSound}
+use Rattle.codes_graphs.specs.Claims.{BuiltCode, CodesAreSound}
 use Rattle.codes_graphs.proofs.AllEdges.{EdgeFacts, edge-facts}
 use Rattle.codes_graphs.proofs.AllVertices.{byte-at}
 use Rattle.codes_graphs.proofs.Lists.{chosen-ascends, vertex-listed}

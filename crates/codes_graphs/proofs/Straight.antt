@@ -1,24 +1,22 @@
 -- A straight walk of d edges from a left to a right vertex of every accepted code. Assumes nothing.
-use mathlib.Core.Path.{_≡_, refl, sym, ap, _∙_, subst}
-use mathlib.Core.Bool.{Bool, true, false, cond}
-use mathlib.Core.Logic.{_⊎_, inl, inr}
+use mathlib.Core.Path.{_≡_, refl, sym, _∙_, subst}
+use mathlib.Core.Bool.{cond}
 use mathlib.Core.List.{List, [], _∷_, _++_}
 use Prim.Native.Nat.{ℕ, zero, suc, _+_, _-_, _*_, _/_, _%_, _≤_, _<_}
 use native.Mathlib.Nat.{zero-mul}
-use native.Mathlib.Decide.{ℕ-discrete, decLe}
+use native.Mathlib.Decide.{ℕ-discrete}
 use native.Mathlib.Omega.{arith}
-use lib.ListN.{length, getD, List·getD-append}
+use lib.ListN.{getD, List·getD-append}
 use lib.Seq.{getD-at}
-use Rattle.columns.specs.Lists.{each, joined, layered}
+use Rattle.columns.specs.Lists.{each}
 use Rattle.columns.proofs.Counting.{length-each, getD-each}
 use Rattle.codes_writers.specs.Edges.{Ends}
 use Rattle.codes_planar.specs.Planar.{rowEdges, planarRow, planarLayer}
 use Rattle.codes_rotated.specs.Rotated.{rotatedWidth, rotatedEdge, rotatedRow, rotatedLayer}
 use Rattle.codes_layers.specs.Codes.{layerSize, layerEdges, gapEdges, edgesOf}
 use Rattle.codes_layers.proofs.ByKind.{one-layer, planar-layers, rotated-layers}
-use Rattle.codes_layers.proofs.Counted.{row-count}
 use Rattle.codes_layers.proofs.Accepted.{Accepted}
-use Rattle.codes_graphs.proofs.Parts.{Starts, starts-append, starts-self, starts-joined, starts-layered, starts-at}
+use Rattle.codes_graphs.proofs.Parts.{Starts, starts-append, starts-self, starts-joined, starts-layered}
 use Rattle.codes_graphs.proofs.RotatedEdges.{edge-even}
 
 -- ---- the first row of the first layer comes first

@@ -1,12 +1,10 @@
 -- The definitions by kind. Assumes nothing.
-use mathlib.Core.Path.{_≡_, refl, sym, ap, _∙_}
-use mathlib.Core.List.{List, []}
+use mathlib.Core.Path.{_≡_, ap}
+use mathlib.Core.List.{[]}
 use Prim.Native.Nat.{ℕ, _+_, _-_, _*_, _/_, _≤_, _<_}
 use native.Mathlib.Nat.{mul-le-mul}
 use native.Mathlib.Omega.{arith}
-use lib.Dec.{eqb, leb}
 use borrow.Author.Tests.{eq-eqb, ne-eqb, le-leb, lt-leb}
-use Rattle.codes_writers.specs.Edges.{Ends}
 use Rattle.codes_writers.proofs.Wrote.{row-room}
 use Rattle.codes_planar.specs.Planar.{rowEdges, planarLayer, planarGap}
 use Rattle.codes_circuit.specs.Circuit.{circuitGap}

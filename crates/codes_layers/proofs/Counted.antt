@@ -1,22 +1,21 @@
 -- The lists of edges and vertices are as long as document 01's formulas say. Assumes nothing.
-use mathlib.Core.Path.{_≡_, refl, sym, ap, _∙_, subst}
-use mathlib.Core.Bool.{Bool, true, false, cond, _&&_}
-use mathlib.Core.Logic.{_⊎_, inl, inr}
-use mathlib.Core.List.{List, [], _∷_, _++_}
+use mathlib.Core.Path.{_≡_, sym, ap, _∙_}
+use mathlib.Core.Bool.{true, false}
+use mathlib.Core.List.{List, _++_}
 use Prim.Native.Nat.{ℕ, _+_, _-_, _*_, _/_, _%_, _≤_, _<_}
-use native.Mathlib.Nat.{mul-add, add-mul, mul-assoc, mul-comm, zero-mul, le-refl}
+use native.Mathlib.Nat.{mul-add, add-mul, mul-assoc, mul-comm, le-refl}
 use native.Mathlib.Decide.{ℕ-discrete, decLe}
 use native.Mathlib.Omega.{arith}
 use lib.ListN.{length, length-append}
-use lib.Dec.{eqb, leb, ltb}
+use lib.Dec.{ltb}
 use borrow.Author.Tests.{eq-eqb, ne-eqb, le-leb, lt-leb, lt-ltb, le-ltb}
-use Rattle.columns.specs.Lists.{each, joined, layered, when}
+use Rattle.columns.specs.Lists.{joined, layered}
 use Rattle.columns.proofs.Counting.{length-each, length-joined, joined-more, times-next}
 use Rattle.codes_writers.specs.Edges.{Ends, straightEdges, straightRows}
 use Rattle.codes_planar.specs.Planar.{planarSize, rowEdges, planarRow, planarLayer, planarGap}
 use Rattle.codes_circuit.specs.Circuit.{circuitCell, circuitRow, circuitGap}
-use Rattle.codes_rotated.specs.Rotated.{rotatedWidth, rotatedSize, rotatedEdge, rotatedRow, rotatedLayer, rotatedGap}
-use Rattle.codes_layers.specs.Codes.{layerSize, layerEdges, gapEdges, edgesOf, verticesOf, layerVertices}
+use Rattle.codes_rotated.specs.Rotated.{rotatedWidth, rotatedSize, rotatedRow, rotatedLayer, rotatedGap}
+use Rattle.codes_layers.specs.Codes.{layerSize, layerEdges, gapEdges, edgesOf, verticesOf}
 use Rattle.codes_layers.specs.Counts.{layerVertexNum, vertexNum, layerEdgeNum, gapEdgeNum, edgeNum}
 use Rattle.codes_layers.proofs.ByKind.{one-row, planar-rows, rotated-rows, one-layer, planar-layers, rotated-layers, planar-gaps, circuit-gaps, rotated-gaps, no-gaps, layers-counted}
 

@@ -3,7 +3,6 @@ ghost use mathlib.Core.Path.{_≡_};
 ghost use mathlib.Core.Bool.{cond};
 ghost use Prim.Native.Nat.{_+_, _*_, _≤_, _<_};
 ghost use lib.Dec.{eqb};
-ghost use lib.ListN.{length};
 ghost use Rattle.columns.specs.Lists.{each};
 ghost use Rattle.columns.specs.Places.{zeroFloat};
 ghost use Rattle.codes_writers.specs.Steps.{VertexRoom, Placed};

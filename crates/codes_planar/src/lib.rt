@@ -2,7 +2,6 @@
 ghost use mathlib.Core.Path.{_≡_};
 ghost use mathlib.Core.Bool.{cond};
 ghost use Prim.Native.Nat.{_+_, _-_, _*_, _≤_, _<_};
-ghost use lib.ListN.{length};
 ghost use lib.Dec.{ltb};
 ghost use Rattle.codes_writers.specs.Steps.{Room, Wrote};
 ghost use Rattle.codes_planar.specs.Planar.{planarSize, rowEdges, planarRow, planarLayer, planarBoundary, planarAcross, flatVertex, deepVertex};

@@ -3,12 +3,12 @@ use mathlib.Core.Path.{_≡_, refl, sym, ap, _∙_, subst}
 use Prim.Native.Nat.{ℕ, zero, suc, _+_, _-_, _*_, _≤_, _<_}
 use native.Mathlib.Nat.{add-zero, le-antisymm}
 use native.Mathlib.Omega.{arith}
-use mathlib.Core.List.{List, [], _∷_, _++_, map}
-use lib.ListN.{length, length-append}
-use lib.Seq.{sets, length-sets}
+use mathlib.Core.List.{List, [], _∷_, _++_}
+use lib.ListN.{length}
+use lib.Seq.{length-sets}
 use lib.Ieee.{Float}
 use Rattle.columns.specs.Lists.{each, joined}
-use Rattle.columns.proofs.Counting.{each-more, joined-more, length-each, joined-room}
+use Rattle.columns.proofs.Counting.{each-more, joined-more}
 use Rattle.codes_writers.specs.declared.CodeVertex.{CodeVertex}
 use Rattle.codes_writers.specs.Edges.{boundaries, positionsI, positionsJ, positionsT}
 use Rattle.codes_writers.specs.Steps.{VertexRoom, Placed}

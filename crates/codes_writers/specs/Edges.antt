@@ -4,7 +4,6 @@ use mathlib.Core.List.{List, map}
 use lib.IntN.{pos}
 use lib.Ieee.{Float, binary64, ofInt}
 use Rattle.columns.specs.Lists.{each, joined}
-use Rattle.columns.specs.declared.VisualizePosition.{VisualizePosition}
 use Rattle.codes_writers.specs.declared.CodeVertex.{CodeVertex}
 
 -- an edge by its two ends

@@ -1,14 +1,14 @@
 -- Laws of runs of stores (`sets`) and of a column afterwards (`over`, `after`). Assumes nothing.
-use mathlib.Core.Path.{_≡_, refl, sym, ap, _∙_, subst}
+use mathlib.Core.Path.{_≡_, refl, sym, ap, _∙_}
 use Prim.Native.Nat.{ℕ, zero, suc, _+_, _-_, _≤_, _<_, min}
 use native.Mathlib.Nat.{add-zero, add-suc, suc-add, zero-add}
 use native.Mathlib.Decide.{decLe}
 use native.Mathlib.Numerals.{add-one}
 use native.Mathlib.Omega.{arith}
 use mathlib.Core.List.{List, [], _∷_, _++_}
-use lib.ListN.{length, set, getD, take, drop, replicate, length-append, length-replicate, length-set, length-drop, length-take, drop-of-length-le, replicate-append-replicate, List·getD-append}
+use lib.ListN.{length, set, getD, take, drop, replicate, length-append, length-replicate, length-set, length-drop, length-take, replicate-append-replicate, List·getD-append}
 use borrow.Author.Tests.{ne-eqb}
-use lib.Seq.{sets, length-sets, sets-eq, set-out, take-suc, take-all, drop-length, getD-drop, getD-append-add, take-at, drop-at}
+use lib.Seq.{sets, length-sets, sets-eq, set-out, take-suc, take-all, getD-drop, getD-append-add, take-at, drop-at}
 use Rattle.columns.specs.Lists.{over, after}
 
 rest : (n i : ℕ) → i ≤ n → n ≡ i + (n - i)

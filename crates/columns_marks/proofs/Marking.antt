@@ -6,16 +6,15 @@ use Prim.Native.Nat.{ℕ, zero, suc, _+_, _≤_, _<_}
 use native.Mathlib.Decide.{ℕ-discrete}
 use native.Mathlib.Numerals.{add-one}
 use native.Mathlib.Omega.{arith}
-use lib.ListN.{length, getD, set, take, drop, replicate, length-append, length-drop, length-replicate, length-set, getD-replicate, List·getD-append, take-append-drop}
+use lib.ListN.{length, getD, set, take, drop, replicate, length-replicate, length-set, getD-replicate, List·getD-append, take-append-drop}
 use lib.Seq.{sets, length-sets, take-suc, getD-set-same, getD-set-other, drop-set-lt, drop-at}
 use lib.Dec.{eqb}
 use borrow.Author.Tests.{eq-eqb, ne-eqb}
 use Rattle.columns.specs.Lists.{each, over}
 use Rattle.columns.proofs.Columns.{sets-over}
-use Rattle.columns.proofs.Counting.{length-each, getD-each}
-use Rattle.columns_neighbors.specs.Lists.{chosen}
+use Rattle.columns.proofs.Counting.{length-each}
 use Rattle.columns_neighbors.proofs.Placing.{each-places}
-use Rattle.columns_marks.specs.Marks.{names, marks, listed, isSet}
+use Rattle.columns_marks.specs.Marks.{names, marks}
 
 or-false : (b : Bool) → (b || false) ≡ b
 or-false true = refl

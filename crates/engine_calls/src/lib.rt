@@ -1,6 +1,5 @@
 // The changes of an engine graph's weights: open, load erasures, load weights, reset.
-ghost use mathlib.Core.Path.{_≡_};
-ghost use Rattle.engine_columns.specs.Records.{engine, kept, counts};
+ghost use Rattle.engine_columns.specs.Records.{engine, kept};
 ghost use Rattle.engine_columns.specs.Step.{Step, loadErasures, loadWeights, reset};
 ghost use Rattle.engine_columns.specs.Open.{OpenStep, graphColumns};
 use columns::Weight;

@@ -1,14 +1,13 @@
 -- What the number 0 says of the columns, and a step from its parts. Assumes nothing.
 use mathlib.Core.Path.{_≡_, refl, sym, ap, _∙_}
 use mathlib.Core.Bool.{Bool, true, false, _&&_, cond}
-use mathlib.Core.List.{List, [], _∷_}
+use mathlib.Core.List.{List}
 use Prim.Native.Nat.{ℕ, zero, suc, _+_, _≤_, _<_}
 use native.Mathlib.Omega.{arith}
-use borrow.Author.Tests.{leb-true, le-leb, eqb-true, eq-eqb, ne-eqb}
+use borrow.Author.Tests.{leb-true, le-leb, eqb-true, ne-eqb}
 use lib.ListN.{length, getD, take}
 use lib.Dec.{leb, eqb}
 use Rattle.columns.specs.Limits.{weightLimit}
-use Rattle.columns.specs.Lists.{after}
 use Rattle.columns.specs.Questions.{ask, allBelow, allWithin, weightsSound, boundariesSound}
 use Rattle.columns.proofs.Tests.{and-both, both-and, below-at, below-first}
 use Rattle.columns_answers.proofs.Said.{accepts-of, refuses-of}
@@ -18,8 +17,8 @@ use Rattle.engine_columns.specs.declared.EngineAnswer.{EngineAnswer}
 use Rattle.engine_columns.specs.declared.EngineAnswer.the-variants.{Counts, Refused}
 use Rattle.engine_columns.specs.Records.{Engine, engine, counts}
 use Rattle.engine_columns.specs.Questions.{columnsLong, engineLong, columnsSound, engineSound}
-use Rattle.engine_columns.specs.Step.{Call, loadErasures, loadWeights, reset, engineRefusal, changed, Step}
-use Rattle.engine_columns.specs.Open.{GraphColumns, openRefusal, OpenStep}
+use Rattle.engine_columns.specs.Step.{Call, loadWeights, reset, engineRefusal, changed, Step}
+use Rattle.engine_columns.specs.Open.{GraphColumns, openRefusal}
 
 -- a question that did not stop the call
 pub met-of : (b : Bool) (n next : ℕ) → 0 < n → ask b n next ≡ 0 → b ≡ true

@@ -1,14 +1,14 @@
 -- Laws of loads, of the log and of undoing it. Assumes nothing.
-use mathlib.Core.Path.{_≡_, refl, sym, ap, _∙_}
+use mathlib.Core.Path.{_≡_, refl, ap, _∙_}
 use mathlib.Core.Logic.{⊎-elim}
-use mathlib.Core.Bool.{Bool, true}
-use mathlib.Core.List.{List, [], _∷_}
+use mathlib.Core.Bool.{true}
+use mathlib.Core.List.{List}
 use Prim.Native.Nat.{ℕ, zero, suc, _-_, _≤_, _<_}
 use native.Mathlib.Nat.{le-of-suc-le-suc, not-suc-le-zero, eq-or-lt-of-le}
 use native.Mathlib.Decide.{ℕ-discrete}
 use native.Mathlib.Omega.{arith}
-use lib.ListN.{length, getD, take, set, length-set, length-take}
-use lib.Seq.{getD-set-same, getD-set-other, set-set, set-getD, set-out, take-set-lt, getD-take}
+use lib.ListN.{length, getD, take, set, length-set}
+use lib.Seq.{getD-set-same, getD-set-other, set-set, set-getD, take-set-lt}
 use Rattle.columns.specs.Questions.{allWithin}
 use Rattle.columns.proofs.Tests.{within-at, at-within}
 use Rattle.engine_log.specs.Load.{loaded, earlier, named, undone}

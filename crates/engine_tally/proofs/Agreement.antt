@@ -1,30 +1,29 @@
 -- What the columns have in common with the tally after every list of calls. Assumes nothing.
 use mathlib.Core.Path.{_≡_, refl, sym, ap, _∙_}
 use mathlib.Core.Bool.{Bool, true, false, cond}
-use mathlib.Core.List.{List, [], _∷_}
+use mathlib.Core.List.{List, []}
 use Prim.Native.Nat.{ℕ, zero, suc, _+_, _≤_, _<_}
 use native.Mathlib.Omega.{arith}
 use borrow.Author.Tests.{eqb-true}
-use lib.ListN.{length, getD, take, length-take, set}
-use lib.Seq.{getD-take, take-take}
-use lib.Dec.{leb, eqb}
+use lib.ListN.{length, getD, take, length-take}
+use lib.Seq.{getD-take}
+use lib.Dec.{eqb}
 use Rattle.columns.specs.Limits.{weightLimit}
-use Rattle.columns.specs.Lists.{over, after}
-use Rattle.columns.specs.Questions.{ask, allBelow, allWithin, weightsSound, boundariesSound}
-use Rattle.columns.proofs.Tests.{below-at, within-at, at-below, at-within, within-first}
+use Rattle.columns.specs.Lists.{over}
+use Rattle.columns.specs.Questions.{allBelow, allWithin}
+use Rattle.columns.proofs.Tests.{within-at, at-below, at-within, within-first}
 use Rattle.columns.proofs.Columns.{take-over, over-in, length-over, after-accepted}
-use Rattle.columns_neighbors.specs.Sound.{graphSound}
 use Rattle.columns_neighbors.proofs.Ends.{GraphSound, graph-says, says-graph}
 use Rattle.engine_columns.specs.declared.EngineCounts.{EngineCounts}
 use Rattle.engine_columns.specs.declared.EngineAnswer.{EngineAnswer}
 use Rattle.engine_columns.specs.Records.{Engine, engine, counts, said}
 use Rattle.engine_log.specs.Load.{loaded, earlier, named, undone, erased, given}
-use Rattle.engine_columns.specs.Questions.{columnsLong, engineLong, columnsSound, engineSound}
+use Rattle.engine_columns.specs.Questions.{columnsLong, engineLong, engineSound}
 use Rattle.engine_columns.specs.Step.{Call, loadErasures, loadWeights, reset, engineRefusal, changed, loadedBy, Step}
-use Rattle.engine_columns.specs.Open.{GraphColumns, graphColumns, openRefusal, OpenStep}
-use Rattle.engine_tally.specs.Tally.{Lengths, lengthsOf, Tally, tallyOf, tallyLong, tallyRefusal, withWeights, tallied, Fed, isAccepted, tallyStep, tallyAfter, tallyNumbers}
+use Rattle.engine_columns.specs.Open.{GraphColumns, openRefusal, OpenStep}
+use Rattle.engine_tally.specs.Tally.{lengthsOf, Tally, tallyOf, tallyLong, tallyRefusal, withWeights, tallied, tallyStep}
 use Rattle.engine_log.proofs.Loads.{loaded-length, named-length, earlier-length, undone-length, undo-load, take-loaded, within-loaded, named-at, earlier-at}
-use Rattle.engine_columns.proofs.Refusals.{ColumnsLong, Long, ColumnsSound, Sound, Opens, opens-of, long-of, long-from, sound-of, sound-from, Loads, loads-of, named-of, Weighed, weighed-of}
+use Rattle.engine_columns.proofs.Refusals.{Long, Sound, Opens, opens-of, sound-from, Loads, loads-of, named-of, Weighed, weighed-of}
 
 -- what holds of the columns after every list of calls
 pub record Agrees (t : Tally) (e : Engine) : Type 0 where

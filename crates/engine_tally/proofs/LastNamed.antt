@@ -1,20 +1,19 @@
 -- The tally's weight of an edge is the last one named. Assumes nothing.
 use mathlib.Core.Path.{_≡_, refl, sym, ap, _∙_, subst}
-use mathlib.Core.Bool.{Bool, true, false, cond}
+use mathlib.Core.Bool.{cond}
 use mathlib.Core.List.{List, [], _∷_}
 use Prim.Native.Nat.{ℕ, zero, suc, _+_, _≤_, _<_}
 use native.Mathlib.Decide.{ℕ-discrete}
 use native.Mathlib.Omega.{arith}
 use borrow.Author.Tests.{eqb-true, eq-eqb, ne-eqb}
-use lib.ListN.{length, getD, set, take, length-set, length-take}
+use lib.ListN.{length, getD, set, length-set}
 use lib.Seq.{getD-set-same, getD-set-other, getD-take, length-take-le}
 use lib.Dec.{eqb}
 use Rattle.columns.specs.Limits.{weightLimit}
 use Rattle.columns.specs.Questions.{ask, allBelow, allWithin}
 use Rattle.engine_log.specs.Load.{loaded, erased, given}
 use Rattle.engine_columns.specs.Step.{Call, loadErasures, loadWeights, reset}
-use Rattle.engine_columns.specs.Open.{GraphColumns}
-use Rattle.engine_tally.specs.Tally.{Tally, Lengths, Fed, tallyOf, tallyLong, tallyRefusal, tallied, isAccepted, tallyStep, tallyAfter, tallyNumbers}
+use Rattle.engine_tally.specs.Tally.{Tally, Lengths, Fed, tallyOf, tallyLong, tallyRefusal, tallied, tallyStep, tallyAfter, tallyNumbers}
 use Rattle.engine_tally.specs.Readers.{Word, weighs, opensAgain, nothing, lastOf, entrySays, erasuresSay, weightsSay, acceptedSays, callSays, callsSay, weightBy, WeighsLastNamed}
 use Rattle.engine_log.proofs.Loads.{loaded-length}
 use Rattle.engine_columns.proofs.Refusals.{met-of}

@@ -1,9 +1,8 @@
 -- The tally of document 01's "Engine": what a list of calls says by itself, from the calls' arguments and the lengths of the columns they are lent.
 use Prim.Native.Nat.{ℕ, zero, suc, _+_}
-use mathlib.Core.Bool.{Bool, true, false, cond, _&&_}
+use mathlib.Core.Bool.{Bool, cond, _&&_}
 use mathlib.Core.List.{List, [], _∷_}
-use mathlib.Core.Option.{Option, some, none}
-use lib.ListN.{length, take, getD}
+use lib.ListN.{length, take}
 use lib.Dec.{leb, eqb}
 use Rattle.columns.specs.Limits.{weightLimit}
 use Rattle.columns.specs.Questions.{ask, allBelow, allWithin}

@@ -1,7 +1,7 @@
 // The nearest virtual vertex in a table.
 ghost use mathlib.Core.Path.{_≡_};
 ghost use mathlib.Core.List.{List};
-ghost use Prim.Native.Nat.{ℕ, _+_, _<_, _≤_};
+ghost use Prim.Native.Nat.{ℕ, _+_, _<_};
 ghost use lib.ListN.{length, getD};
 ghost use Rattle.engine_walks.specs.Answers.{weightIn};
 ghost use Rattle.engine_walks.proofs.FirstLeast.{orElse};

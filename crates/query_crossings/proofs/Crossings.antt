@@ -6,12 +6,12 @@ use mathlib.Core.Option.{Option, some, none}
 use Prim.Native.Nat.{ℕ, _+_, _<_, _≤_}
 use native.Mathlib.Omega.{arith}
 use native.Mathlib.Decide.{decLt}
-use lib.ListN.{length, getD, take, List·getD-eq-default}
+use lib.ListN.{length, getD, List·getD-eq-default}
 use lib.Seq.{sets}
-use lib.Dec.{leb, ltb, eqb}
+use lib.Dec.{leb, eqb}
 use lib.IntN.{ℤ}
-use borrow.Author.Tests.{leb-true, lt-ltb, le-ltb, eq-eqb, ne-eqb}
-use Rattle.columns.specs.Lists.{each, after, over}
+use borrow.Author.Tests.{leb-true, le-ltb, eq-eqb, ne-eqb}
+use Rattle.columns.specs.Lists.{each, after}
 use Rattle.columns.specs.Questions.{ask}
 use Rattle.columns.proofs.Counting.{length-each, getD-each}
 use Rattle.columns.proofs.Columns.{sets-over}
@@ -23,10 +23,9 @@ use Rattle.engine_columns.specs.Questions.{engineLong, engineSound}
 use Rattle.engine_columns.proofs.Refusals.{Long, long-of, Sound, sound-of, met-of, next-of}
 use Rattle.engine_walks.specs.Lists.{bit, delta}
 use Rattle.engine_walks.specs.Graph.{Graph}
-use Rattle.engine_walks.specs.Settling.{State, weightAt, lesser, firstLeast, settled}
+use Rattle.engine_walks.specs.Settling.{State, weightAt, firstLeast, settled}
 use Rattle.engine_walks.specs.Answers.{isLeft, taken, tableWeight, weightOf, fromLeft, leastFromLeft, nearestRight, crossing}
 use Rattle.query_relaxing.specs.Ready.{graphOf, sources, endOf, sumLimit}
-use Rattle.query_crossing_answer.specs.declared.CrossingReply.{CrossingReply}
 use Rattle.query_crossing_answer.specs.declared.CrossingReply.the-variants.{Crossed, Refused}
 use Rattle.query_search.specs.Search.{Waiting, Searched}
 use Rattle.query_crossing_answer.specs.Crossing.{isJoined, weightFound, said, crossingAsked}

@@ -1,16 +1,15 @@
 -- The places of a tree of least keys: what a store changes, that one stale place is enough to say where a tree is not sound, and that place 1 is the least.
 -- Assumes nothing.
-use mathlib.Core.Path.{_≡_, refl, sym, ap, _∙_, subst}
+use mathlib.Core.Path.{_≡_, sym, ap, _∙_, subst}
 use mathlib.Core.List.{List}
 use mathlib.Core.Logic.{_≢_}
 use Prim.Native.Nat.{ℕ, zero, suc, _+_, _*_, _-_, _/_, _<_, _≤_, min}
 use native.Mathlib.Nat.{le-refl, le-trans, le-of-eq, min-le-left, min-le-right, min-eq-left, min-eq-right}
 use native.Mathlib.Omega.{arith}
 use borrow.Author.Tests.{lt-ltb, le-ltb}
-use lib.Dec.{ltb}
 use lib.ListN.{length, getD, set}
 use lib.Seq.{getD-set-same, getD-set-other}
-use Rattle.query_queue.specs.Tree.{placeOf, Inner, Tree, TreeBut, TreeRoom, Least, Same}
+use Rattle.query_queue.specs.Tree.{placeOf, Inner, Tree, TreeBut, Least, Same}
 use Rattle.query_queue.proofs.Cases.{by-lt, by-eq}
 
 pub inner-is : (node leaf : List ℕ) (n j : ℕ) → j < n → placeOf node leaf n j ≡ getD node j 0

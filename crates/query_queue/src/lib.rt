@@ -1,7 +1,7 @@
 // A tree of least keys over the numbers below n, in two lent columns.
 ghost use mathlib.Core.Path.{_≡_};
-ghost use Prim.Native.Nat.{ℕ, _+_, _*_, _<_, _≤_, min};
-ghost use lib.ListN.{length, getD, set};
+ghost use Prim.Native.Nat.{_+_, _*_, _<_, _≤_, min};
+ghost use lib.ListN.{length, set};
 ghost use Rattle.query_queue.specs.Tree.{placeOf, Tree, TreeBut, TreeRoom, Least, Same};
 
 pub fn lesser(a: u64, b: u64) -> u64

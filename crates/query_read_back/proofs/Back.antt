@@ -1,18 +1,17 @@
 -- Reading a path back, step by step. Assumes nothing.
-use mathlib.Core.Path.{_≡_, refl, sym, ap, _∙_, subst}
+use mathlib.Core.Path.{_≡_, refl, sym, ap, _∙_}
 use mathlib.Core.Bool.{Bool, true, false, cond}
 use mathlib.Core.List.{List, [], _∷_, _++_, map, append-assoc, append-nil}
 use mathlib.Core.Option.{Option, some, none}
 use Prim.Native.Nat.{ℕ, zero, suc, _+_, _-_, _<_, _≤_}
 use native.Mathlib.Omega.{arith}
-use lib.ListN.{length, getD, set, take, drop, length-append}
-use lib.Seq.{sets, drop-cons, take-suc, set-comm}
+use lib.ListN.{length, set, length-append}
+use lib.Seq.{sets, set-comm}
 use lib.Dec.{eqb}
 use Rattle.columns.specs.declared.VertexIndex.{VertexIndex}
 use Rattle.engine_walks.specs.Graph.{Graph}
-use Rattle.engine_walks.specs.Settling.{State, statusAt, previousAt, settled}
+use Rattle.engine_walks.specs.Settling.{State, previousAt, settled}
 use Rattle.engine_walks.specs.Answers.{entry, behind, readBack, taken, stepInto, only, path, pathIn}
-use Rattle.query_read_back.specs.declared.TableEntry.{TableEntry}
 use Rattle.query_read_back.specs.declared.TableEntry.the-variants.{Previous, None}
 use Rattle.query_read_back.specs.Path.{entryOf, stepBack, Written, pathOf}
 

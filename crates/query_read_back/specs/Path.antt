@@ -7,7 +7,6 @@ use Prim.Native.Nat.{ℕ}
 use lib.ListN.{length}
 use lib.Seq.{sets}
 use lib.Dec.{eqb}
-use Rattle.columns.specs.declared.VertexIndex.{VertexIndex}
 use Rattle.engine_walks.specs.Settling.{State, weightAt}
 use Rattle.engine_walks.specs.Answers.{entry, readBack, stepInto, taken, FoundPath}
 use Rattle.query_read_back.specs.declared.TableEntry.{TableEntry}

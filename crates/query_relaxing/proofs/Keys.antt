@@ -1,5 +1,5 @@
 -- The columns stay ready: a vertex waits, a vertex is taken. Assumes nothing.
-use mathlib.Core.Path.{_≡_, refl, sym, ap, ap₂, _∙_, subst}
+use mathlib.Core.Path.{_≡_, refl, sym, ap, _∙_, subst}
 use mathlib.Core.Logic.{_⊎_, inl, inr, ⊎-elim}
 use mathlib.Core.Bool.{Bool, true, false, cond}
 use mathlib.Core.List.{List}
@@ -15,7 +15,7 @@ use Rattle.query_queue.specs.Tree as Q
 use Rattle.engine_walks.specs.Graph.{Graph, endA, endB}
 use Rattle.engine_walks.specs.Settling.{State, statusAt, weightAt, previousAt, changes, waits, mark, byStatus, offer, relaxEdge}
 use Rattle.engine_walks.proofs.TurnCases.{edge-from-a, edge-from-b}
-use Rattle.query_relaxing.specs.Ready.{keyOf, takesUp, Ready, Listed, sumLimit, graphOf, weighs}
+use Rattle.query_relaxing.specs.Ready.{keyOf, takesUp, Ready, Listed, sumLimit}
 
 -- a store into one place, read at any place
 stored : (l : List ℕ) (u x v : ℕ) → u < length l → ((v ≡ u) × (getD (set l u x) v 0 ≡ x)) ⊎ ((v ≡ u → ⊥) × (getD (set l u x) v 0 ≡ getD l v 0))

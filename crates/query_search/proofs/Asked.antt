@@ -1,16 +1,14 @@
 -- What an accepted query says of its columns. Assumes nothing.
 use mathlib.Core.Path.{_≡_, sym, _∙_, subst}
-use mathlib.Core.Logic.{_≢_}
-use mathlib.Core.Bool.{Bool, true, false, _&&_}
+use mathlib.Core.Bool.{Bool, true, _&&_}
 use mathlib.Core.List.{List}
 use Prim.Native.Nat.{ℕ, _+_, _*_, _<_, _≤_}
 use native.Mathlib.Omega.{arith}
 use lib.ListN.{length, getD, take, length-take}
 use lib.Seq.{getD-take, length-take-le}
-use lib.Dec.{leb, ltb}
-use borrow.Author.Tests.{leb-true, ltb-true}
+use lib.Dec.{leb}
+use borrow.Author.Tests.{leb-true}
 use Rattle.columns.specs.Limits.{weightLimit}
-use Rattle.columns.specs.Lists.{over, after}
 use Rattle.columns.specs.Questions.{ask}
 use Rattle.columns.proofs.Tests.{and-both, within-at}
 use Rattle.columns_neighbors.proofs.Ends.{GraphSound, graph-says}

@@ -1,11 +1,11 @@
 -- The state before the first turn: keys and columns. Assumes nothing.
-use mathlib.Core.Path.{_≡_, refl, sym, ap, _∙_, subst}
+use mathlib.Core.Path.{_≡_, refl, sym, ap, _∙_}
 use mathlib.Core.Bool.{Bool, true, false, cond}
 use mathlib.Core.List.{List}
 use Prim.Native.Nat.{ℕ, zero, suc, _+_, _*_, _<_, _≤_}
 use native.Mathlib.Decide.{ℕ-discrete, decLt}
 use native.Mathlib.Omega.{arith}
-use lib.ListN.{length, getD, set, length-set}
+use lib.ListN.{length, getD, set}
 use lib.Seq.{getD-set-same, getD-set-other}
 use lib.Dec.{eqb, ltb}
 use borrow.Author.Tests.{lt-ltb, le-ltb}
@@ -13,8 +13,7 @@ use Rattle.columns.specs.Lists.{each}
 use Rattle.columns.proofs.Counting.{length-each, getD-each}
 use Rattle.query_queue.specs.Tree.{Tree, Same}
 use Rattle.query_queue.specs.Tree as Q
-use Rattle.engine_walks.specs.Settling.{statusAt, weightAt}
-use Rattle.query_relaxing.specs.Ready.{keyOf, stateOf, Ready, Keyed, sumLimit}
+use Rattle.query_relaxing.specs.Ready.{keyOf, stateOf, Ready, Keyed}
 
 module _ (status : List ℕ) where
   -- no key at first

@@ -1,9 +1,9 @@
 -- The neighbour lists that a search goes through. Assumes nothing.
-use mathlib.Core.Path.{_≡_, refl, sym, ap, _∙_, subst}
+use mathlib.Core.Path.{_≡_, refl, ap, _∙_, subst}
 use mathlib.Core.List.{List}
 use Prim.Native.Nat.{ℕ, _+_, _*_, _<_, _≤_}
 use native.Mathlib.Omega.{arith}
-use lib.ListN.{length, getD, take}
+use lib.ListN.{length, take}
 use Rattle.columns.proofs.Columns.{take-over}
 use Rattle.columns_neighbors.specs.Lists.{lists, ListsFilled}
 use Rattle.engine_walks.specs.Settling.{State}

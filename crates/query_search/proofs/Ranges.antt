@@ -1,12 +1,11 @@
 -- An accepted engine graph is a graph of `engine_walks`. Assumes nothing.
-use mathlib.Core.List.{List}
 use Prim.Native.Nat.{ℕ, _<_, _≤_}
 use native.Mathlib.Omega.{arith}
-use lib.ListN.{length, getD, take}
+use lib.ListN.{take}
 use lib.Seq.{getD-take, length-take-le}
 use Rattle.columns.specs.Limits.{boundaryLimit}
 use Rattle.columns.proofs.Tests.{within-at}
-use Rattle.columns_neighbors.proofs.Ends.{GraphSound, graph-says}
+use Rattle.columns_neighbors.proofs.Ends.{graph-says}
 use Rattle.engine_columns.specs.Records.{Engine}
 use Rattle.engine_columns.proofs.Refusals.{Long, Sound}
 use Rattle.engine_walks.specs.Graph.{GraphInRange}

@@ -1,15 +1,15 @@
 -- The vertex that a turn takes, by the least key, and the edges that it goes through, by its neighbour list. Assumes nothing.
 use mathlib.Core.Path.{_≡_, refl, sym, ap, _∙_, subst}
-use mathlib.Core.Logic.{_⊎_, ⊎-elim, _≢_}
-use mathlib.Core.Bool.{Bool, true, false, cond}
-use mathlib.Core.List.{List, [], _∷_, _++_}
-use mathlib.Core.Option.{Option, some, none}
+use mathlib.Core.Logic.{_≢_}
+use mathlib.Core.Bool.{cond}
+use mathlib.Core.List.{List}
+use mathlib.Core.Option.{some, none}
 use Prim.Native.Nat.{ℕ, zero, suc, _+_, _*_, _-_, _%_, _<_, _≤_}
 use native.Mathlib.Decide.{ℕ-discrete}
 use native.Mathlib.Numerals.{add-one}
 use native.Mathlib.Omega.{arith}
-use lib.ListN.{length, getD, take, drop, length-take, length-drop}
-use lib.Seq.{getD-take, getD-drop, take-append-le}
+use lib.ListN.{length, getD, take, drop, length-drop}
+use lib.Seq.{getD-take, getD-drop}
 use lib.Dec.{eqb}
 use borrow.Author.Tests.{eq-eqb, ne-eqb, eqb-true}
 use Rattle.columns.specs.Lists.{joined}
@@ -17,9 +17,9 @@ use Rattle.query_queue.specs.Tree.{Least}
 use Rattle.query_queue.specs.Tree as Q
 use Rattle.columns_neighbors.specs.Lists.{lists, neighbours, hits}
 use Rattle.columns_neighbors.proofs.Placing.{list-of, lists-more, lists-count, apart, neighbours-at, EdgeOf}
-use Rattle.engine_walks.specs.Graph.{Graph, edges, endA, endB}
+use Rattle.engine_walks.specs.Graph.{Graph}
 use Rattle.engine_walks.specs.Settling as S
-use Rattle.engine_walks.specs.Settling.{State, statusAt, weightAt, previousAt, toTake, mark, relax, relaxEdge, takeChosen}
+use Rattle.engine_walks.specs.Settling.{State, statusAt, weightAt, previousAt, toTake, mark, relaxEdge, takeChosen}
 use Rattle.engine_walks.proofs.FirstLeast.{first-least-one}
 use Rattle.engine_walks.proofs.Neighbours.{incident, incident-is, relaxAlong, along-next, relax-incident}
 use Rattle.query_relaxing.specs.Ready.{keyOf, Ready, Listed, Along, Offers, sumLimit, graphOf, weighs, startIn}

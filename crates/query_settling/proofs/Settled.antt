@@ -1,6 +1,5 @@
 -- The loop of turns: where it begins, that its sums fit, and where it ends. Assumes nothing.
-use mathlib.Core.Path.{_≡_, refl, sym, ap, _∙_, subst}
-use mathlib.Core.Logic.{_≢_}
+use mathlib.Core.Path.{_≡_, refl, sym, ap, _∙_}
 use mathlib.Core.Bool.{Bool, true, false, not, cond, _&&_}
 use mathlib.Core.List.{List, []}
 use mathlib.Core.Option.{Option, some, none}
@@ -13,11 +12,11 @@ use borrow.Author.Tests.{ne-eqb, lt-ltb, le-ltb}
 use Rattle.columns.specs.Lists.{each}
 use Rattle.columns.proofs.Counting.{each-getD, each-same}
 use Rattle.engine_walks.specs.Lists.{bit}
-use Rattle.engine_walks.specs.Graph.{Graph, GraphInRange}
+use Rattle.engine_walks.specs.Graph.{GraphInRange}
 use Rattle.engine_walks.specs.Settling.{State, statusAt, weightAt, start, stopped, toTake, takeChosen, next, settle, settled}
 use Rattle.engine_walks.proofs.Limits.{sums-fit}
 use Rattle.engine_walks.proofs.TurnCases.{settle-next, next-stopped, next-none, settled-early}
-use Rattle.query_relaxing.specs.Ready.{graphOf, weighs, stateOf, sources, endOf, Listed, Offers, Begun, sumLimit}
+use Rattle.query_relaxing.specs.Ready.{graphOf, weighs, stateOf, sources, endOf, Listed, Offers, Begun}
 
 module _ (n : ℕ) (a b w status weight previous : List ℕ) (stop : ℕ) (len : length status ≡ n) (begun : Begun status weight previous w stop) where
   abbrev source : ℕ → Bool

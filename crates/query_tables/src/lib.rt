@@ -1,22 +1,17 @@
 // Queries of the engine graph: the table of least weights and previous vertices.
 ghost use mathlib.Core.Path.{_≡_};
-ghost use mathlib.Core.Bool.{cond, _&&_};
 ghost use mathlib.Core.List.{List};
 ghost use Prim.Native.Nat.{ℕ, _<_, _≤_};
-ghost use lib.ListN.{length, getD};
+ghost use lib.ListN.{length};
 ghost use lib.Seq.{sets};
-ghost use lib.Dec.{eqb, ltb, leb};
-ghost use lib.IntN.{pos, negsuc};
-ghost use Rattle.columns.specs.Lists.{each};
 ghost use Rattle.engine_columns.specs.Records.{engine};
-ghost use Rattle.engine_walks.specs.Settling.{settled};
-ghost use Rattle.engine_walks.specs.Answers.{table, tableWeight, tablePrevious};
-ghost use Rattle.query_relaxing.specs.Ready.{graphOf, weighs, stateOf, Ready, sources, endOf, sumLimit};
-ghost use Rattle.query_questions.specs.Queries.{scratchLong, queryRefusal};
-ghost use Rattle.query_tables.specs.Ends.{endInRange, endIn, stopOf};
+ghost use Rattle.engine_walks.specs.Answers.{table};
+ghost use Rattle.query_relaxing.specs.Ready.{graphOf, weighs, endOf};
+ghost use Rattle.query_questions.specs.Queries.{scratchLong};
+ghost use Rattle.query_tables.specs.Ends.{endInRange, stopOf};
 ghost use Rattle.query_tables.specs.Steps.{TableStep};
 ghost use Rattle.query_questions.specs.Scratch.{ScratchKept, scratchOf};
-ghost use Rattle.query_search.specs.Search.{Searchable, Waiting};
+ghost use Rattle.query_search.specs.Search.{Searchable};
 use columns::Done;
 use columns::VertexIndex;
 use columns::Weight;

@@ -1,16 +1,15 @@
 -- What an accepted call says of its columns, and what a call answers and leaves, accepted and refused. Assumes nothing.
-use mathlib.Core.Path.{_≡_, refl, sym, ap, _∙_, subst}
-use mathlib.Core.Bool.{Bool, true, false, _&&_, cond}
+use mathlib.Core.Path.{_≡_, refl, sym, ap, _∙_}
+use mathlib.Core.Bool.{Bool, true, _&&_}
 use mathlib.Core.List.{List}
 use Prim.Native.Nat.{ℕ, _*_, _≤_, _<_}
 use native.Mathlib.Omega.{arith}
 use lib.ListN.{length, getD, take}
-use lib.Ieee.{Float}
 use Rattle.columns.specs.Places.{zeroFloat}
 use lib.Dec.{leb, eqb}
 use borrow.Author.Tests.{leb-true, le-leb, lt-leb, eqb-true, eq-eqb, ne-eqb}
 use Rattle.columns.specs.Limits.{vertexLimit}
-use Rattle.columns.specs.Lists.{over, after}
+use Rattle.columns.specs.Lists.{over}
 use Rattle.columns.specs.Questions.{ask, allBelow, marksSound}
 use Rattle.columns.specs.Answers.{done}
 use Rattle.columns_answers.proofs.Said.{accepts-of, refuses-of}
@@ -20,7 +19,6 @@ use Rattle.columns.specs.declared.Done.the-variants as done-is
 use Rattle.columns.proofs.Columns.{after-accepted, after-refused}
 use Rattle.columns.proofs.Tests.{and-both, below-at}
 use Rattle.columns.proofs.Refusals.{met, goes-on, asks}
-use Rattle.reorder_calls.specs.declared.TranslatedAnswer.{TranslatedAnswer}
 use Rattle.reorder_calls.specs.declared.TranslatedAnswer.the-variants.{Count, Refused}
 use Rattle.reorder_orders.specs.Order.{noneTwice, oldToNew, renamed, moved}
 use Rattle.reorder_calls.specs.Numbers.{buildRefusal, BuiltOldToNew, translateRefusal, TranslatedDefects}

@@ -1,25 +1,22 @@
 -- Laws of moved neighbour lists. Assumes nothing.
-use mathlib.Core.Path.{_≡_, refl, sym, ap, _∙_, subst}
-use mathlib.Core.List.{List, [], _∷_, _++_, map}
+use mathlib.Core.Path.{_≡_, refl, sym, ap, _∙_}
+use mathlib.Core.List.{List, [], _∷_, _++_}
 use Prim.Native.Nat.{ℕ, zero, suc, _+_, _-_, _≤_, _<_, min}
 use native.Mathlib.Nat.{add-zero, add-suc, zero-add}
 use native.Mathlib.Decide.{ℕ-discrete, decLe}
 use native.Mathlib.Numerals.{add-one}
 use native.Mathlib.Omega.{arith}
-use lib.ListN.{length, getD, set, take, drop, length-set, length-take, length-drop, length-append, List·getD-eq-default}
-use lib.Seq.{sets, length-sets, length-take-le, take-suc, take-length, getD-take, getD-drop, getD-set-same, getD-set-other, ext-getD}
-use borrow.Author.Tests.{le-leb, lt-leb}
+use lib.ListN.{length, getD, set, take, drop, length-take, length-drop, length-append, List·getD-eq-default}
+use lib.Seq.{sets, length-take-le, take-suc, take-length, getD-take, getD-drop, getD-set-same, getD-set-other, ext-getD}
 use Rattle.columns.specs.Lists.{joined, over}
-use Rattle.columns.proofs.Columns.{sets-append, sets-over, over-in}
+use Rattle.columns.proofs.Columns.{sets-append, sets-over}
 use Rattle.columns.proofs.Counting.{joined-more, joined-same, joined-room}
 use Rattle.columns_neighbors.specs.Steps.{sumTo}
 use Rattle.columns_neighbors.proofs.Placing.{sum-more, sum-ascends}
-use Rattle.reorder_orders.specs.Order.{moved}
 use Rattle.reorder_columns.proofs.Copies.{length-copied, copied-at}
 use Rattle.reorder_calls.specs.Columns.{listAt, movedLists}
 use Rattle.reorder_orders.specs.Steps.{IsOrder}
 use Rattle.reorder_orders.proofs.Permutation.{total, along, along-order, order-below}
-use Rattle.reorder_orders.proofs.Gathering.{map-listed}
 
 -- ---- sums of lengths
 

@@ -2,7 +2,7 @@
 use mathlib.Core.Path.{_≡_, refl, sym, ap, _∙_, subst}
 use mathlib.Core.Logic.{⊎-elim, _⊎_, inl, inr, _↔_}
 use mathlib.Core.Bool.{Bool, true, false, _&&_, cond}
-use mathlib.Core.List.{List, [], _∷_, _++_, map, List·Memᴰ, List·Memᴰ·not-nil, List·Memᴰ·append-cases, List·Memᴰ·eq-of-singleton, List·Memᴰ·head, Memᴰ·cast, Memᴰ·append-left, Memᴰ·append-right, Memᴰ·map, Memᴰ·of-map}
+use mathlib.Core.List.{List, [], _∷_, map, List·Memᴰ, List·Memᴰ·not-nil, List·Memᴰ·append-cases, List·Memᴰ·eq-of-singleton, List·Memᴰ·head, Memᴰ·cast, Memᴰ·append-left, Memᴰ·append-right, Memᴰ·map, Memᴰ·of-map}
 use Prim.Native.Nat.{ℕ, zero, suc, _+_, _%_, _≤_, _<_}
 use native.Mathlib.Decide.{ℕ-discrete}
 use native.Mathlib.Omega.{arith}
@@ -11,19 +11,16 @@ use lib.Seq.{getD-take, length-take-le}
 use lib.Dec.{eqb}
 use borrow.Author.Tests.{eq-eqb, ne-eqb}
 use Rattle.columns.specs.Lists.{joined, when, over}
-use Rattle.columns.specs.Questions.{allWithin, boundariesSound, marksSound}
+use Rattle.columns.specs.Questions.{allWithin}
 use Rattle.columns_answers.specs.Done.{said}
 use Rattle.columns.specs.declared.Done.{Done}
 use Rattle.columns.proofs.Columns.{getD-any, after-accepted, over-in, length-over}
 use Rattle.columns.proofs.Tests.{both-and, within-first, at-within}
 use Rattle.columns_neighbors.specs.Lists.{chosen}
-use Rattle.columns_neighbors.specs.Sound.{graphSound}
-use Rattle.columns_pairs.proofs.PairTests.{OnePair}
 use Rattle.columns_neighbors.proofs.Ends.{GraphSound, says-graph}
-use Rattle.engine_walks.specs.Graph.{Graph, edges, endA, endB, Joins, Walk, stay, step}
+use Rattle.engine_walks.specs.Graph.{Graph, endA, endB, Joins, Walk, stay, step}
 use Rattle.sampling_calls.specs.Records.{CodeGraph, codeGraph, codeSound}
 use Rattle.sampling_calls.specs.Syndrome.{hit, endsIn, isDefectOf, syndromeOf}
-use Rattle.sampling_calls.proofs.Accepting.{CodeSound}
 use Rattle.reorder_orders.specs.Order.{newNumber, renamed, moved}
 use Rattle.reorder_calls.specs.Columns.{ReorderColumns, reorderSound, reorderRefusal, ReorderedVertices}
 use Rattle.reorder_orders.specs.Steps.{IsOrder}

@@ -9,8 +9,8 @@ ghost use Rattle.columns_neighbors.specs.Steps.{sumTo};
 ghost use Rattle.reorder_calls.specs.Columns.{movedLists};
 ghost use Rattle.reorder_orders.specs.Steps.{IsOrder};
 use columns::questions::lesser;
-use columns_stores::copy_u32;
 use columns::wide;
+use columns_stores::copy_u32;
 
 // Whether the first n lengths, or all where there are fewer, sum to at most the limit.
 pub fn sum_within(lengths: &[u32], n: usize, limit: usize) -> bool

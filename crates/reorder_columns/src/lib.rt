@@ -7,11 +7,11 @@ ghost use Rattle.columns.specs.Places.{zeroFloat};
 ghost use Rattle.reorder_orders.specs.Order.{moved};
 ghost use Rattle.reorder_orders.specs.Steps.{IsOrder};
 use columns::VisualizePosition;
+use columns::wide;
 use columns_stores::copy_f64;
 use columns_stores::copy_u8;
 use columns_stores::copy_u32;
 use reorder_orders::gather_u32;
-use columns::wide;
 
 // Stores the byte that stands at each listed place.
 fn gather_u8(list: &[u32], from: &[u8], to: &mut [u8])

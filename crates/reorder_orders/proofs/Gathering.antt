@@ -7,7 +7,7 @@ use native.Mathlib.Decide.{ℕ-discrete}
 use native.Mathlib.Numerals.{add-one}
 use native.Mathlib.Omega.{arith}
 use lib.ListN.{length, getD, set, take, drop, length-set, length-take, length-map, take-append-drop}
-use lib.Seq.{sets, length-sets, take-length, getD-take, getD-set-same, getD-set-other, drop-set-lt}
+use lib.Seq.{sets, take-length, getD-take, getD-set-same, getD-set-other, drop-set-lt}
 use lib.Dec.{eqb}
 use borrow.Author.Tests.{eq-eqb, ne-eqb}
 use Rattle.columns.specs.Lists.{each, over}
@@ -19,7 +19,7 @@ use Rattle.columns_neighbors.proofs.Placing.{each-places}
 use Rattle.columns.proofs.Refusals.{store-more}
 use Rattle.reorder_orders.specs.Order.{noneTwice, newNumber, oldToNew, renamed, moved}
 use Rattle.reorder_orders.specs.Steps.{IsOrder}
-use Rattle.reorder_orders.proofs.Permutation.{Once, order-below, order-once, new-below, old-of-new}
+use Rattle.reorder_orders.proofs.Permutation.{order-below, order-once, new-below, old-of-new}
 
 -- ---- a loop that stores f of each listed place
 

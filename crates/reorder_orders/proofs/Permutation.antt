@@ -1,15 +1,15 @@
 -- An order names each vertex exactly once: the new numbers are its inverse, and a sum over it is the sum over the vertices. Assumes nothing.
 use mathlib.Core.Path.{_≡_, refl, sym, ap, _∙_, subst}
 use mathlib.Core.Logic.{⊎-elim, _⊎_, inl, inr}
-use mathlib.Core.Bool.{Bool, true, false, not, _&&_, cond}
-use mathlib.Core.List.{List, [], _∷_, _++_}
+use mathlib.Core.Bool.{Bool, true, not, cond}
+use mathlib.Core.List.{List, [], _∷_}
 use Prim.Native.Nat.{ℕ, zero, suc, _+_, _≤_, _<_}
-use native.Mathlib.Decide.{ℕ-discrete, decLe}
+use native.Mathlib.Decide.{ℕ-discrete}
 use native.Mathlib.Omega.{arith}
 use lib.ListN.{length, getD}
 use lib.Dec.{eqb}
 use borrow.Author.Tests.{eq-eqb, ne-eqb, eqb-false, not-true}
-use Rattle.columns.specs.Questions.{every, allBelow}
+use Rattle.columns.specs.Questions.{every}
 use Rattle.columns.proofs.Tests.{every-at, below-at}
 use Rattle.reorder_orders.specs.Order.{noneTwice, newNumber}
 use Rattle.reorder_orders.specs.Steps.{IsOrder}

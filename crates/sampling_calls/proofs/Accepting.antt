@@ -1,22 +1,20 @@
 -- What an accepted call says of its columns, and what a call answers and leaves, accepted and refused. Assumes nothing.
-use mathlib.Core.Path.{_≡_, refl, sym, ap, _∙_, subst}
-use mathlib.Core.Bool.{Bool, true, false, _&&_, cond}
-use mathlib.Core.List.{List, [], _∷_, _++_}
+use mathlib.Core.Path.{_≡_, sym, ap, _∙_}
+use mathlib.Core.Bool.{Bool, true, _&&_}
+use mathlib.Core.List.{List, _++_}
 use Prim.Native.Nat.{ℕ, zero, suc, _+_, _%_, _≤_, _<_, min}
 use native.Mathlib.Nat.{zero-add}
 use native.Mathlib.Decide.{ℕ-discrete}
 use native.Mathlib.Omega.{arith}
-use lib.ListN.{length, getD, take, drop, replicate, length-take, length-replicate, take-append-drop}
-use lib.Seq.{sets, length-take-le, getD-take}
+use lib.ListN.{length, getD, take, drop, take-append-drop}
+use lib.Seq.{length-take-le, getD-take}
 use lib.Dec.{leb, eqb}
 use borrow.Author.Tests.{leb-true, eq-eqb, ne-eqb}
-use Rattle.columns.specs.Lists.{over, after}
-use Rattle.columns.specs.Questions.{ask, allBelow, marksSound, boundariesSound, vertexCountSound, edgeCountSound}
-use Rattle.columns.specs.Answers.{done}
-use Rattle.columns.specs.declared.Done.{Done}
-use Rattle.columns.specs.declared.Done.the-variants.{Accepted, Refused}
-use Rattle.columns.proofs.Columns.{after-accepted, after-refused, over-in, sets-over}
-use Rattle.columns.proofs.Tests.{and-both, below-at, within-at}
+use Rattle.columns.specs.Lists.{over}
+use Rattle.columns.specs.Questions.{ask, allBelow, marksSound, boundariesSound}
+use Rattle.columns.specs.declared.Done.the-variants.{Refused}
+use Rattle.columns.proofs.Columns.{after-accepted, after-refused, over-in}
+use Rattle.columns.proofs.Tests.{and-both, below-at}
 use Rattle.columns_neighbors.specs.Sound.{graphSound}
 use Rattle.columns_neighbors.specs.Steps.{InRange}
 use Rattle.columns_neighbors.proofs.Ends.{GraphSound, graph-says}

@@ -9,7 +9,7 @@ use borrow.Author.Tests.{leb-true}
 use lib.ListN.{length, getD, replicate, length-replicate}
 use lib.Seq.{sets, length-sets}
 use lib.Ieee.{Float}
-use Rattle.columns.specs.Lists.{each, over}
+use Rattle.columns.specs.Lists.{over}
 use Rattle.columns.specs.Questions.{ask}
 use Rattle.columns.proofs.Columns.{sets-over}
 use Rattle.columns.proofs.Tests.{and-both}

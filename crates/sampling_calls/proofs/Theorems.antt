@@ -1,16 +1,15 @@
 -- What document 01 says of sampling, errors and syndromes, as theorems about the calls' definitions. Assumes nothing.
-use mathlib.Core.Path.{_≡_, refl, sym, ap, _∙_, subst}
+use mathlib.Core.Path.{_≡_, refl, sym, ap, _∙_}
 use mathlib.Core.Bool.{Bool, true, false, _&&_, cond}
 use mathlib.Core.List.{List, [], _∷_, _++_}
 use Prim.Native.Nat.{ℕ, zero, suc, _+_, _*_, _%_, _≤_, _<_}
 use native.Mathlib.Decide.{ℕ-discrete, decLe}
 use native.Mathlib.Omega.{arith}
-use lib.ListN.{length, getD, take, length-append, length-take, List·getD-append}
+use lib.ListN.{length, getD, take, length-append, List·getD-append}
 use lib.Seq.{take-append-le, length-take-le, getD-take, getD-append-add, ext-getD}
 use lib.Dec.{eqb}
 use lib.Ieee.{Float, lt}
 use Rattle.columns.specs.Lists.{each, when, joined}
-use Rattle.columns.specs.Questions.{marksSound}
 use Rattle.columns.specs.Places.{zeroFloat, half}
 use Rattle.columns.proofs.Columns.{after-accepted}
 use Rattle.columns.proofs.Counting.{each-same, length-each, getD-each}
@@ -25,7 +24,7 @@ use Rattle.sampling_calls.specs.Errors.{SyndromeLeft}
 use Rattle.sampling_edges.specs.Draws.{drawNumber, isErased, errorProbability, hasError, sampledErasures, sampledErrors}
 use Rattle.sampling_calls.specs.Sampling.{samplingRefusal, GeneratedRandomErrors}
 use Rattle.sampling_calls.specs.Prefix.{SameBefore, SameMarksBefore}
-use Rattle.sampling_calls.specs.Syndrome.{hit, endsIn, isDefectOf, syndromeOf}
+use Rattle.sampling_calls.specs.Syndrome.{endsIn, isDefectOf, syndromeOf}
 use Rattle.sampling_flips.proofs.Flipping.{length-flipEach, flipEach-virtual}
 use Rattle.sampling_calls.proofs.Inner.{flipEach-inner}
 use Rattle.columns_marks.proofs.Listing.{when-few, chosen-below, chosen-same}

@@ -1,14 +1,12 @@
 -- Laws of the defect flip. Assumes nothing.
-use mathlib.Core.Path.{_≡_, refl, sym, ap, _∙_, subst}
-use mathlib.Core.Bool.{Bool, true, false}
+use mathlib.Core.Path.{_≡_, refl, sym, ap, _∙_}
 use mathlib.Core.List.{List, [], _∷_, _++_}
 use Prim.Native.Nat.{ℕ, zero, suc, _+_, _-_, _%_, _≤_, _<_}
 use native.Mathlib.Decide.{ℕ-discrete}
 use native.Mathlib.Omega.{arith}
 use native.Mathlib.Numerals.{add-one}
-use lib.ListN.{length, getD, set, take, length-set, length-append, List·getD-append}
-use lib.Seq.{take-suc, getD-set-same, getD-set-other, set-append-left, ext-getD}
-use borrow.Author.Tests.{eq-eqb, ne-eqb}
+use lib.ListN.{length, getD, set, take, length-set, List·getD-append}
+use lib.Seq.{take-suc, getD-set-same, getD-set-other, set-append-left}
 use Rattle.sampling_flips.specs.Flip.{flipped, flipAt, flipEdge, flipEach}
 use Rattle.sampling_flips.specs.Steps.{Fits}
 

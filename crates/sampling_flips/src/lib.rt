@@ -1,6 +1,6 @@
 // The defect flip, at a vertex, at the ends of an edge, and for a list of edges.
 ghost use mathlib.Core.Path.{_≡_};
-ghost use Prim.Native.Nat.{ℕ, _<_, _≤_};
+ghost use Prim.Native.Nat.{ℕ, _<_};
 ghost use lib.ListN.{length, getD};
 ghost use Rattle.columns.specs.Lists.{when};
 ghost use Rattle.sampling_flips.specs.Flip.{flipped, flipAt, flipEdge, flipEach};

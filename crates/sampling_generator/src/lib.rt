@@ -1,6 +1,6 @@
 // Document 01's generator: Xoshiro256** seeded by SplitMix64, over wrapping 64-bit words.
 ghost use mathlib.Core.Path.{_≡_};
-ghost use Prim.Native.Nat.{ℕ, _+_, _*_, _%_, _^_, _<_};
+ghost use Prim.Native.Nat.{_+_, _*_, _%_, _^_, _<_};
 ghost use Rattle.sampling_generator.specs.Random.{rotateLeft, shiftXor, splitMixNext, splitMixWord, seedFromU64, wordOf, nextOf, drawOf};
 
 // The low 64 bits of the product, from halves of 32 bits.

@@ -1,16 +1,14 @@
 -- The verdict on a sound graph with its own neighbour lists, in which every vertex ends an edge. Assumes nothing.
-use mathlib.Core.Path.{_≡_, refl, sym, ap, _∙_, subst}
+use mathlib.Core.Path.{_≡_, sym, ap, _∙_, subst}
 use mathlib.Core.Logic.{_⊎_, inl, inr}
-use mathlib.Core.Bool.{Bool, true, false, not, cond}
+use mathlib.Core.Bool.{Bool, true, not, cond}
 use mathlib.Core.List.{List}
 use Prim.Native.Nat.{ℕ, zero, suc, _+_, _*_, _≤_, _<_}
 use native.Mathlib.Numerals.{add-one}
 use native.Mathlib.Omega.{arith}
-use lib.Dec.{eqb}
 use lib.ListN.{length, getD, take, drop, length-take}
 use lib.Seq.{getD-take}
 use borrow.Author.Tests.{ne-eqb, not-true}
-use Rattle.columns.specs.Lists.{each}
 use Rattle.columns.specs.Questions.{every}
 use Rattle.columns.proofs.Counting.{length-each, getD-each}
 use Rattle.columns.proofs.Tests.{every-at}
@@ -21,9 +19,8 @@ use Rattle.columns_pairs.proofs.PairTests.{at-apart}
 use Rattle.columns_neighbors.proofs.Ends.{GraphSound, graph-says}
 use Rattle.columns_neighbors.proofs.Placing.{length-hit, length-more, length-within, lists-more, lists-count, list-of, neighbours-chosen}
 use Rattle.columns_marks.proofs.Listing.{chosen-ascends}
-use Rattle.sanity_verdicts.specs.declared.Verdict.{Verdict}
 use Rattle.sanity_verdicts.specs.declared.Verdict.the-variants.{Sound, DuplicateEdge, EdgeTwice, Refused}
-use Rattle.sanity_verdicts.specs.Sanity.{edgeNumbered, vertexNumbered, orElse, firstOf, foundIf, duplicate, twice, atVertex, listAt, total, verdict, sanityLong}
+use Rattle.sanity_verdicts.specs.Sanity.{edgeNumbered, vertexNumbered, firstOf, duplicate, twice, atVertex, listAt, total, verdict}
 use Rattle.sanity_verdicts.proofs.Scans.{first-all, found-false, or-sound}
 use Rattle.sanity_verdicts.proofs.Sums.{total-none, total-more}
 use Rattle.sanity_lists.proofs.Stamping.{some-edges}

@@ -1,7 +1,6 @@
 // Whether a graph is reasonable.
 ghost use mathlib.Core.Path.{_≡_};
-ghost use mathlib.Core.Bool.{Bool};
-ghost use Prim.Native.Nat.{ℕ, _+_, _≤_};
+ghost use Prim.Native.Nat.{_+_, _≤_};
 ghost use lib.ListN.{length, take};
 ghost use lib.Dec.{leb};
 ghost use Rattle.sanity_verdicts.specs.Sanity.{total, orElse, verdict, sanityLong, SanityChecked};

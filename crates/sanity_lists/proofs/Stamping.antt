@@ -14,7 +14,7 @@ use Rattle.sanity_verdicts.specs.declared.Verdict.the-variants.{Sound, NoEdges,
 use Rattle.sanity_verdicts.specs.Sanity.{edgeNumbered, vertexNumbered, firstOf, foundIf, twice, atVertex, listAt, total}
 use Rattle.sanity_verdicts.specs.Steps.{isSound}
 use Rattle.sanity_lists.specs.Steps.{Seen, Stamped, Below}
-use Rattle.sanity_verdicts.proofs.Scans.{first-next, first-stop, first-all, first-any, first-same, found-true, found-false}
+use Rattle.sanity_verdicts.proofs.Scans.{first-next, first-stop, first-all, first-any, found-false}
 
 module _ (numbers : List ℕ) (start : ℕ) where
   -- seen at place j, and nowhere

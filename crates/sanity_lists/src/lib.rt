@@ -1,7 +1,6 @@
 // The first vertex without edges or with an edge twice: numbers below 32,768 are stamped in a local array, others compared one by one.
 ghost use mathlib.Core.Path.{_≡_};
-ghost use mathlib.Core.Bool.{Bool};
-ghost use Prim.Native.Nat.{ℕ, _+_, _<_, _≤_};
+ghost use Prim.Native.Nat.{_+_, _<_, _≤_};
 ghost use lib.ListN.{length, getD, take, drop};
 ghost use Rattle.sanity_verdicts.specs.Sanity.{firstOf, twice, atVertex, listAt, total};
 ghost use Rattle.sanity_lists.specs.Steps.{Seen, Stamped, Below};

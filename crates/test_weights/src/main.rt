@@ -1,10 +1,8 @@
 // Reads lines of fixed width, each with the bits of two probabilities and a largest half weight, all in hexadecimal.
 // Writes for each the answer of `weight_of_p` to the first probability, that of `compute_weights` to both, and those of
 // `set_probability` and `set_erasure_probability` to the first.
-ghost use mathlib.Core.Path.{_≡_};
 ghost use Prim.Native.Nat.{_+_, _≤_};
 ghost use lib.ListN.{length};
-ghost use lib.Ieee.{binary64, ofBits};
 use columns::Done;
 use columns::of_bits;
 use libc::STDOUT_FILENO;

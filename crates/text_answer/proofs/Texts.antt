@@ -5,11 +5,9 @@ use mathlib.Core.List.{List}
 use Prim.Native.Nat.{ℕ, _≤_, _<_}
 use native.Mathlib.Omega.{arith}
 use lib.ListN.{length}
-use lib.Dec.{leb}
 use lib.Seq.{sets}
 use lib.Ieee.{Float, binary64, ofBits}
 use borrow.Author.Tests.{le-leb, lt-leb}
-use Rattle.columns.specs.Lists.{after}
 use Rattle.columns.specs.Questions.{ask}
 use Rattle.columns.proofs.Columns.{after-accepted, after-refused, sets-over}
 use Rattle.columns.proofs.Refusals.{met}

@@ -1,21 +1,21 @@
 -- A line's fields by their places, and the longest line. Assumes nothing.
-use mathlib.Core.Path.{_≡_, refl, sym, ap, _∙_, subst}
-use mathlib.Core.Bool.{Bool, true, false, not, _&&_, _||_, cond, false≢true}
-use mathlib.Core.List.{List, [], _∷_}
+use mathlib.Core.Path.{_≡_, refl, sym, ap, _∙_}
+use mathlib.Core.Bool.{Bool, true, false, _&&_, false≢true}
+use mathlib.Core.List.{List}
 use Prim.Native.Nat.{ℕ, zero, suc, _+_, _-_, _≤_, _<_}
 use native.Mathlib.Decide.{ℕ-discrete}
 use native.Mathlib.Omega.{arith}
 use lib.Dec.{leb, eqb}
-use lib.ListN.{length, getD, take, drop, length-drop}
-use lib.Seq.{getD-drop, drop-drop, length-take-le}
-use borrow.Author.Tests.{leb-true, le-leb, lt-leb, eqb-true, eq-eqb, ne-eqb}
+use lib.ListN.{length, take, drop, length-drop}
+use lib.Seq.{drop-drop, length-take-le}
+use borrow.Author.Tests.{leb-true, eqb-true, eq-eqb, ne-eqb}
 use Rattle.columns.specs.Questions.{ask, all}
 use Rattle.columns.proofs.Tests.{and-both}
 use Rattle.text_input.specs.declared.CodeLine.{CodeLine}
 use Rattle.text_input.specs.declared.LineRead.{LineRead}
 use Rattle.text_input.specs.declared.LineRead.the-variants.{WellFormed, NotWellFormed}
-use Rattle.text_input.specs.Line.{comma, newline, zeroDigit, isHexDigit, digits, digitOf, hexDigitOf, number, decimalOf, hexOf, afterDecimal, decimalSound, hexSound, fromD, fromRounds, fromP, fromM, wellFormed, lineOf, noLine, said, ReadsLine, LongInputsAlike}
-use Rattle.columns_answers.specs.Said.{Said, Answered}
+use Rattle.text_input.specs.Line.{comma, newline, isHexDigit, digits, digitOf, hexDigitOf, number, decimalOf, hexOf, afterDecimal, decimalSound, hexSound, fromD, fromRounds, fromP, fromM, wellFormed, lineOf, noLine, said, ReadsLine, LongInputsAlike}
+use Rattle.columns_answers.specs.Said.{Answered}
 use Rattle.columns_answers.proofs.Said.{accepts-of, refuses-of}
 use Rattle.text_input.proofs.Runs.{digits-within}
 

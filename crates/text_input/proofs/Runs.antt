@@ -1,17 +1,16 @@
 -- Runs of digits, and the numbers they write. Assumes nothing.
-use mathlib.Core.Path.{_≡_, refl, sym, ap, _∙_, subst}
-use mathlib.Core.Logic.{_⊎_, inl, inr}
-use mathlib.Core.Bool.{Bool, true, false, not, _&&_, _||_, cond, false≢true}
+use mathlib.Core.Path.{_≡_, refl, sym, ap, _∙_}
+use mathlib.Core.Bool.{Bool, true, false, _&&_, _||_, cond}
 use mathlib.Core.List.{List, [], _∷_, _++_}
 use Prim.Native.Nat.{ℕ, zero, suc, _+_, _-_, _*_, _^_, _≤_, _<_}
-use native.Mathlib.Nat.{mul-le-mul-right, mul-assoc, pow-zero, pow-succ', pow-le-pow-right, le-trans, lt-of-lt-of-le, mul-one, zero-lt-suc}
-use native.Mathlib.Decide.{ℕ-discrete, decLe}
+use native.Mathlib.Nat.{mul-le-mul-right, mul-assoc, pow-zero, pow-succ', pow-le-pow-right, mul-one, zero-lt-suc}
+use native.Mathlib.Decide.{decLe}
 use native.Mathlib.Numerals.{add-one}
 use native.Mathlib.Omega.{arith}
-use lib.Dec.{leb, eqb}
+use lib.Dec.{leb}
 use lib.ListN.{length, getD, take, drop, length-take, length-drop}
-use lib.Seq.{take-suc, drop-cons, getD-drop, drop-drop}
-use borrow.Author.Tests.{leb-true, le-leb, lt-leb, eq-eqb, ne-eqb}
+use lib.Seq.{take-suc, drop-cons}
+use borrow.Author.Tests.{leb-true, le-leb, lt-leb}
 use Rattle.columns.specs.Questions.{all}
 use Rattle.columns.proofs.Tests.{and-both, both-and}
 use Rattle.text_input.specs.Line.{isDigit, isHexDigit, digits, digitOf, hexDigitOf, number}

@@ -1,8 +1,8 @@
 // The fields of a line.
 ghost use mathlib.Core.Path.{_≡_};
-ghost use mathlib.Core.Bool.{Bool, _&&_, _||_, not};
-ghost use Prim.Native.Nat.{ℕ, _+_, _*_, _<_, _≤_, _^_};
-ghost use lib.Dec.{leb, eqb};
+ghost use mathlib.Core.Bool.{Bool, _||_, not};
+ghost use Prim.Native.Nat.{_+_, _*_, _<_, _≤_};
+ghost use lib.Dec.{eqb};
 ghost use lib.ListN.{length, getD, take, drop};
 ghost use Rattle.columns.specs.Questions.{all};
 ghost use Rattle.text_input.specs.Line.{isDigit, isHexDigit, digits, digitOf, hexDigitOf, number, decimalSound, hexSound};

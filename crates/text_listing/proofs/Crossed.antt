@@ -1,35 +1,32 @@
 -- What the crossing query answers to the columns of a built code. Assumes nothing.
 use mathlib.Core.Path.{_≡_, refl, sym, ap, _∙_, subst}
-use mathlib.Core.Bool.{Bool, true, false, _&&_, cond}
+use mathlib.Core.Bool.{Bool, true, _&&_}
 use mathlib.Core.List.{List, [], _∷_, _++_}
 use mathlib.Core.Option.{Option}
 use Prim.Native.Nat.{ℕ, zero, suc, _+_, _*_, _≤_, _<_}
 use native.Mathlib.Omega.{arith}
 use lib.Dec.{leb}
-use lib.IntN.{ℤ}
 use lib.ListN.{length, getD, take, drop, length-map, length-take, take-append-drop}
 use borrow.Author.Tests.{le-leb}
 use Rattle.columns.specs.Limits.{weightLimit}
 use Rattle.columns.specs.Lists.{over}
-use Rattle.columns.specs.Questions.{ask, all, weightsSound, boundariesSound, allBelow, allWithin}
+use Rattle.columns.specs.Questions.{ask, all, boundariesSound}
 use Rattle.columns.proofs.Tests.{both-and}
 use Rattle.columns_neighbors.specs.Sound.{graphSound, logSound}
 use Rattle.engine_columns.specs.Records.{Engine, engine, counts}
 use Rattle.engine_columns.specs.Questions.{columnsLong, engineLong, columnsSound, engineSound}
 use Rattle.engine_walks.specs.Answers.{crossing}
-use Rattle.engine_walks.specs.Graph.{Graph}
 use Rattle.codes_writers.specs.declared.CodeVertex.{CodeVertex}
 use Rattle.codes_writers.specs.Edges.{Ends, firsts, seconds, boundaries}
 use Rattle.codes_layers.specs.Codes.{edgesOf, verticesOf}
-use Rattle.codes_layers.specs.Counts.{vertexNum, edgeNum}
+use Rattle.codes_layers.specs.Counts.{edgeNum}
 use Rattle.codes_layers.proofs.Accepted.{accepted}
 use Rattle.codes_layers.proofs.Counted.{edges-counted, vertices-counted}
 use Rattle.codes_graphs.specs.Graphs.{builtGraph}
 use Rattle.codes_graphs.proofs.Sound.{built}
 use Rattle.query_crossing_answer.specs.declared.CrossingReply.{CrossingReply}
-use Rattle.query_crossing_answer.specs.declared.CrossingReply.the-variants.{Crossed, Refused}
 use Rattle.query_questions.specs.Queries.{graphIn, weightsIn, scratchLong}
-use Rattle.query_crossing_answer.specs.Crossing.{isJoined, weightFound, said, crossingAsked, crossingRefusal, CrossingStep}
+use Rattle.query_crossing_answer.specs.Crossing.{isJoined, weightFound, said, crossingRefusal}
 use Rattle.columns_answers.specs.Said.{Answered}
 use Rattle.text_listing.specs.Listing.{weightsOf, crossingOf}
 use Rattle.text_listing.specs.Steps.{HoldsWeights, ScratchRoom, Replied}

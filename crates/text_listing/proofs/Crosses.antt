@@ -1,15 +1,14 @@
 -- Every code has a crossing weight, whatever its edges weigh. Assumes nothing.
-use mathlib.Core.Path.{_≡_, refl, sym, ap, _∙_}
-use mathlib.Core.List.{List}
+use mathlib.Core.Path.{_≡_, refl}
 use mathlib.Core.Option.{Option, some, none}
 use Prim.Native.Nat.{ℕ, _≤_, _<_}
 use native.Mathlib.Omega.{arith}
-use lib.ListN.{length, getD, length-map}
+use lib.ListN.{length, length-map}
 use Rattle.codes_writers.specs.Edges.{Ends}
 use Rattle.codes_layers.specs.Codes.{edgesOf}
 use Rattle.codes_layers.specs.Counts.{vertexNum}
 use Rattle.codes_layers.proofs.Accepted.{Accepted, accepted}
-use Rattle.engine_walks.specs.Graph.{Graph, edges, GraphInRange, Left, Right, Joined}
+use Rattle.engine_walks.specs.Graph.{Graph, edges, GraphInRange}
 use Rattle.engine_walks.specs.Answers.{crossing}
 use Rattle.engine_walks.specs.Claims.{CrossingAnswer}
 use Rattle.engine_walks.proofs.LeastCrossing.{crossing-is-least}

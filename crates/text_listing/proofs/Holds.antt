@@ -1,10 +1,9 @@
 -- What the columns hold after `new`, and after the weights are stored. Assumes nothing.
-use mathlib.Core.Path.{_≡_, sym, ap, _∙_, subst}
-use mathlib.Core.Bool.{Bool, true, false, cond}
-use mathlib.Core.List.{List, map}
+use mathlib.Core.Path.{_≡_, sym, ap, _∙_}
+use mathlib.Core.Bool.{Bool, true, cond}
+use mathlib.Core.List.{List}
 use Prim.Native.Nat.{ℕ, _+_, _*_, _≤_, _<_}
 use native.Mathlib.Omega.{arith}
-use lib.Dec.{eqb}
 use lib.ListN.{length, getD, take, length-map, length-take, List·getD-map}
 use lib.Seq.{getD-take}
 use lib.Ieee.{Float}
@@ -26,14 +25,12 @@ use Rattle.weights_recipe.specs.Logarithm.{edgeWeight}
 use Rattle.weights_recipe.specs.Rounding.{halfWeight}
 use Rattle.weights_calls.specs.Calls.{largestWeight, halfWeights}
 use Rattle.weights_calls.proofs.Theorems.{within}
-use Rattle.codes_calls.specs.declared.Created.{Created}
 use Rattle.codes_calls.specs.declared.Created.the-variants.{Code, Refused}
-use Rattle.codes_calls.specs.Columns.{CodeColumns, edgeRoom, vertexRoom}
+use Rattle.codes_calls.specs.Columns.{CodeColumns}
 use Rattle.columns_answers.proofs.Said.{refused-of}
-use Rattle.codes_calls.specs.CreateCode.{newColumns}
 use Rattle.codes_calls.proofs.Cases.{code-case}
 use Rattle.codes_calls.specs.Probabilities.{probabilities, diagonalOf}
-use Rattle.codes_calls.specs.NewCode.{newRefusalIn, weightedColumns, NewCode}
+use Rattle.codes_calls.specs.NewCode.{newRefusalIn, NewCode}
 use Rattle.codes_calls.proofs.WeightedOutcome.{sized}
 use Rattle.text_numbers.specs.Text.{refusalLine}
 use Rattle.text_listing.specs.Listing.{listRefusal, weightsOf, listingOf, codeText}

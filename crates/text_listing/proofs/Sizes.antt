@@ -1,6 +1,6 @@
 -- A listing has at most 320,000 bytes. Assumes nothing.
 use mathlib.Core.Path.{_≡_, refl}
-use mathlib.Core.Bool.{Bool, true, false, _&&_, cond}
+use mathlib.Core.Bool.{Bool, true, false, cond}
 use mathlib.Core.List.{List, [], _∷_, _++_}
 use mathlib.Core.Option.{Option, some, none}
 use Prim.Native.Nat.{ℕ, _≤_}
@@ -9,7 +9,6 @@ use lib.Dec.{eqb, leb}
 use lib.ListN.{length, length-append}
 use lib.Ieee.{Float}
 use borrow.Author.Tests.{leb-true, eqb-true}
-use Rattle.columns.specs.Questions.{ask}
 use Rattle.columns.proofs.Tests.{and-both}
 use Rattle.codes_layers.specs.Counts.{vertexNum, edgeNum}
 use Rattle.codes_layers.specs.Accepts.{Buildable}

@@ -1,7 +1,7 @@
 -- How long numbers and lines are. Assumes nothing.
 use mathlib.Core.Path.{_≡_, refl, sym, ap, _∙_}
 use mathlib.Core.Bool.{Bool, true, false, cond}
-use mathlib.Core.List.{List, [], _∷_, _++_}
+use mathlib.Core.List.{List, [], _∷_}
 use Prim.Native.Nat.{ℕ, zero, suc, _+_, _-_, _*_, _/_, _%_, _^_, _≤_, _<_}
 use native.Mathlib.Nat.{zero-mul, suc-mul, pow-le-pow-right, zero-lt-suc}
 use borrow.Author.Tests.{le-leb, lt-leb}
@@ -9,7 +9,7 @@ use native.Mathlib.Omega.{arith}
 use lib.Dec.{leb}
 use lib.ListN.{length, length-append}
 use Rattle.columns.specs.Lists.{joined}
-use Rattle.text_numbers.specs.Text.{sizeIn, digitsOf, decimal, ended, vertexLine, edgeLine, graphLine, vertexLines, edgeLines}
+use Rattle.text_numbers.specs.Text.{sizeIn, digitsOf, decimal, ended, vertexLine, edgeLine, vertexLines, edgeLines}
 
 pub size-few : (k n : ℕ) → sizeIn k n ≤ suc k
 unfolding sizeIn

@@ -2,11 +2,10 @@
 use super::put_byte;
 use super::put_field;
 use columns::Weight;
-ghost use mathlib.Core.Path.{_≡_};
 ghost use mathlib.Core.List.{[], _∷_};
 ghost use Prim.Native.Nat.{_≤_, _<_};
 ghost use lib.ListN.{length};
-ghost use Rattle.text_numbers.specs.Text.{ended, refusalLine, graphLine, vertexLine, edgeLine, crossingLine, vertexLines, edgeLines, listing};
+ghost use Rattle.text_numbers.specs.Text.{ended, refusalLine, graphLine, vertexLine, edgeLine, vertexLines, edgeLines, listing};
 ghost use Rattle.text_numbers.specs.Steps.{Put};
 
 // A line of one number.

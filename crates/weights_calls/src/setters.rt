@@ -7,7 +7,6 @@ use columns::questions::at_most;
 use columns_stores::fill_f64;
 use weights_questions::is_erasure_probability;
 use weights_questions::is_probability;
-ghost use mathlib.Core.Path.{_≡_};
 ghost use Rattle.weights_recipe.specs.Probabilities.{isProbability, isErasureProbability};
 ghost use Rattle.weights_calls.specs.Setters.{SetEach};
 

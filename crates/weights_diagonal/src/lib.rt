@@ -1,6 +1,5 @@
 // The diagonal probability of kind 4.
 ghost use mathlib.Core.Path.{_≡_};
-ghost use mathlib.Core.Bool.{Bool};
 ghost use Rattle.weights_diagonal.specs.Diagonal.{absolute, manhattanDistance, isDiagonal, replaced, edgeProbability, newDiagonal, isDiagonalProbability};
 use columns::VisualizePosition;
 use weights_questions::is_probability;

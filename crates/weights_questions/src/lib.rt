@@ -1,6 +1,6 @@
 // The tests of question 9.
 ghost use mathlib.Core.Path.{_≡_};
-ghost use mathlib.Core.Bool.{not, _||_};
+ghost use mathlib.Core.Bool.{not};
 ghost use lib.Dec.{T};
 ghost use lib.ListN.{take};
 ghost use lib.Ieee.{isNan};

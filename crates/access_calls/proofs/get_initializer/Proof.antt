@@ -1,5 +1,5 @@
 -- `access_calls::get_initializer` meets its contract. Assumes nothing.
-use mathlib.Core.Path.{_≡_, refl, sym, _∙_}
+use mathlib.Core.Path.{_≡_, sym, _∙_}
 use lib.ListN.{take}
 use Rattle.columns.proofs.Columns.{copy-after, after-accepted, after-refused}
 use Rattle.columns_marks.specs.Marks.{listed}

@@ -1,5 +1,5 @@
 -- `access_calls::get_named` meets its contract. Assumes nothing.
-use mathlib.Core.Path.{_≡_, refl, sym, _∙_}
+use mathlib.Core.Path.{_≡_, sym, _∙_}
 use Rattle.columns.proofs.Columns.{after-accepted, after-refused}
 use Rattle.columns_marks.specs.Marks.{listed}
 use Rattle.access_calls.specs.Calls.{getMarksRefusal}

@@ -1,5 +1,5 @@
 -- `columns_marks::push_if` meets its contract. Assumes nothing.
-use mathlib.Core.Path.{_≡_, refl, sym, ap, _∙_}
+use mathlib.Core.Path.{refl}
 use native.Mathlib.Omega.{arith}
 use borrow.Author.Needs.{needs}
 use Rattle.columns_marks.proofs.push_if.Statement.{statement}

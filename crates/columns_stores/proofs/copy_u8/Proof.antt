@@ -1,5 +1,5 @@
 -- `columns_stores::copy_u8` meets its contract. Invariant: i elements are copied, of the least of n and the two lengths. Assumes nothing.
-use mathlib.Core.Path.{_≡_, refl, sym, ap, _∙_}
+use mathlib.Core.Path.{_≡_, refl, ap, _∙_}
 use Prim.Native.Nat.{_+_, _-_, _≤_, _<_, min}
 use native.Mathlib.Omega.{arith}
 use lib.ListN.{length, set, getD, take}

@@ -1,5 +1,5 @@
 -- `columns_stores::fill_u32` meets its contract. Invariant: i stores are made, of the lesser of n and the length. Assumes nothing.
-use mathlib.Core.Path.{_≡_, refl, sym, ap, _∙_}
+use mathlib.Core.Path.{_≡_, refl, ap, _∙_}
 use Prim.Native.Nat.{_+_, _-_, _≤_, _<_, min}
 use native.Mathlib.Omega.{arith}
 use lib.ListN.{length, set, replicate}

@@ -2,11 +2,9 @@
 use Prim.Native.Nat.{ℕ, _+_, _≤_, _<_}
 use mathlib.Core.Path.{_≡_, refl, sym, _∙_}
 use native.Mathlib.Omega.{arith}
-use lib.ListN.{length, getD}
-use Rattle.columns.specs.Questions.{ask, allWithin}
 use Rattle.engine_columns.specs.Records.{engine}
 use Rattle.engine_columns.specs.Step.{loadWeights, engineRefusal}
-use Rattle.engine_columns.proofs.Refusals.{accepted, refused, columns, Loads, loads-of, named-of, Weighed, weighed-of}
+use Rattle.engine_columns.proofs.Refusals.{accepted, refused, columns, named-of, Weighed, weighed-of}
 use borrow.Author.Needs.{needs}
 use Rattle.engine_calls.proofs.load_dynamic_weights.Statement.{statement}
 use Rattle.engine_calls.proofs.load_dynamic_weights.Tie as tie

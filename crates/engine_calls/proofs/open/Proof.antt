@@ -1,5 +1,5 @@
 -- `engine_calls::open` meets its contract. Assumes nothing.
-use mathlib.Core.Path.{_≡_, refl, sym, _∙_}
+use mathlib.Core.Path.{_≡_, sym, _∙_}
 use lib.ListN.{take}
 use Rattle.columns.proofs.Columns.{copy-after, after-refused}
 use Rattle.columns_answers.proofs.Said.{accepts-of, refuses-of}

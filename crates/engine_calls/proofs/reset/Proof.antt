@@ -2,7 +2,6 @@
 use Prim.Native.Nat.{ℕ, _+_, _≤_, _<_}
 use mathlib.Core.Path.{_≡_, refl, sym, _∙_}
 use native.Mathlib.Omega.{arith}
-use lib.ListN.{length, getD}
 use Rattle.engine_columns.specs.Records.{engine}
 use Rattle.engine_columns.specs.Step.{engineRefusal, reset}
 use Rattle.engine_columns.proofs.Refusals.{accepted, refused, columns, reset-long, reset-named}

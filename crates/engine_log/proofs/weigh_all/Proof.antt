@@ -1,10 +1,10 @@
 -- `engine_log::weigh_all` meets its contract: after i entries the columns are as `loaded`, `named` and `earlier` say. Assumes nothing.
 use Prim.Native.Nat.{_≤_, _<_, _-_}
-use mathlib.Core.Path.{_≡_, refl, ap, sym, _∙_}
+use mathlib.Core.Path.{_≡_, ap, _∙_}
 use native.Mathlib.Omega.{arith}
 use native.Mathlib.Numerals.{add-one}
 use borrow.Author.Needs.{needs}
-use lib.ListN.{length, getD, set}
+use lib.ListN.{length}
 use Rattle.engine_log.specs.Load.{loaded, earlier, named, given}
 use Rattle.engine_log.proofs.Loads.{loaded-length, named-length, earlier-length}
 use Rattle.engine_log.proofs.weigh_all.Statement.{statement}

@@ -1,14 +1,13 @@
 -- `prebuilt_calls::fill_row` meets its contract. Assumes nothing.
-use mathlib.Core.Path.{_≡_, refl, sym, ap, _∙_, subst}
+use mathlib.Core.Path.{_≡_, refl, sym, ap, _∙_}
 use Prim.Native.Nat.{ℕ, zero, suc, _+_, _*_, _<_, _≤_}
 use native.Mathlib.Omega.{arith}
-use mathlib.Core.Bool.{Bool, true, false}
+use mathlib.Core.Bool.{Bool}
 use mathlib.Core.List.{List}
 use mathlib.Core.Option.{none}
-use lib.ListN.{length, getD, take}
+use lib.ListN.{length, take}
 use lib.Seq.{sets, length-take-le}
-use lib.IntN.{ℤ}
-use Rattle.columns.specs.Lists.{each, over, after}
+use Rattle.columns.specs.Lists.{each}
 use Rattle.columns.proofs.Columns.{length-over, after-accepted, after-refused}
 use Rattle.engine_columns.specs.Records.{Engine, engine}
 use Rattle.engine_walks.specs.Answers.{table}

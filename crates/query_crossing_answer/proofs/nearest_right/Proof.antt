@@ -1,13 +1,13 @@
 -- `query_crossing_answer::nearest_right` meets its contract. Invariant: the least weight among the first v vertices. Assumes nothing.
-use mathlib.Core.Path.{_≡_, refl, sym, ap, _∙_, subst}
-use mathlib.Core.Bool.{Bool, true, false, cond, _&&_}
+use mathlib.Core.Path.{_≡_, refl, sym, ap, _∙_}
+use mathlib.Core.Bool.{cond, _&&_}
 use mathlib.Core.List.{List}
 use Prim.Native.Nat.{ℕ, suc, _+_, _-_, _<_, _≤_}
 use native.Mathlib.Omega.{arith}
 use native.Mathlib.Numerals.{add-one}
 use lib.ListN.{length, getD}
 use lib.Dec.{eqb, ltb}
-use Rattle.engine_walks.specs.Settling.{State, firstLeast, weightAt}
+use Rattle.engine_walks.specs.Settling.{firstLeast, weightAt}
 use Rattle.engine_walks.specs.Answers.{taken, weightOf}
 use Rattle.query_relaxing.specs.Ready.{stateOf}
 use Rattle.query_crossing_answer.specs.Codes.{codeOf}

@@ -1,9 +1,8 @@
 -- `query_crossings::run_crossing` meets its contract. Assumes nothing.
-use mathlib.Core.Path.{_≡_, refl, sym, ap, _∙_, subst}
-use mathlib.Core.List.{List}
+use mathlib.Core.Path.{_≡_, sym, _∙_, subst}
 use Prim.Native.Nat.{ℕ, _<_, _≤_}
 use native.Mathlib.Omega.{arith}
-use lib.ListN.{length, getD}
+use lib.ListN.{length}
 use Rattle.engine_walks.specs.Settling.{State, settled}
 use Rattle.engine_walks.specs.Answers.{fromLeft, crossing}
 use Rattle.query_relaxing.specs.Ready.{graphOf, weighs, stateOf, sources, endOf}

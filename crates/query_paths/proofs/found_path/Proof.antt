@@ -2,14 +2,13 @@
 use mathlib.Core.Path.{_≡_, refl, sym, ap, _∙_, subst}
 use Prim.Native.Nat.{ℕ, zero, suc, _+_, _*_, _-_, _<_, _≤_}
 use native.Mathlib.Omega.{arith}
-use mathlib.Core.Bool.{Bool, true, false, cond}
+use mathlib.Core.Bool.{true, false, cond}
 use mathlib.Core.List.{List, map}
-use mathlib.Core.Option.{Option, some, none}
-use lib.ListN.{length, getD, length-map}
-use lib.Seq.{sets}
+use mathlib.Core.Option.{some, none}
+use lib.ListN.{length, length-map}
 use Rattle.columns.proofs.Columns.{sets-over}
 use Rattle.engine_walks.specs.Settling.{State, weightAt}
-use Rattle.engine_walks.specs.Answers.{readBack, stepInto, taken, FoundPath}
+use Rattle.engine_walks.specs.Answers.{readBack, stepInto, taken}
 use Rattle.query_relaxing.specs.Ready.{stateOf}
 use Rattle.query_paths.specs.declared.PathAnswer.the-variants.{Found, Refused}
 use Rattle.query_read_back.specs.Path.{pathOf}

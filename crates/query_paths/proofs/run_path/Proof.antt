@@ -1,16 +1,15 @@
 -- `query_paths::run_path` meets its contract. Assumes nothing.
-use mathlib.Core.Path.{_≡_, refl, sym, ap, _∙_, subst}
+use mathlib.Core.Path.{_≡_, sym, ap, _∙_, subst}
 use Prim.Native.Nat.{ℕ, zero, suc, _+_, _*_, _-_, _<_, _≤_}
 use native.Mathlib.Omega.{arith}
-use mathlib.Core.Bool.{Bool, true, false, cond}
-use mathlib.Core.List.{List, map}
-use mathlib.Core.Option.{Option, some, none}
-use lib.ListN.{length, getD}
-use lib.Dec.{ltb}
+use mathlib.Core.Bool.{cond}
+use mathlib.Core.List.{List}
+use mathlib.Core.Option.{some, none}
+use lib.ListN.{length}
 use borrow.Author.Tests.{lt-ltb}
 use Rattle.engine_walks.specs.Settling.{State, settled}
 use Rattle.engine_walks.specs.Answers.{only, path}
-use Rattle.query_relaxing.specs.Ready.{stateOf, graphOf, weighs, sources, endOf, Ready}
+use Rattle.query_relaxing.specs.Ready.{stateOf, graphOf, weighs, sources, endOf}
 use Rattle.query_relaxing.proofs.Keys.{ready-as}
 use Rattle.query_read_back.specs.Path.{pathOf}
 use Rattle.query_paths.specs.GetPath.{PathSaid, verticesAfter, stepsAfter}

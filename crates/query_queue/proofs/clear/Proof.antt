@@ -2,7 +2,7 @@ use borrow.Author.Needs.{needs}
 use Prim.Native.Nat.{ℕ, _≤_, _<_, _-_, _+_, _*_}
 use mathlib.Core.Path.{_≡_}
 use native.Mathlib.Omega.{arith}
-use lib.ListN.{length, getD, set, length-set}
+use lib.ListN.{length, length-set}
 use Rattle.query_queue.specs.Tree.{Same}
 use Rattle.query_queue.proofs.Places.{same-more, same-sound}
 use Rattle.query_queue.proofs.clear.Statement.{statement}

@@ -3,7 +3,7 @@ use borrow.Author.Needs.{needs}
 use Prim.Native.Nat.{ℕ, _≤_, _<_, _-_, _+_, _*_, min}
 use mathlib.Core.Path.{_≡_, _∙_}
 use native.Mathlib.Omega.{arith}
-use lib.ListN.{length, getD, set, length-set}
+use lib.ListN.{length, length-set}
 use Rattle.query_queue.specs.Tree.{TreeBut, placeOf}
 use Rattle.query_queue.proofs.Places.{node-put, none-stale}
 use Rattle.query_queue.proofs.raise.Statement.{statement}

@@ -1,16 +1,7 @@
 -- `query_read_back::load` meets its contract. Assumes nothing.
-use mathlib.Core.Path.{_≡_, refl, sym, ap, _∙_, subst}
+use mathlib.Core.Path.{sym}
 use Prim.Native.Nat.{ℕ, zero, suc, _+_, _*_, _-_, _<_, _≤_}
-use native.Mathlib.Omega.{arith}
-use mathlib.Core.Bool.{true, false, cond}
-use mathlib.Core.List.{List, []}
-use mathlib.Core.Option.{Option, some, none}
-use lib.ListN.{length, getD, List·getD-eq-default}
-use lib.Dec.{eqb}
-use borrow.Author.Tests.{eq-eqb, ne-eqb}
-use Rattle.engine_walks.specs.Answers.{entry, readBack}
-use Rattle.query_relaxing.specs.Ready.{stateOf}
-use Rattle.query_read_back.specs.Path.{entryOf, stepBack}
+use lib.ListN.{List·getD-eq-default}
 use borrow.Author.Needs.{needs}
 use Rattle.query_read_back.proofs.load.Statement.{statement}
 use Rattle.query_read_back.proofs.load.Tie as tie

@@ -1,28 +1,20 @@
 -- `query_read_back::path_length` meets its contract. Invariant: j steps were read back, to v. Assumes nothing.
-use mathlib.Core.Path.{_≡_, refl, sym, ap, _∙_, subst}
+use mathlib.Core.Path.{_≡_, sym, _∙_}
 use Prim.Native.Nat.{ℕ, zero, suc, _+_, _*_, _-_, _<_, _≤_}
 use native.Mathlib.Omega.{arith}
-use mathlib.Core.Bool.{true, false, cond}
-use mathlib.Core.List.{List, []}
-use mathlib.Core.Option.{Option, some, none}
-use lib.ListN.{length, getD, List·getD-eq-default}
-use lib.Dec.{eqb}
-use borrow.Author.Tests.{eq-eqb, ne-eqb}
-use Rattle.engine_walks.specs.Answers.{entry, readBack}
+use mathlib.Core.List.{List}
+use lib.ListN.{length}
+use Rattle.engine_walks.specs.Answers.{readBack}
 use Rattle.query_relaxing.specs.Ready.{stateOf}
 use Rattle.query_read_back.specs.Path.{entryOf, stepBack}
 use Rattle.query_read_back.specs.declared.TableEntry.the-variants.{Previous, None}
 use Rattle.query_read_back.proofs.Back.{entry-none, entry-some, count-none, count-more, count-end, count-start}
 -- `query_read_back::path_length` meets its contract. Invariant: j steps were read back, to v. Assumes nothing.
-use mathlib.Core.Path.{_≡_, refl, sym, ap, _∙_, subst}
+use mathlib.Core.Path.{_≡_, sym, _∙_}
 use Prim.Native.Nat.{ℕ, zero, suc, _+_, _*_, _-_, _<_, _≤_}
 use native.Mathlib.Omega.{arith}
-use mathlib.Core.Bool.{true, false, cond}
-use mathlib.Core.List.{List, []}
-use mathlib.Core.Option.{Option, some, none}
-use lib.ListN.{length, getD, List·getD-eq-default}
-use lib.Dec.{eqb}
-use borrow.Author.Tests.{eq-eqb, ne-eqb}
+use mathlib.Core.List.{List}
+use lib.ListN.{length}
 use borrow.Author.Needs.{needs}
 use Rattle.query_read_back.proofs.path_length.Statement.{statement}
 use Rattle.query_read_back.proofs.path_length.Tie as tie

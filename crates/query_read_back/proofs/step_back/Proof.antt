@@ -1,16 +1,12 @@
 -- `query_read_back::step_back` meets its contract. Assumes nothing.
-use mathlib.Core.Path.{_≡_, refl, sym, ap, _∙_, subst}
+use mathlib.Core.Path.{sym, ap, _∙_}
 use Prim.Native.Nat.{ℕ, zero, suc, _+_, _*_, _-_, _<_, _≤_}
-use native.Mathlib.Omega.{arith}
-use mathlib.Core.Bool.{true, false, cond}
-use mathlib.Core.List.{List, []}
-use mathlib.Core.Option.{Option, some, none}
-use lib.ListN.{length, getD, List·getD-eq-default}
-use lib.Dec.{eqb}
+use mathlib.Core.Bool.{cond}
+use mathlib.Core.Option.{none}
 use borrow.Author.Tests.{eq-eqb, ne-eqb}
-use Rattle.engine_walks.specs.Answers.{entry, readBack}
+use Rattle.engine_walks.specs.Answers.{entry}
 use Rattle.query_relaxing.specs.Ready.{stateOf}
-use Rattle.query_read_back.specs.Path.{entryOf, stepBack}
+use Rattle.query_read_back.specs.Path.{entryOf}
 use borrow.Author.Needs.{needs}
 use Rattle.query_read_back.proofs.step_back.Statement.{statement}
 use Rattle.query_read_back.proofs.step_back.Tie as tie

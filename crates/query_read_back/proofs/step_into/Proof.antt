@@ -1,19 +1,9 @@
 -- `query_read_back::step_into` meets its contract. Assumes nothing.
-use mathlib.Core.Path.{_≡_, refl, sym, ap, _∙_, subst}
+use mathlib.Core.Path.{ap, _∙_}
 use Prim.Native.Nat.{ℕ, zero, suc, _+_, _*_, _-_, _<_, _≤_}
 use native.Mathlib.Omega.{arith}
-use mathlib.Core.Bool.{true, false, cond}
-use mathlib.Core.List.{List, []}
-use mathlib.Core.Option.{Option, some, none}
-use lib.ListN.{length, getD, List·getD-eq-default}
-use lib.Dec.{eqb}
-use borrow.Author.Tests.{eq-eqb, ne-eqb}
-use Rattle.engine_walks.specs.Answers.{entry, readBack, stepInto}
-use Rattle.query_relaxing.specs.Ready.{stateOf}
-use Rattle.query_read_back.specs.Path.{entryOf, stepBack, Written}
-use lib.Seq.{sets, length-sets}
-use lib.ListN.{set, length-set}
-use mathlib.Core.List.{map}
+use lib.ListN.{getD}
+use Rattle.engine_walks.specs.Answers.{stepInto}
 use Rattle.query_read_back.proofs.step_into.Statement.{statement}
 use Rattle.query_read_back.proofs.step_into.Tie as tie
 

@@ -1,19 +1,11 @@
 -- `query_read_back::write_path` meets its contract. Invariant: the path is written down to place i, and v is the vertex of place i - 1. Assumes nothing.
-use mathlib.Core.Path.{_≡_, refl, sym, ap, _∙_, subst}
+use mathlib.Core.Path.{_≡_, refl, sym, _∙_, subst}
 use Prim.Native.Nat.{ℕ, zero, suc, _+_, _*_, _-_, _<_, _≤_}
 use native.Mathlib.Omega.{arith}
-use mathlib.Core.Bool.{true, false, cond}
-use mathlib.Core.List.{List, []}
-use mathlib.Core.Option.{Option, some, none}
-use lib.ListN.{length, getD, List·getD-eq-default}
-use lib.Dec.{eqb}
-use borrow.Author.Tests.{eq-eqb, ne-eqb}
-use Rattle.engine_walks.specs.Answers.{entry, readBack, stepInto}
+use lib.ListN.{length, getD}
 use Rattle.query_relaxing.specs.Ready.{stateOf}
-use Rattle.query_read_back.specs.Path.{entryOf, stepBack, Written}
-use lib.Seq.{sets, length-sets}
+use Rattle.query_read_back.specs.Path.{Written}
 use lib.ListN.{set, length-set}
-use mathlib.Core.List.{map}
 use Rattle.query_read_back.proofs.Back.{written-start, written-more, written-vertices, written-steps}
 use borrow.Author.Needs.{needs}
 use Rattle.query_read_back.proofs.write_path.Statement.{statement}

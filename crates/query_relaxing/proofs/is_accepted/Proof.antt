@@ -1,7 +1,6 @@
 -- `query_relaxing::is_accepted` meets its contract. Assumes nothing.
-use mathlib.Core.Path.{_≡_, refl, sym, ap, ap₂, _∙_}
+use mathlib.Core.Path.{_≡_, refl}
 use Prim.Native.Nat.{ℕ, zero, suc, _+_, _*_, _<_, _≤_}
-use native.Mathlib.Omega.{arith}
 use mathlib.Core.Bool.{Bool, false}
 use Rattle.query_relaxing.specs.Ready.{takesUp}
 use borrow.Author.Needs.{needs}

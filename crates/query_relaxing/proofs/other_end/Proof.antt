@@ -1,7 +1,5 @@
 -- `query_relaxing::other_end` meets its contract. Assumes nothing.
-use mathlib.Core.Path.{_≡_, refl, sym, ap, ap₂, _∙_}
 use Prim.Native.Nat.{ℕ, zero, suc, _+_, _*_, _<_, _≤_}
-use native.Mathlib.Omega.{arith}
 use borrow.Author.Tests.{eq-eqb, ne-eqb}
 use Rattle.query_relaxing.proofs.other_end.Statement.{statement}
 use Rattle.query_relaxing.proofs.other_end.Tie as tie

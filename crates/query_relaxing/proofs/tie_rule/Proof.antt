@@ -1,5 +1,5 @@
 -- `query_relaxing::tie_rule` meets its contract. Assumes nothing.
-use mathlib.Core.Path.{_≡_, refl, sym, ap, ap₂, _∙_}
+use mathlib.Core.Path.{_≡_, sym}
 use Prim.Native.Nat.{ℕ, zero, suc, _+_, _*_, _<_, _≤_}
 use native.Mathlib.Omega.{arith}
 use Rattle.engine_walks.proofs.TurnCases.{changes-lighter, changes-heavier, changes-nearer, changes-farther, changes-equally-near}

@@ -1,18 +1,9 @@
 -- `query_search::search` meets its contract. Assumes nothing.
-use mathlib.Core.Path.{_≡_, refl, sym, ap, ap₂, _∙_, subst}
+use mathlib.Core.Path.{sym, ap, _∙_}
 use Prim.Native.Nat.{ℕ, zero, suc, _+_, _*_, _-_, _<_, _≤_}
 use native.Mathlib.Omega.{arith}
-use mathlib.Core.Bool.{true, false, cond, _&&_}
-use mathlib.Core.List.{List, []}
-use lib.ListN.{length, getD, set, take, length-set}
-use lib.Seq.{sets}
-use lib.Dec.{eqb, ltb}
-use lib.IntN.{ℤ, pos, negsuc}
-use borrow.Author.Tests.{eq-eqb, ne-eqb, lt-ltb}
-use Rattle.columns.specs.Lists.{each}
-use Rattle.columns.proofs.Counting.{store-each, length-each}
-use Rattle.engine_walks.specs.Answers.{tableWeight, tablePrevious}
-use Rattle.query_relaxing.specs.Ready.{stateOf, Ready, sumLimit}
+use lib.ListN.{length}
+use Rattle.columns.proofs.Counting.{length-each}
 use Rattle.query_search.proofs.Listing.{listed}
 use borrow.Author.Needs.{needs}
 use Rattle.query_search.proofs.search.Statement.{statement}

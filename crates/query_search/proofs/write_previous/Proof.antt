@@ -1,18 +1,14 @@
 -- `query_search::write_previous` meets its contract. Invariant: the first v rows are written. Assumes nothing.
-use mathlib.Core.Path.{_≡_, refl, sym, ap, ap₂, _∙_, subst}
+use mathlib.Core.Path.{_≡_, refl, ap, _∙_}
 use Prim.Native.Nat.{ℕ, zero, suc, _+_, _*_, _-_, _<_, _≤_}
 use native.Mathlib.Omega.{arith}
-use mathlib.Core.Bool.{true, false, cond, _&&_}
-use mathlib.Core.List.{List, []}
-use lib.ListN.{length, getD, set, take, length-set}
+use mathlib.Core.List.{List}
+use lib.ListN.{length, set, length-set}
 use lib.Seq.{sets}
-use lib.Dec.{eqb, ltb}
-use lib.IntN.{ℤ, pos, negsuc}
-use borrow.Author.Tests.{eq-eqb, ne-eqb, lt-ltb}
 use Rattle.columns.specs.Lists.{each}
-use Rattle.columns.proofs.Counting.{store-each, length-each}
-use Rattle.engine_walks.specs.Answers.{tableWeight, tablePrevious}
-use Rattle.query_relaxing.specs.Ready.{stateOf, Ready, sumLimit}
+use Rattle.columns.proofs.Counting.{store-each}
+use Rattle.engine_walks.specs.Answers.{tablePrevious}
+use Rattle.query_relaxing.specs.Ready.{stateOf}
 use borrow.Author.Needs.{needs}
 use Rattle.query_search.proofs.write_previous.Statement.{statement}
 use Rattle.query_search.proofs.write_previous.Tie as tie

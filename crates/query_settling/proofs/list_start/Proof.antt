@@ -1,10 +1,10 @@
 -- `query_settling::list_start` meets its contract. Assumes nothing.
-use mathlib.Core.Path.{_≡_, refl, sym, ap, ap₂, _∙_, subst}
+use mathlib.Core.Path.{_≡_, refl, sym, ap, _∙_}
 use Prim.Native.Nat.{ℕ, zero, suc, _+_, _*_, _-_, _%_, _<_, _≤_}
 use native.Mathlib.Omega.{arith}
 use mathlib.Core.List.{List}
-use lib.ListN.{length, getD, take, drop}
-use Rattle.query_relaxing.specs.Ready.{stateOf, graphOf, weighs, Ready, startIn}
+use lib.ListN.{getD}
+use Rattle.query_relaxing.specs.Ready.{startIn}
 use borrow.Author.Needs.{needs}
 use Rattle.query_settling.proofs.list_start.Statement.{statement}
 use Rattle.query_settling.proofs.list_start.Tie as tie

@@ -1,10 +1,10 @@
 -- `query_settling::relax_list` meets its contract. Invariant: the state after the places before i. Assumes nothing.
-use mathlib.Core.Path.{_≡_, refl, sym, ap, ap₂, _∙_, subst}
+use mathlib.Core.Path.{_≡_, refl, sym, ap, _∙_}
 use Prim.Native.Nat.{ℕ, zero, suc, _+_, _*_, _-_, _%_, _<_, _≤_}
 use native.Mathlib.Omega.{arith}
 use mathlib.Core.List.{List}
 use lib.ListN.{length, getD, take, drop}
-use Rattle.query_relaxing.specs.Ready.{stateOf, graphOf, weighs, Ready, startIn}
+use Rattle.query_relaxing.specs.Ready.{stateOf, graphOf, weighs, Ready}
 use Rattle.engine_walks.specs.Settling.{relaxEdge}
 use Rattle.engine_walks.proofs.Neighbours.{relaxAlong}
 use Rattle.query_relaxing.proofs.Keys.{ready-as}

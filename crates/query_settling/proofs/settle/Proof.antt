@@ -1,12 +1,12 @@
 -- `query_settling::settle` meets its contract. Invariant: the state after t turns. Assumes nothing.
-use mathlib.Core.Path.{_≡_, refl, sym, ap, ap₂, _∙_, subst}
+use mathlib.Core.Path.{_≡_, refl, sym, ap, _∙_}
 use Prim.Native.Nat.{ℕ, zero, suc, _+_, _*_, _-_, _<_, _≤_}
 use native.Mathlib.Omega.{arith}
-use mathlib.Core.Bool.{true, false, not, _&&_}
-use mathlib.Core.List.{List, []}
+use mathlib.Core.Bool.{_&&_}
+use mathlib.Core.List.{List}
 use lib.ListN.{length, getD}
 use lib.Dec.{eqb, ltb}
-use borrow.Author.Tests.{lt-ltb, le-ltb, not-true, not-false}
+use borrow.Author.Tests.{not-true}
 use Rattle.engine_walks.specs.Settling as S
 use Rattle.engine_walks.specs.Settling.{takeChosen, toTake}
 use Rattle.query_relaxing.specs.Ready.{stateOf, graphOf, weighs, Ready, sources, endOf}

@@ -1,13 +1,12 @@
 -- `query_settling::turn` meets its contract. Assumes nothing.
-use mathlib.Core.Path.{_≡_, refl, sym, ap, ap₂, _∙_, subst}
+use mathlib.Core.Path.{_≡_, refl, sym, ap, _∙_}
 use Prim.Native.Nat.{ℕ, zero, suc, _+_, _*_, _-_, _%_, _<_, _≤_}
 use native.Mathlib.Omega.{arith}
-use mathlib.Core.Bool.{true, false, true≢false}
-use mathlib.Core.List.{List}
-use lib.ListN.{length, getD, take, drop, length-set}
+use mathlib.Core.Bool.{true≢false}
+use lib.ListN.{length, length-set}
 use lib.ListN.{set}
 use Rattle.engine_walks.specs.Settling.{takeChosen}
-use Rattle.query_relaxing.specs.Ready.{stateOf, graphOf, weighs, Ready, startIn}
+use Rattle.query_relaxing.specs.Ready.{stateOf, graphOf, weighs}
 use Rattle.query_relaxing.proofs.Keys.{ready-as, ready-takes}
 use Rattle.query_settling.proofs.Choice.{takes-none, taken-is, v-in, turn-along, turn-is}
 use borrow.Author.Needs.{needs}

@@ -1,22 +1,20 @@
 -- `query_tables::all_edges_with_terminate` meets its contract. Assumes nothing.
-use mathlib.Core.Path.{_≡_, refl, sym, ap, _∙_, subst}
+use mathlib.Core.Path.{_≡_, refl, sym, ap, _∙_}
 use Prim.Native.Nat.{ℕ, zero, suc, _+_, _*_, _<_, _≤_}
 use native.Mathlib.Omega.{arith}
-use mathlib.Core.Bool.{Bool, true, false}
-use mathlib.Core.List.{List}
-use lib.ListN.{length, getD, take}
+use mathlib.Core.Bool.{Bool}
+use lib.ListN.{length, take}
 use lib.Seq.{sets, length-take-le}
-use Rattle.columns.specs.Lists.{after}
 use Rattle.columns.proofs.Columns.{sets-over, after-accepted, after-refused}
 use Rattle.engine_columns.specs.Records.{Engine, engine}
 use Rattle.engine_walks.specs.Answers.{table}
-use Rattle.query_relaxing.specs.Ready.{endOf, graphOf, weighs}
+use Rattle.query_relaxing.specs.Ready.{endOf, graphOf}
 use Rattle.query_questions.specs.Queries.{graphIn, weightsIn, scratchLong}
-use Rattle.query_tables.specs.Ends.{endIn, stopOf}
+use Rattle.query_tables.specs.Ends.{endIn}
 use Rattle.query_tables.specs.Steps.{tableRefusal}
 use Rattle.query_tables.proofs.Tables.{TableAsked, table-of, table-number}
 use Rattle.columns_answers.proofs.Said.{accepts-of, refuses-of}
-use Rattle.query_search.proofs.Asked.{ScratchLong, scratch-of, searchable, cut-length}
+use Rattle.query_search.proofs.Asked.{ScratchLong, scratch-of, searchable}
 use Rattle.query_tables.proofs.Sources.{table-same, stop-other, table-weights-length, table-previous-length}
 use borrow.Author.Needs.{needs}
 use Rattle.query_tables.proofs.all_edges_with_terminate.Statement.{statement}

@@ -1,18 +1,13 @@
 -- `query_tables::run_table` meets its contract. Assumes nothing.
-use mathlib.Core.Path.{_≡_, refl, sym, ap, ap₂, _∙_, subst}
+use mathlib.Core.Path.{_≡_, sym, ap, _∙_, subst}
 use Prim.Native.Nat.{ℕ, zero, suc, _+_, _*_, _-_, _<_, _≤_}
 use native.Mathlib.Omega.{arith}
-use mathlib.Core.Bool.{true, false, cond, _&&_}
-use mathlib.Core.List.{List, []}
-use lib.ListN.{length, getD, set, take, length-set}
+use mathlib.Core.List.{List}
+use lib.ListN.{length}
 use lib.Seq.{sets}
-use lib.Dec.{eqb, ltb}
-use lib.IntN.{ℤ, pos, negsuc}
-use borrow.Author.Tests.{eq-eqb, ne-eqb, lt-ltb}
 use Rattle.columns.specs.Lists.{each}
-use Rattle.columns.proofs.Counting.{store-each, length-each}
 use Rattle.engine_walks.specs.Answers.{tableWeight, tablePrevious, only, table}
-use Rattle.query_relaxing.specs.Ready.{stateOf, Ready, sumLimit, graphOf, weighs, sources, endOf}
+use Rattle.query_relaxing.specs.Ready.{stateOf, graphOf, weighs, sources, endOf}
 use Rattle.engine_walks.specs.Settling.{settled}
 use Rattle.query_relaxing.proofs.Keys.{ready-as}
 use Rattle.query_search.specs.Search.{Waiting}

@@ -1,5 +1,5 @@
 -- `reorder_calls::build_old_to_new` meets its contract. Assumes nothing.
-use mathlib.Core.Path.{_≡_, refl, sym, ap, _∙_}
+use mathlib.Core.Path.{sym, _∙_}
 use Rattle.reorder_calls.proofs.Accepting.{build-met, built-refused, built-accepted}
 use borrow.Author.Needs.{needs}
 use Rattle.reorder_calls.proofs.build_old_to_new.Statement.{statement}

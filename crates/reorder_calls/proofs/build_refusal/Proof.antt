@@ -1,5 +1,5 @@
 -- `reorder_calls::build_refusal` meets its contract. Assumes nothing.
-use mathlib.Core.Path.{_≡_, refl, sym, ap, _∙_}
+use mathlib.Core.Path.{sym, _∙_}
 use native.Mathlib.Omega.{arith}
 use Rattle.reorder_calls.proofs.Accepting.{build-6, build-11, build-on}
 use borrow.Author.Needs.{needs}

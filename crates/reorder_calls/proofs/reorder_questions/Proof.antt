@@ -1,5 +1,4 @@
 -- `reorder_calls::reorder_questions` meets its contract. Assumes nothing.
-use mathlib.Core.Path.{_≡_, refl, sym, ap, _∙_}
 use borrow.Author.Tests.{not-true, not-false}
 use Rattle.reorder_orders.proofs.Asking.{stops, passes}
 use Rattle.reorder_calls.proofs.reorder_questions.Statement.{statement}

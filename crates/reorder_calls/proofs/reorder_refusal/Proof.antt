@@ -1,5 +1,5 @@
 -- `reorder_calls::reorder_refusal` meets its contract. Assumes nothing.
-use mathlib.Core.Path.{_≡_, refl, sym, ap, _∙_}
+use mathlib.Core.Path.{refl, sym, _∙_}
 use Rattle.columns.proofs.Refusals.{asks}
 use Rattle.reorder_calls.specs.Columns.{reorderRefusal}
 use Rattle.reorder_calls.proofs.Accepting.{sound-few}

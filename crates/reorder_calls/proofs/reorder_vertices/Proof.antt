@@ -1,9 +1,8 @@
 -- `reorder_calls::reorder_vertices` meets its contract. Assumes nothing.
-use mathlib.Core.Path.{_≡_, refl, sym, ap, _∙_}
-use mathlib.Core.List.{List}
+use mathlib.Core.Path.{_≡_, sym, ap, _∙_}
 use Prim.Native.Nat.{ℕ, _≤_, _<_}
 use native.Mathlib.Omega.{arith}
-use lib.ListN.{length, getD}
+use lib.ListN.{length}
 use Rattle.columns_neighbors.specs.Steps.{sumTo}
 use Rattle.reorder_calls.specs.Columns.{ReorderColumns, reorderColumns, reorderRefusal}
 use Rattle.reorder_calls.proofs.Accepting.{ReorderMet, reorder-met, reordered-refused, reordered-accepted}

@@ -1,5 +1,5 @@
 -- `reorder_calls::translate_refusal` meets its contract. Assumes nothing.
-use mathlib.Core.Path.{_≡_, refl, sym, ap, _∙_}
+use mathlib.Core.Path.{sym, _∙_}
 use native.Mathlib.Omega.{arith}
 use Rattle.columns.specs.Questions.{allBelow}
 use Rattle.columns.proofs.Tests.{and-both}

@@ -1,5 +1,5 @@
 -- `reorder_calls::translated_defect_to_reordered` meets its contract. Assumes nothing.
-use mathlib.Core.Path.{_≡_, refl, sym, ap, _∙_}
+use mathlib.Core.Path.{sym, _∙_}
 use Rattle.reorder_calls.proofs.Accepting.{TranslateMet, translate-met, translated-refused, translated-accepted}
 use borrow.Author.Needs.{needs}
 use Rattle.reorder_calls.proofs.translated_defect_to_reordered.Statement.{statement}

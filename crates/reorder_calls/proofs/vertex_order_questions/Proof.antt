@@ -1,8 +1,7 @@
 -- `reorder_calls::vertex_order_questions` meets its contract. Assumes nothing.
-use mathlib.Core.Path.{_≡_, refl, sym, ap, _∙_}
+use mathlib.Core.Path.{sym, ap, _∙_}
 use Prim.Native.Nat.{ℕ}
 use native.Mathlib.Omega.{arith}
-use lib.ListN.{length}
 use Rattle.columns.specs.Questions.{allBelow}
 use Rattle.reorder_calls.proofs.Accepting.{order-stops, order-on}
 use Rattle.reorder_calls.proofs.vertex_order_questions.Statement.{statement}

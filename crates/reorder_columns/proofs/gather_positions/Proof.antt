@@ -1,13 +1,12 @@
 -- `reorder_columns::gather_positions` meets its contract: after k turns the first k listed positions are stored. Assumes nothing.
 use borrow.Author.Needs.{needs}
-use mathlib.Core.Path.{_≡_, refl, sym, ap, _∙_}
-use mathlib.Core.List.{List, map}
+use mathlib.Core.Path.{_≡_, refl, ap, _∙_}
+use mathlib.Core.List.{map}
 use Prim.Native.Nat.{ℕ, _≤_, _<_, _-_, _+_}
 use native.Mathlib.Omega.{arith}
-use lib.ListN.{getD, length, take, set, length-set}
+use lib.ListN.{getD, length, take}
 use lib.Seq.{sets, length-sets}
-use lib.Ieee.{Float}
-use Rattle.columns.specs.Places.{zeroFloat, positionAt}
+use Rattle.columns.specs.Places.{zeroFloat}
 use Rattle.columns.specs.declared.VisualizePosition.{VisualizePosition}
 use Rattle.reorder_orders.proofs.Gathering.{gather-more, gather-end}
 use Rattle.reorder_columns.proofs.gather_positions.Statement.{statement}

@@ -1,11 +1,11 @@
 -- `reorder_columns::gather_u8` meets its contract: after i turns the first i listed places are stored. Assumes nothing.
 use borrow.Author.Needs.{needs}
-use mathlib.Core.Path.{_≡_, refl, sym, ap, _∙_}
+use mathlib.Core.Path.{_≡_, refl, ap}
 use mathlib.Core.List.{map}
 use Prim.Native.Nat.{ℕ, _≤_, _<_, _-_, _+_}
 use native.Mathlib.Omega.{arith}
 use lib.ListN.{getD, length, take}
-use lib.Seq.{sets, length-sets}
+use lib.Seq.{sets}
 use Rattle.reorder_orders.proofs.Gathering.{gather-more, gather-end}
 use Rattle.reorder_columns.proofs.gather_u8.Statement.{statement}
 use Rattle.reorder_columns.proofs.gather_u8.Tie as tie

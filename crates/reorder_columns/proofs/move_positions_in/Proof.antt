@@ -1,5 +1,5 @@
 -- `reorder_columns::move_positions_in` meets its contract. Assumes nothing.
-use mathlib.Core.Path.{_≡_, refl, sym, ap, _∙_}
+use mathlib.Core.Path.{ap, _∙_}
 use mathlib.Core.List.{List}
 use lib.Ieee.{Float}
 use Rattle.columns.specs.Lists.{over}

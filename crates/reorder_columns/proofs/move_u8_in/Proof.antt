@@ -1,9 +1,9 @@
 -- `reorder_columns::move_u8_in` meets its contract. Assumes nothing.
-use mathlib.Core.Path.{_≡_, refl, sym, ap, _∙_}
+use mathlib.Core.Path.{ap, _∙_}
 use mathlib.Core.List.{List}
 use Prim.Native.Nat.{ℕ, _≤_, _<_}
 use native.Mathlib.Omega.{arith}
-use lib.ListN.{length, getD}
+use lib.ListN.{length}
 use Rattle.columns.specs.Lists.{over}
 use Rattle.reorder_orders.proofs.Permutation.{order-below}
 use Rattle.reorder_columns.proofs.Copies.{length-copied, moved-copy}

@@ -1,8 +1,8 @@
 -- `reorder_orders::order_questions` meets its contract. Assumes nothing.
-use mathlib.Core.Path.{_≡_, refl, sym, ap, _∙_}
+use mathlib.Core.Path.{refl, _∙_}
 use native.Mathlib.Omega.{arith}
 use borrow.Author.Tests.{not-true, not-false}
-use lib.ListN.{length, getD}
+use lib.ListN.{length}
 use Rattle.columns.proofs.Tests.{below-at}
 use Rattle.columns.specs.Questions.{ask}
 use Rattle.reorder_orders.specs.Order.{noneTwice}

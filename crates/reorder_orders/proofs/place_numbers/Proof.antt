@@ -1,9 +1,9 @@
 -- `reorder_orders::place_numbers` meets its contract: after i turns the first i numbers stand at the vertices that the order names. Assumes nothing.
 use borrow.Author.Needs.{needs}
-use mathlib.Core.Path.{_≡_, refl, sym, ap, _∙_}
+use mathlib.Core.Path.{_≡_, refl}
 use Prim.Native.Nat.{ℕ, _≤_, _<_, _-_, _+_}
 use native.Mathlib.Omega.{arith}
-use lib.ListN.{getD, length}
+use lib.ListN.{length}
 use Rattle.reorder_orders.specs.Steps.{IsOrder}
 use Rattle.reorder_orders.proofs.Permutation.{order-below}
 use Rattle.reorder_orders.proofs.Gathering.{Placed, placed-none, placed-more, placed-end}

@@ -1,11 +1,11 @@
 -- `reorder_orders::rename_by` meets its contract: after i turns the first i ends are renamed. Assumes nothing.
 use borrow.Author.Needs.{needs}
-use mathlib.Core.Path.{_≡_, refl, sym, ap, _∙_}
-use mathlib.Core.List.{List, map}
+use mathlib.Core.Path.{_≡_, refl, ap}
+use mathlib.Core.List.{map}
 use Prim.Native.Nat.{ℕ, _≤_, _<_, _-_, _+_}
 use native.Mathlib.Omega.{arith}
-use lib.ListN.{getD, length, take, length-take, length-map}
-use lib.Seq.{sets, length-sets, take-take, getD-take, length-take-le}
+use lib.ListN.{getD, length, take}
+use lib.Seq.{sets}
 use Rattle.reorder_orders.proofs.Gathering.{rename-more, rename-end, rename-reads}
 use Rattle.reorder_orders.proofs.rename_by.Statement.{statement}
 use Rattle.reorder_orders.proofs.rename_by.Tie as tie

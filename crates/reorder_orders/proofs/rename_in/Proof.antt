@@ -1,9 +1,9 @@
 -- `reorder_orders::rename_in` meets its contract. Assumes nothing.
-use mathlib.Core.Path.{_≡_, refl, sym, ap, _∙_}
+use mathlib.Core.Path.{ap, _∙_}
 use mathlib.Core.List.{List}
 use Prim.Native.Nat.{ℕ, _≤_, _<_}
 use native.Mathlib.Omega.{arith}
-use lib.ListN.{length, getD, take, length-take}
+use lib.ListN.{length, take}
 use Rattle.columns.specs.Lists.{over}
 use Rattle.columns.proofs.Columns.{length-over}
 use Rattle.reorder_orders.specs.Order.{oldToNew}

@@ -1,13 +1,12 @@
 -- `sampling_calls::collect_defects` meets its contract. Assumes nothing.
-use mathlib.Core.Path.{_≡_, refl, sym, ap, _∙_}
+use mathlib.Core.Path.{ap, _∙_}
 use mathlib.Core.List.{List}
 use Prim.Native.Nat.{ℕ, _≤_, _<_}
 use native.Mathlib.Omega.{arith}
-use lib.ListN.{length, getD}
+use lib.ListN.{length}
 use Rattle.columns.specs.Lists.{over}
 use Rattle.sampling_calls.specs.Records.{CodeGraph, codeGraph}
 use Rattle.columns_marks.specs.Marks.{listed}
-use Rattle.sampling_calls.specs.Syndrome.{syndromeOf}
 use Rattle.sampling_flips.proofs.Flipping.{length-flipEach}
 use Rattle.sampling_calls.proofs.Accepting.{listed-syndrome}
 use borrow.Author.Needs.{needs}

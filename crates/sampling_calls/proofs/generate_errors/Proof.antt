@@ -1,9 +1,8 @@
 -- `sampling_calls::generate_errors` meets its contract. Assumes nothing.
-use mathlib.Core.Path.{_≡_, refl, sym, ap, _∙_}
-use mathlib.Core.List.{List}
+use mathlib.Core.Path.{_≡_, sym, ap, _∙_}
 use Prim.Native.Nat.{ℕ, _≤_, _<_}
 use native.Mathlib.Omega.{arith}
-use lib.ListN.{length, getD, take}
+use lib.ListN.{length, take}
 use lib.Seq.{length-take-le}
 use Rattle.sampling_calls.specs.Records.{CodeGraph, codeGraph, SyndromeColumns, syndromeColumns}
 use Rattle.sampling_flips.specs.Flip.{flipEach}

@@ -1,11 +1,9 @@
 -- `sampling_calls::generate_random_errors` meets its contract. Assumes nothing.
-use mathlib.Core.Path.{_≡_, refl, sym, ap, _∙_}
-use mathlib.Core.List.{List}
+use mathlib.Core.Path.{_≡_, sym, ap, _∙_}
 use Prim.Native.Nat.{ℕ, _≤_, _<_}
 use native.Mathlib.Omega.{arith}
-use lib.ListN.{length, getD, replicate}
+use lib.ListN.{length}
 use lib.Seq.{length-sets}
-use lib.Ieee.{Float}
 use Rattle.sampling_generator.specs.Random.{seedFromU64}
 use Rattle.sampling_calls.specs.Records.{CodeGraph, codeGraph, SyndromeColumns, syndromeColumns}
 use Rattle.sampling_edges.specs.Draws.{sampledErasures}

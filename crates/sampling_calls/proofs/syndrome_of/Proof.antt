@@ -1,8 +1,6 @@
 -- `sampling_calls::syndrome_of` meets its contract. Assumes nothing.
-use mathlib.Core.Path.{_≡_, refl, sym, ap, _∙_}
-use native.Mathlib.Omega.{arith}
+use mathlib.Core.Path.{sym, _∙_}
 use Rattle.sampling_calls.specs.Records.{CodeGraph, codeGraph}
-use Rattle.sampling_calls.specs.Syndrome.{syndromeRefusal}
 use Rattle.sampling_calls.proofs.Accepting.{SyndromeMet, syndrome-met, syndrome-refused, syndrome-accepted}
 use borrow.Author.Needs.{needs}
 use Rattle.sampling_calls.proofs.syndrome_of.Statement.{statement}

@@ -1,6 +1,5 @@
 -- `sampling_clear::clear_errors` meets its contract. Assumes nothing.
-use mathlib.Core.Path.{_≡_, refl, sym, ap, _∙_}
-use Rattle.sampling_clear.specs.Clear.{clearRefusal}
+use mathlib.Core.Path.{sym, _∙_}
 use Rattle.sampling_clear.proofs.Clearing.{clear-refused, clear-accepted}
 use borrow.Author.Needs.{needs}
 use Rattle.sampling_clear.proofs.clear_errors.Statement.{statement}

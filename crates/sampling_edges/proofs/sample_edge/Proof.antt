@@ -1,6 +1,5 @@
 -- `sampling_edges::sample_edge` meets its contract. Assumes nothing.
-use mathlib.Core.Path.{_≡_, refl, sym, ap, _∙_}
-use mathlib.Core.Bool.{Bool, cond}
+use mathlib.Core.Path.{ap, _∙_}
 use lib.Ieee.{Float, lt}
 use Rattle.sampling_generator.specs.declared.DeterministicRng.{DeterministicRng}
 use Rattle.sampling_generator.specs.Random.{wordOf, nextOf, drawOf}

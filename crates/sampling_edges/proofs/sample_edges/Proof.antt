@@ -2,10 +2,8 @@
 use borrow.Author.Needs.{needs}
 use mathlib.Core.Path.{_≡_, refl, sym, ap, _∙_}
 use Prim.Native.Nat.{ℕ, _≤_, _<_, _-_}
-use native.Mathlib.Nat.{le-antisymm}
 use native.Mathlib.Omega.{arith}
 use lib.ListN.{length, length-set}
-use Rattle.sampling_flips.specs.Steps.{Fits}
 use Rattle.sampling_edges.specs.Steps.{Sampled}
 use Rattle.sampling_flips.proofs.Flipping.{fits-on, length-flipEach}
 use Rattle.sampling_edges.proofs.Sampling.{sampled-none, sampled-more}

@@ -1,8 +1,7 @@
 -- `sampling_flips::flip` meets its contract. Assumes nothing.
-use mathlib.Core.Path.{_≡_, refl, sym, ap, _∙_}
+use mathlib.Core.Path.{sym}
 use Prim.Native.Nat.{ℕ, zero, suc, _-_}
 use native.Mathlib.Omega.{arith}
-use Rattle.sampling_flips.specs.Flip.{flipped}
 use Rattle.sampling_flips.proofs.Flipping.{flipped-virtual, flipped-inner}
 use Rattle.sampling_flips.proofs.flip.Statement.{statement}
 use Rattle.sampling_flips.proofs.flip.Tie as tie

@@ -1,13 +1,12 @@
 -- `sampling_flips::flip_all` meets its contract: after i turns the first i listed edges have flipped their ends. Assumes nothing.
 use borrow.Author.Needs.{needs}
-use mathlib.Core.Path.{_≡_, refl, sym, ap, _∙_}
+use mathlib.Core.Path.{_≡_, refl, ap, _∙_}
 use Prim.Native.Nat.{ℕ, _≤_, _<_, _-_, _+_}
-use mathlib.Core.List.{List, [], _∷_, _++_}
+use mathlib.Core.List.{List}
 use native.Mathlib.Omega.{arith}
-use native.Mathlib.Numerals.{add-one}
-use lib.ListN.{getD, length, take}
-use lib.Seq.{take-suc, take-length}
-use Rattle.sampling_flips.specs.Flip.{flipEdge, flipEach}
+use lib.ListN.{length, take}
+use lib.Seq.{take-length}
+use Rattle.sampling_flips.specs.Flip.{flipEach}
 use Rattle.sampling_flips.proofs.Flipping.{length-flipEach, flipEach-more, fits-on}
 use Rattle.sampling_flips.proofs.flip_all.Statement.{statement}
 use Rattle.sampling_flips.proofs.flip_all.Tie as tie

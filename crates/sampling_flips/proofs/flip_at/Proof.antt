@@ -1,8 +1,8 @@
 -- `sampling_flips::flip_at` meets its contract. Assumes nothing.
-use mathlib.Core.Path.{_≡_, refl, sym, ap, _∙_}
+use mathlib.Core.Path.{ap}
 use Prim.Native.Nat.{ℕ}
 use lib.ListN.{set}
-use Rattle.sampling_flips.specs.Flip.{flipped, flipAt}
+use Rattle.sampling_flips.specs.Flip.{flipAt}
 use borrow.Author.Needs.{needs}
 use Rattle.sampling_flips.proofs.flip_at.Statement.{statement}
 use Rattle.sampling_flips.proofs.flip_at.Tie as tie

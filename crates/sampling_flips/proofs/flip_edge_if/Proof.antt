@@ -1,7 +1,4 @@
 -- `sampling_flips::flip_edge_if` meets its contract. Assumes nothing.
-use mathlib.Core.Path.{_≡_, refl, sym, ap, _∙_}
-use mathlib.Core.Bool.{Bool}
-use Rattle.columns.specs.Lists.{when}
 use Rattle.sampling_flips.specs.Flip.{flipEach}
 use borrow.Author.Needs.{needs}
 use Rattle.sampling_flips.proofs.flip_edge_if.Statement.{statement}

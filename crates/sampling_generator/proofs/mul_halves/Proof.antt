@@ -1,8 +1,6 @@
 use borrow.Author.Needs.{needs}
 use Prim.Native.Nat.{_*_, _^_, _<_}
 use mathlib.Core.Path.{_∙_}
-use mir.Syntax.{w64}
-use mir.Val.{Fits}
 use Rattle.sampling_generator.proofs.Words.{low-product, half-fits}
 use Rattle.sampling_generator.proofs.mul_halves.Statement.{statement}
 use Rattle.sampling_generator.proofs.mul_halves.Tie as tie

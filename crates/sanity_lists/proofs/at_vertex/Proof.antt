@@ -1,5 +1,5 @@
 -- `sanity_lists::at_vertex` meets its contract. Assumes nothing.
-use mathlib.Core.Path.{_≡_, refl, sym, ap, _∙_}
+use mathlib.Core.Path.{_∙_}
 use Rattle.sanity_lists.proofs.Stamping.{no-edges, some-edges, below-more}
 use borrow.Author.Needs.{needs}
 use Rattle.sanity_lists.proofs.at_vertex.Statement.{statement}

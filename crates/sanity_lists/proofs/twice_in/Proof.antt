@@ -1,5 +1,5 @@
 -- `sanity_lists::twice_in` meets its contract. Invariant: the first i numbers are stamped, and none of them stands there twice. Assumes nothing.
-use mathlib.Core.Path.{_≡_, refl, sym, ap, _∙_, subst}
+use mathlib.Core.Path.{_≡_, refl, sym, _∙_, subst}
 use Prim.Native.Nat.{ℕ, _+_, _-_, _≤_, _<_}
 use native.Mathlib.Omega.{arith}
 use Rattle.sanity_lists.specs.Steps.{Stamped}

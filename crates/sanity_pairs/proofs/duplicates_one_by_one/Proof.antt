@@ -1,5 +1,5 @@
 -- `sanity_pairs::duplicates_one_by_one` meets its contract. Invariant: no finding among the first i edges. Assumes nothing.
-use mathlib.Core.Path.{_≡_, refl, sym, ap, _∙_}
+use mathlib.Core.Path.{_≡_, sym, ap, _∙_}
 use Prim.Native.Nat.{ℕ, _+_, _-_, _≤_, _<_}
 use native.Mathlib.Omega.{arith}
 use Rattle.sanity_verdicts.specs.declared.Verdict.the-variants.{Sound}

@@ -1,5 +1,5 @@
 -- `sanity_pairs::first_same` meets its contract. Invariant: none of the first j edges joins the pair of edge i. Assumes nothing.
-use mathlib.Core.Path.{_≡_, refl, sym, ap, _∙_}
+use mathlib.Core.Path.{_≡_, sym, _∙_}
 use Prim.Native.Nat.{ℕ, _+_, _-_, _≤_, _<_}
 use native.Mathlib.Omega.{arith}
 use Rattle.columns_pairs.specs.Pairs.{lowAt, highAt}

@@ -1,8 +1,6 @@
 -- `test_replay_codes::replay` is safe and ends. Assumes nothing.
 use borrow.Author.Needs.{needs}
 use Prim.Native.Nat.{_≤_, _-_, min}
-use mathlib.Core.Path.{_≡_}
-use lib.ListN.{length}
 use Rattle.test_replay_codes.proofs.replay.Statement.{statement}
 use Rattle.test_replay_codes.proofs.replay.Tie as tie
 

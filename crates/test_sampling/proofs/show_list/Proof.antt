@@ -2,7 +2,6 @@
 use borrow.Author.Needs.{needs}
 use Prim.Native.Nat.{_≤_, _<_, _-_, min}
 use mathlib.Core.Path.{_≡_}
-use native.Mathlib.Omega.{arith}
 use lib.ListN.{length}
 use Rattle.test_sampling.proofs.show_list.Statement.{statement}
 use Rattle.test_sampling.proofs.show_list.Tie as tie

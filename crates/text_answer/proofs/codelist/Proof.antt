@@ -1,8 +1,6 @@
 -- `text_answer::codelist` meets its contract. Assumes nothing.
 use native.Mathlib.Omega.{arith}
 use Prim.Native.Nat.{ℕ, _≤_}
-use lib.ListN.{length}
-use Rattle.text_answer.specs.Answer.{textOf}
 use Rattle.text_answer.proofs.Sizes.{text-few}
 use Rattle.text_answer.proofs.Texts.{too-short, long-enough}
 use Rattle.text_answer.proofs.codelist.Statement.{statement}

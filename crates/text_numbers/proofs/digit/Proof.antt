@@ -1,10 +1,8 @@
 -- `text_numbers::digit` meets its contract. Assumes nothing.
-use mathlib.Core.Path.{_≡_, refl, sym, ap, _∙_}
-use mathlib.Core.List.{List, [], _∷_, _++_}
+use mathlib.Core.Path.{ap}
 use Prim.Native.Nat.{ℕ, _+_, _-_, _*_, _/_, _%_, _^_, _≤_, _<_}
 use native.Mathlib.Omega.{arith}
-use Rattle.text_numbers.specs.Text.{sizeIn, digitsOf, decimal}
-use Rattle.text_numbers.proofs.Sizes.{size-few, size-here, size-below, size-end, some-power, digit-next, digits-long}
+use Rattle.text_numbers.proofs.Sizes.{some-power}
 use borrow.Author.Needs.{needs}
 use Rattle.text_numbers.proofs.digit.Statement.{statement}
 use Rattle.text_numbers.proofs.digit.Tie as tie

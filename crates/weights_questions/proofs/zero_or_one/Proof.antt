@@ -1,6 +1,6 @@
 -- `weights_questions::zero_or_one` meets its contract. Assumes nothing.
-use mathlib.Core.Path.{_≡_, refl, sym, _∙_, subst}
-use lib.Ieee.{Float, binary64, fits}
+use mathlib.Core.Path.{refl, sym, _∙_, subst}
+use lib.Ieee.{binary64, fits}
 use lib.Dec.{T}
 use Rattle.weights_recipe.proofs.Floats.{equal-no-nan, unequal-zero, one-number, one-not-zero}
 use Rattle.weights_questions.proofs.zero_or_one.Statement.{statement}

@@ -1,5 +1,5 @@
 -- `access_vertices::positions::get_positions` meets its contract. Assumes nothing.
-use mathlib.Core.Path.{_≡_, refl, sym, ap, _∙_}
+use mathlib.Core.Path.{_≡_, sym, ap, _∙_}
 use lib.ListN.{take}
 use Rattle.columns.specs.Answers.{done}
 use Rattle.columns_answers.proofs.Said.{accepts-of}

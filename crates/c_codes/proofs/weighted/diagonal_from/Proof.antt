@@ -1,6 +1,6 @@
 -- `c_codes::weighted::diagonal_from` meets its contract. Assumes nothing.
 use Prim.Native.Nat.{ℕ}
-use mathlib.Core.Path.{_≡_, sym, ap}
+use mathlib.Core.Path.{sym, ap}
 use Rattle.c_codes.specs.Arguments.{diagonalFrom}
 use Rattle.c_codes.proofs.Given.{diagonal-given}
 use Rattle.c_codes.proofs.weighted.diagonal_from.Statement.{statement}

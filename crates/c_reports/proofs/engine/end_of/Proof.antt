@@ -1,6 +1,6 @@
 -- `c_reports::engine::end_of` meets its contract. Assumes nothing.
 use Prim.Native.Nat.{ℕ}
-use mathlib.Core.Path.{_≡_, sym, ap}
+use mathlib.Core.Path.{sym, ap}
 use Rattle.c_reports.specs.Engine.{givenEnd}
 use Rattle.c_reports.proofs.Ends.{end-given}
 use Rattle.c_reports.proofs.engine.end_of.Statement.{statement}

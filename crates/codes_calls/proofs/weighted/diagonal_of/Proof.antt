@@ -1,5 +1,5 @@
 -- `codes_calls::weighted::diagonal_of` meets its contract. Assumes nothing.
-use mathlib.Core.Path.{_≡_, refl, sym, ap, _∙_}
+use mathlib.Core.Path.{sym, ap, _∙_}
 use mathlib.Core.Bool.{Bool, cond}
 use borrow.Author.Tests.{eq-eqb, ne-eqb}
 use Rattle.weights_diagonal.specs.Diagonal.{newDiagonal}

@@ -1,5 +1,5 @@
 -- `codes_calls::weighted::new` meets its contract. Assumes nothing.
-use mathlib.Core.Path.{_≡_, refl, sym, ap, _∙_, subst}
+use mathlib.Core.Path.{sym, subst}
 use Rattle.codes_calls.specs.WeightedSteps.{DiagonalKind}
 use Rattle.codes_calls.proofs.WeightedOutcome.{diagonal-kind, with-diagonal}
 use Rattle.codes_calls.proofs.weighted.new.Statement.{statement}

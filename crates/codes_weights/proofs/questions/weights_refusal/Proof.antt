@@ -1,5 +1,5 @@
 -- `codes_weights::questions::weights_refusal` meets its contract. Assumes nothing.
-use mathlib.Core.Path.{_≡_, refl, sym, ap, _∙_}
+use mathlib.Core.Path.{_∙_}
 use mathlib.Core.Bool.{_&&_}
 use Rattle.codes_weights.specs.Steps.{weightsRefusal}
 use Rattle.codes_weights.proofs.questions.weights_refusal.Statement.{statement}

@@ -1,5 +1,5 @@
 -- `codes_weights::weigh::diagonal_at` meets its contract. Assumes nothing.
-use mathlib.Core.Path.{_≡_, refl, sym, ap, _∙_}
+use mathlib.Core.Path.{ap, _∙_}
 use Prim.Native.Nat.{ℕ}
 use Rattle.columns.specs.Places.{positionAt}
 use Rattle.columns.specs.declared.VisualizePosition.{VisualizePosition}

@@ -1,12 +1,11 @@
 -- `codes_weights::weigh::weigh_edges` meets its contract. Invariant: the first i edges have what they get. Assumes nothing.
-use mathlib.Core.Path.{_≡_, refl, sym, ap, _∙_}
+use mathlib.Core.Path.{_≡_, refl, ap, _∙_}
 use mathlib.Core.Bool.{Bool, true, false, cond}
 use mathlib.Core.List.{List}
 use Prim.Native.Nat.{ℕ, _+_, _-_, _≤_}
 use native.Mathlib.Omega.{arith}
 use lib.ListN.{length, set, length-set}
 use lib.Seq.{sets}
-use lib.Ieee.{Float}
 use Rattle.columns.specs.Lists.{each}
 use Rattle.columns.proofs.Counting.{store-each}
 use Rattle.codes_weights.specs.declared.Weighed.{Weighed}

@@ -1,5 +1,5 @@
 -- `codes_weights::weigh::weighed` meets its contract. Assumes nothing.
-use mathlib.Core.Path.{_≡_, refl, sym, ap, _∙_}
+use mathlib.Core.Path.{ap, _∙_}
 use lib.Ieee.{Float}
 use Rattle.weights_recipe.specs.Rounding.{halfWeight}
 use Rattle.codes_weights.proofs.weigh.weighed.Statement.{statement}

@@ -1,10 +1,9 @@
 -- `prebuilt_calls::boundaries::fill_boundaries` meets its contract. Assumes nothing.
-use mathlib.Core.Path.{_≡_, refl, sym, ap, _∙_, subst}
+use mathlib.Core.Path.{_≡_, refl, sym, _∙_}
 use Prim.Native.Nat.{ℕ, _<_, _≤_}
 use native.Mathlib.Omega.{arith}
 use mathlib.Core.Bool.{Bool, true, _&&_}
 use lib.ListN.{length}
-use lib.Seq.{sets}
 use Rattle.columns.specs.Lists.{each}
 use Rattle.columns.proofs.Counting.{length-each}
 use Rattle.columns.proofs.Columns.{sets-over, after-accepted, after-refused}

@@ -1,20 +1,11 @@
 -- `prebuilt_calls::nearest::boundary_answer` meets its contract. Assumes nothing.
-use mathlib.Core.Path.{_≡_, refl, sym, ap, _∙_, subst}
-use mathlib.Core.Logic.{_⊎_, inl, inr}
+use mathlib.Core.Path.{sym, ap, _∙_}
 use Prim.Native.Nat.{ℕ, zero, suc, _+_, _*_, _-_, _<_, _≤_}
 use native.Mathlib.Omega.{arith}
-use mathlib.Core.Bool.{Bool, true, false, not, cond, _&&_}
-use mathlib.Core.List.{List}
-use mathlib.Core.Option.{Option, some, none}
-use lib.ListN.{length, getD, take, List·getD-eq-default}
-use lib.Dec.{eqb}
-use lib.IntN.{ℤ, pos, negsuc}
+use mathlib.Core.Bool.{not, cond}
+use mathlib.Core.Option.{none}
+use lib.ListN.{length, getD}
 use borrow.Author.Tests.{eq-eqb, ne-eqb}
-use mir.Syntax.{w32}
-use mir.Val.{SFits, toZ, ofZ}
-use mir.ValLaws.{toZ-ofZ}
-use Rattle.columns.proofs.Columns.{getD-any}
-use Rattle.engine_walks.specs.Answers.{weightIn}
 use Rattle.prebuilt_entries.specs.Nearest.{nearestIn}
 use Rattle.prebuilt_calls.specs.Nearest.{boundaryFound}
 use Rattle.columns_answers.specs.Said.{accepts}

@@ -1,16 +1,13 @@
 -- `prebuilt_calls::nearest::get_boundary_weight` meets its contract. Assumes nothing.
-use mathlib.Core.Path.{_≡_, refl, sym, _∙_, subst}
+use mathlib.Core.Path.{_≡_, sym, _∙_}
 use Prim.Native.Nat.{ℕ, zero, suc, _+_, _*_, _<_, _≤_}
 use native.Mathlib.Omega.{arith}
-use mathlib.Core.Bool.{Bool, true, false}
-use mathlib.Core.List.{List}
+use mathlib.Core.Bool.{Bool}
 use mathlib.Core.Option.{none}
-use lib.ListN.{length, getD, take}
+use lib.ListN.{length, take}
 use lib.Seq.{length-take-le}
-use lib.IntN.{ℤ}
-use Rattle.columns.specs.Lists.{over, after}
 use Rattle.columns.proofs.Columns.{after-accepted, after-refused}
-use Rattle.columns_neighbors.proofs.Ends.{GraphSound, graph-says}
+use Rattle.columns_neighbors.proofs.Ends.{graph-says}
 use Rattle.engine_columns.specs.Records.{Engine, engine}
 use Rattle.engine_walks.specs.Answers.{table}
 use Rattle.query_tables.specs.declared.End.the-variants.{None}

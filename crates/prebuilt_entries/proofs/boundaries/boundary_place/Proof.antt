@@ -1,5 +1,4 @@
 -- `prebuilt_entries::boundaries::boundary_place` meets its contract. Assumes nothing.
-use mathlib.Core.Path.{_≡_, refl, sym, ap, _∙_}
 use Rattle.prebuilt_entries.proofs.Places.{at-virtual, at-inner}
 use borrow.Author.Needs.{needs}
 use Rattle.prebuilt_entries.proofs.boundaries.boundary_place.Statement.{statement}

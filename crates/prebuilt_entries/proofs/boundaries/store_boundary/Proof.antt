@@ -1,5 +1,5 @@
 -- `prebuilt_entries::boundaries::store_boundary` meets its contract. Assumes nothing.
-use mathlib.Core.Path.{_≡_, refl, sym, ap, _∙_}
+use mathlib.Core.Path.{ap, _∙_}
 use lib.ListN.{set}
 use mir.Syntax.{w32}
 use mir.Facts.{toZ-ofZ}

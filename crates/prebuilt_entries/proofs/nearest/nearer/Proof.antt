@@ -1,24 +1,16 @@
 -- `prebuilt_entries::nearest::nearer` meets its contract. Assumes nothing.
-use mathlib.Core.Path.{_≡_, refl, sym, ap, _∙_, subst}
-use mathlib.Core.Logic.{_⊎_, inl, inr}
+use mathlib.Core.Path.{_≡_, sym, ap, _∙_}
+use mathlib.Core.Logic.{inl, inr}
 use Prim.Native.Nat.{ℕ, zero, suc, _+_, _*_, _-_, _<_, _≤_}
 use native.Mathlib.Omega.{arith}
-use mathlib.Core.Bool.{Bool, true, false, not, cond, _&&_}
-use mathlib.Core.List.{List}
-use mathlib.Core.Option.{Option, some, none}
-use lib.ListN.{length, getD, take, List·getD-eq-default}
+use mathlib.Core.Bool.{true, not, _&&_}
+use lib.ListN.{getD}
 use lib.Dec.{eqb}
-use lib.IntN.{ℤ, pos, negsuc}
-use borrow.Author.Tests.{eq-eqb, ne-eqb}
-use mir.Syntax.{w32}
-use mir.Val.{SFits, toZ, ofZ}
-use mir.ValLaws.{toZ-ofZ}
-use Rattle.columns.proofs.Columns.{getD-any}
+use borrow.Author.Tests.{ne-eqb}
 use Rattle.engine_walks.specs.Answers.{weightIn}
-use Rattle.engine_walks.proofs.FirstLeast.{orElse, IsFirst, first-least}
-use Rattle.prebuilt_entries.specs.Entries.{rank, isVirtual}
-use Rattle.prebuilt_entries.specs.Nearest.{isReached, amount, nearestIn}
-use Rattle.prebuilt_entries.proofs.Amounts.{amount-none, amount-some, reached-by, near-by, near-take, near-keep}
+use Rattle.prebuilt_entries.specs.Entries.{isVirtual}
+use Rattle.prebuilt_entries.specs.Nearest.{isReached}
+use Rattle.prebuilt_entries.proofs.Amounts.{near-by, near-take, near-keep}
 use Rattle.prebuilt_entries.proofs.nearest.nearer.Statement.{statement}
 use Rattle.prebuilt_entries.proofs.nearest.nearer.Tie as tie
 

@@ -1,14 +1,10 @@
 -- `prebuilt_entries::rows::in_the_middle` meets its contract. Assumes nothing.
-use mathlib.Core.Path.{_≡_, refl, sym, ap, _∙_, subst}
+use mathlib.Core.Path.{sym, ap, _∙_}
 use Prim.Native.Nat.{ℕ, zero, suc, _+_, _*_, _-_, _<_, _≤_}
-use native.Mathlib.Omega.{arith}
-use mathlib.Core.Bool.{Bool, true, false, not, cond, _||_}
-use mathlib.Core.List.{List}
-use Rattle.prebuilt_entries.specs.Entries.{rank, inTheMiddle}
+use Rattle.prebuilt_entries.specs.Entries.{rank}
 use Rattle.prebuilt_entries.proofs.Ranks.{own-none, peer-none, by-ranks}
 use lib.Dec.{ltb}
 use mir.Syntax.{w32}
-use mir.Val.{SFits, toZ, ofZ}
 use mir.ValLaws.{toZ-ofZ}
 use borrow.Author.Needs.{needs}
 use Rattle.prebuilt_entries.proofs.rows.in_the_middle.Statement.{statement}

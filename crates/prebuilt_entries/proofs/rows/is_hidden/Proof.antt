@@ -1,10 +1,7 @@
 -- `prebuilt_entries::rows::is_hidden` meets its contract. Assumes nothing.
-use mathlib.Core.Path.{_≡_, refl, sym, ap, _∙_, subst}
+use mathlib.Core.Path.{sym, ap}
 use Prim.Native.Nat.{ℕ, zero, suc, _+_, _*_, _-_, _<_, _≤_}
-use native.Mathlib.Omega.{arith}
-use mathlib.Core.Bool.{Bool, true, false, not, cond, _||_}
-use mathlib.Core.List.{List}
-use lib.Dec.{eqb}
+use mathlib.Core.Bool.{not, _||_}
 use borrow.Author.Tests.{eq-eqb, ne-eqb}
 use Rattle.prebuilt_entries.specs.Entries.{isVirtual}
 use Rattle.prebuilt_entries.proofs.rows.is_hidden.Statement.{statement}

@@ -1,16 +1,13 @@
 -- `prebuilt_entries::rows::rank_of` meets its contract. Assumes nothing.
-use mathlib.Core.Path.{_≡_, refl, sym, ap, _∙_, subst}
+use mathlib.Core.Path.{sym, ap, _∙_, subst}
 use Prim.Native.Nat.{ℕ, zero, suc, _+_, _*_, _-_, _<_, _≤_}
 use native.Mathlib.Omega.{arith}
-use mathlib.Core.Bool.{Bool, true, false, not, cond, _||_}
-use mathlib.Core.List.{List}
 use lib.Dec.{T}
-use lib.IntN.{ℤ, pos, negsuc, natAbs}
+use lib.IntN.{pos, natAbs}
 use lib.Signed.{ltZ, nonNeg}
 use mir.Syntax.{w32, w64}
-use mir.Val.{Fits, SFits}
+use mir.Val.{Fits}
 use mir.ValLaws.{toZ-ofZ}
-use Rattle.prebuilt_entries.specs.Entries.{rank}
 use Rattle.prebuilt_entries.proofs.Ranks.{below-zero, not-below, rank-is, rank-small}
 use Rattle.prebuilt_entries.proofs.rows.rank_of.Statement.{statement}
 use Rattle.prebuilt_entries.proofs.rows.rank_of.Tie as tie

@@ -1,13 +1,10 @@
 -- `prebuilt_entries::rows::row_entry` meets its contract. Assumes nothing.
-use mathlib.Core.Path.{_≡_, refl, sym, ap, _∙_, subst}
+use mathlib.Core.Path.{_≡_, sym, ap, _∙_}
 use Prim.Native.Nat.{ℕ, zero, suc, _+_, _*_, _-_, _<_, _≤_}
-use native.Mathlib.Omega.{arith}
-use mathlib.Core.Bool.{Bool, true, false, not, cond, _||_}
-use mathlib.Core.List.{List}
-use lib.IntN.{ℤ, pos, negsuc}
-use Rattle.prebuilt_entries.specs.Entries.{inTheMiddle, entryBy}
+use mathlib.Core.Bool.{cond}
+use lib.IntN.{negsuc}
+use Rattle.prebuilt_entries.specs.Entries.{inTheMiddle}
 use mir.Syntax.{w32}
-use mir.Val.{SFits, toZ, ofZ}
 use mir.ValLaws.{toZ-ofZ}
 use Rattle.prebuilt_entries.proofs.rows.row_entry.Statement.{statement}
 use Rattle.prebuilt_entries.proofs.rows.row_entry.Tie as tie

@@ -1,18 +1,18 @@
 -- `prebuilt_entries::rows::write_row` meets its contract. Assumes nothing.
-use mathlib.Core.Path.{_≡_, refl, sym, ap, _∙_, subst}
+use mathlib.Core.Path.{_≡_, refl, ap, _∙_, subst}
 use Prim.Native.Nat.{ℕ, zero, suc, _+_, _*_, _-_, _<_, _≤_}
 use native.Mathlib.Omega.{arith}
-use mathlib.Core.Bool.{Bool, true, false, not, cond, _||_}
+use mathlib.Core.Bool.{_||_}
 use mathlib.Core.List.{List}
 use lib.ListN.{length, getD, set, length-set}
 use lib.Seq.{sets}
 use lib.IntN.{ℤ, pos, negsuc}
 use Rattle.columns.specs.Lists.{each}
-use Rattle.columns.proofs.Counting.{store-each, length-each}
+use Rattle.columns.proofs.Counting.{store-each}
 use Rattle.prebuilt_entries.specs.Entries.{rowEntry, isVirtual, entryBy}
 use Rattle.prebuilt_entries.proofs.Stored.{not-yet}
 use mir.Syntax.{w32}
-use mir.Val.{SFits, toZ, ofZ}
+use mir.Val.{toZ, ofZ}
 use mir.ValLaws.{toZ-ofZ}
 use lib.Dec.{eqb}
 use lib.Signed.{mag}

@@ -1,15 +1,11 @@
 -- `query_search::sources::begin_left` meets its contract. Invariant: the bytes of the first v vertices are written. Assumes nothing.
-use mathlib.Core.Path.{_≡_, refl, sym, ap, ap₂, _∙_, subst}
+use mathlib.Core.Path.{_≡_, refl, ap, _∙_}
 use Prim.Native.Nat.{ℕ, zero, suc, _+_, _*_, _-_, _<_, _≤_}
 use native.Mathlib.Omega.{arith}
-use mathlib.Core.Bool.{true, false, cond}
-use mathlib.Core.List.{List, []}
-use lib.ListN.{length, getD, set, replicate, length-replicate, length-set}
-use lib.Seq.{sets, set-out, length-sets}
-use lib.Dec.{eqb, ltb}
-use borrow.Author.Tests.{eq-eqb, ne-eqb}
+use lib.ListN.{length, getD, set, length-set}
+use lib.Seq.{sets}
 use Rattle.columns.specs.Lists.{each}
-use Rattle.columns.proofs.Counting.{store-each, whole, replicate-each, length-each}
+use Rattle.columns.proofs.Counting.{store-each, whole, length-each}
 use Rattle.engine_walks.specs.Lists.{delta}
 use borrow.Author.Needs.{needs}
 use Rattle.query_search.proofs.sources.begin_left.Statement.{statement}

@@ -1,15 +1,10 @@
 -- `query_search::sources::put_source` meets its contract. Assumes nothing.
-use mathlib.Core.Path.{_≡_, refl, sym, ap, ap₂, _∙_, subst}
+use mathlib.Core.Path.{refl, sym, ap, _∙_}
 use Prim.Native.Nat.{ℕ, zero, suc, _+_, _*_, _-_, _<_, _≤_}
 use native.Mathlib.Omega.{arith}
-use mathlib.Core.Bool.{true, false, cond}
-use mathlib.Core.List.{List, []}
-use lib.ListN.{length, getD, set, replicate, length-replicate, length-set}
-use lib.Seq.{sets, set-out, length-sets}
-use lib.Dec.{eqb, ltb}
+use mathlib.Core.Bool.{cond}
+use lib.ListN.{set}
 use borrow.Author.Tests.{eq-eqb, ne-eqb}
-use Rattle.columns.specs.Lists.{each}
-use Rattle.columns.proofs.Counting.{store-each, whole, replicate-each, length-each}
 use Rattle.query_search.proofs.sources.put_source.Statement.{statement}
 use Rattle.query_search.proofs.sources.put_source.Tie as tie
 

@@ -1,15 +1,8 @@
 -- `query_search::sources::put_sources` meets its contract. Invariant: the keys of the first v vertices stand. Assumes nothing.
-use mathlib.Core.Path.{_≡_, refl, sym, ap, ap₂, _∙_, subst}
+use mathlib.Core.Path.{_≡_, refl, sym, _∙_, subst}
 use Prim.Native.Nat.{ℕ, zero, suc, _+_, _*_, _-_, _<_, _≤_}
 use native.Mathlib.Omega.{arith}
-use mathlib.Core.Bool.{true, false, cond}
-use mathlib.Core.List.{List, []}
-use lib.ListN.{length, getD, set, replicate, length-replicate, length-set}
-use lib.Seq.{sets, set-out, length-sets}
-use lib.Dec.{eqb, ltb}
-use borrow.Author.Tests.{eq-eqb, ne-eqb}
-use Rattle.columns.specs.Lists.{each}
-use Rattle.columns.proofs.Counting.{store-each, whole, replicate-each, length-each}
+use lib.ListN.{length}
 use Rattle.query_queue.specs.Tree.{Tree}
 use Rattle.query_relaxing.specs.Ready.{Keyed}
 use Rattle.query_search.proofs.Beginning.{keyed-none, keyed-more}

@@ -1,15 +1,13 @@
 -- `reorder_calls::lists::gather_lists` meets its contract: after k turns the lists of the first k vertices in the new order are stored. Assumes nothing.
 use borrow.Author.Needs.{needs}
-use mathlib.Core.Path.{_≡_, refl, sym, ap, _∙_}
-use mathlib.Core.List.{List}
+use mathlib.Core.Path.{_≡_, refl, ap, _∙_}
 use Prim.Native.Nat.{ℕ, _≤_, _<_, _-_, _+_}
 use native.Mathlib.Omega.{arith}
-use lib.ListN.{getD, length, take, drop}
+use lib.ListN.{getD, length}
 use lib.Seq.{sets, length-sets}
 use Rattle.columns.specs.Lists.{joined}
 use Rattle.columns_neighbors.specs.Steps.{sumTo}
 use Rattle.reorder_calls.specs.Columns.{listAt}
-use Rattle.reorder_orders.specs.Steps.{IsOrder}
 use Rattle.reorder_orders.proofs.Permutation.{order-below}
 use Rattle.reorder_calls.proofs.Moving.{list-fits, list-room, lists-more, lists-count, lists-end}
 use Rattle.reorder_calls.proofs.lists.gather_lists.Statement.{statement}

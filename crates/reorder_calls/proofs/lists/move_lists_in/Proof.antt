@@ -1,13 +1,12 @@
 -- `reorder_calls::lists::move_lists_in` meets its contract. Assumes nothing.
-use mathlib.Core.Path.{_≡_, refl, sym, ap, _∙_}
+use mathlib.Core.Path.{ap, _∙_}
 use mathlib.Core.List.{List}
 use Prim.Native.Nat.{ℕ, _≤_, _<_}
 use native.Mathlib.Omega.{arith}
-use lib.ListN.{length, getD, take, length-take}
-use lib.Seq.{sets, length-sets}
+use lib.ListN.{length, take, length-take}
+use lib.Seq.{length-sets}
 use Rattle.columns.specs.Lists.{over}
 use Rattle.columns.proofs.Columns.{sets-over}
-use Rattle.columns_neighbors.specs.Steps.{sumTo}
 use Rattle.reorder_calls.proofs.Moving.{lists-copy}
 use borrow.Author.Needs.{needs}
 use Rattle.reorder_calls.proofs.lists.move_lists_in.Statement.{statement}

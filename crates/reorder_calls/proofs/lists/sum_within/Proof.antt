@@ -4,8 +4,7 @@ use mathlib.Core.Path.{_≡_, refl, sym, ap, _∙_}
 use Prim.Native.Nat.{ℕ, _≤_, _<_, _-_, _+_, min}
 use native.Mathlib.Omega.{arith}
 use borrow.Author.Tests.{le-leb, lt-leb}
-use lib.ListN.{getD, length}
-use lib.Dec.{leb}
+use lib.ListN.{length}
 use Rattle.columns_neighbors.specs.Steps.{sumTo}
 use Rattle.columns_neighbors.proofs.Placing.{sum-more, sum-ascends}
 use Rattle.reorder_calls.proofs.Moving.{sum-end}

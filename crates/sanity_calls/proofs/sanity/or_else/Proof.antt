@@ -1,5 +1,5 @@
 -- `sanity_calls::sanity::or_else` meets its contract. Assumes nothing.
-use mathlib.Core.Path.{_≡_, refl, sym, ap, _∙_}
+use mathlib.Core.Path.{sym, _∙_}
 use Rattle.sanity_verdicts.proofs.Scans.{sound-of, or-sound, or-found}
 use Rattle.sanity_calls.proofs.sanity.or_else.Statement.{statement}
 use Rattle.sanity_calls.proofs.sanity.or_else.Tie as tie

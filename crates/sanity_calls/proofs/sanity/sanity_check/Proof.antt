@@ -1,5 +1,5 @@
 -- `sanity_calls::sanity::sanity_check` meets its contract. Assumes nothing.
-use mathlib.Core.Path.{_≡_, refl, sym, ap, _∙_}
+use mathlib.Core.Path.{_≡_, sym, ap, _∙_}
 use mathlib.Core.Bool.{Bool, true, false, cond}
 use borrow.Author.Tests.{not-true, not-false}
 use Rattle.sanity_verdicts.specs.declared.Verdict.the-variants.{Refused}

@@ -1,5 +1,5 @@
 -- `sanity_calls::sanity::verdict_of` meets its contract. Assumes nothing.
-use mathlib.Core.Path.{_≡_, refl, sym, ap, _∙_}
+use mathlib.Core.Path.{_∙_}
 use Rattle.sanity_verdicts.specs.Sanity.{orElse}
 use Rattle.sanity_calls.proofs.Verdicts.{no-vertices, no-edge, scanned}
 use borrow.Author.Needs.{needs}

@@ -1,17 +1,9 @@
 -- `text_input::fields::no_leading_zero` meets its contract. Assumes nothing.
-use mathlib.Core.Path.{_≡_, refl, sym, ap, _∙_, subst}
-use mathlib.Core.Bool.{Bool, true, false, not, _&&_, _||_, cond}
-use mathlib.Core.List.{List}
+use mathlib.Core.Path.{sym, ap}
+use mathlib.Core.Bool.{Bool, not, _||_}
 use Prim.Native.Nat.{ℕ, _+_, _-_, _*_, _≤_, _<_}
-use native.Mathlib.Omega.{arith}
-use lib.Dec.{leb, eqb}
-use lib.ListN.{length, getD, take, drop, length-drop}
-use lib.Seq.{getD-drop}
-use borrow.Author.Tests.{leb-true, le-leb, lt-leb, eq-eqb, ne-eqb, not-true, not-false}
-use Rattle.columns.specs.Questions.{all}
-use Rattle.columns.proofs.Tests.{all-more, all-fails, all-end}
-use Rattle.text_input.specs.Line.{isDigit, isHexDigit, digits, digitOf, hexDigitOf, number, decimalSound, hexSound}
-use Rattle.text_input.proofs.Runs.{digits-within, seen-none, seen-next, seen-stop, seen-end, number-more, number-none, decimal-small, hex-small}
+use lib.Dec.{eqb}
+use borrow.Author.Tests.{eq-eqb, ne-eqb}
 use Rattle.text_input.proofs.fields.no_leading_zero.Statement.{statement}
 use Rattle.text_input.proofs.fields.no_leading_zero.Tie as tie
 

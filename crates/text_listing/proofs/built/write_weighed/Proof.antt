@@ -1,8 +1,6 @@
 -- `text_listing::built::write_weighed` meets its contract. Assumes nothing.
 use native.Mathlib.Omega.{arith}
 use Prim.Native.Nat.{ℕ, _≤_}
-use lib.ListN.{length}
-use Rattle.text_listing.specs.Steps.{HoldsCode, HoldsWeights}
 use Rattle.text_listing.proofs.Holds.{h-few, h-long, holds-weights}
 use Rattle.text_listing.proofs.Crossed.{lengths}
 use Rattle.text_listing.proofs.Texts.{listed-reply}

@@ -1,14 +1,9 @@
 -- `text_numbers::lines::put_vertex` meets its contract. Assumes nothing.
-use mathlib.Core.Path.{_≡_, refl, sym, ap, _∙_}
-use mathlib.Core.List.{List, [], _∷_, _++_}
+use mathlib.Core.List.{[], _∷_}
 use Prim.Native.Nat.{ℕ, _+_, _-_, _*_, _≤_, _<_}
 use native.Mathlib.Omega.{arith}
-use lib.ListN.{length, getD}
-use Rattle.columns.specs.Lists.{joined}
-use Rattle.text_numbers.specs.Text.{decimal, ended, vertexLine, edgeLine, vertexLines, edgeLines}
-use Rattle.text_numbers.specs.Steps.{Put}
-use Rattle.text_numbers.proofs.Putting.{none, both, more, line-end, field, lettered, renamed, long-kept}
-use Rattle.text_numbers.proofs.Sizes.{decimal-few, vertices-few, edges-few}
+use lib.ListN.{getD}
+use Rattle.text_numbers.proofs.Putting.{line-end, field, lettered}
 use borrow.Author.Needs.{needs}
 use Rattle.text_numbers.proofs.lines.put_vertex.Statement.{statement}
 use Rattle.text_numbers.proofs.lines.put_vertex.Tie as tie

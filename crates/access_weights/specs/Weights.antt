@@ -4,6 +4,6 @@ use mathlib.Core.List.{List}
 use lib.ListN.{getD}
 use Rattle.columns.specs.Lists.{each}
 
--- the weight of each of e edges: twice its half weight
+-- Weights, get_initializer: the weight of each of e edges: twice its half weight.
 unfoldable pub weights : (e : ℕ) (halfWeight : List ℕ) → List ℕ
 weights e halfWeight = each e (λ k. 2 * getD halfWeight k 0)

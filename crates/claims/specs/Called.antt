@@ -36,7 +36,7 @@ use Rattle.codes_calls.proofs.weighted.new.Reads as new-reads
 use Rattle.codes_calls.proofs.weighted.new_diagonal.Kinds as diagonal-kinds
 use Rattle.codes_calls.proofs.weighted.new_diagonal.Reads as diagonal-reads
 
--- an open that was accepted: the counts, what it was handed, and the engine's columns as it left them, with any log
+-- Engine, Tally, sentence 2: an open that was accepted: the counts, what it was handed, and the engine's columns as it left them, with any log.
 pub data OpenCalled : (vertices edges : ℕ) → GraphColumns → Engine → Type 0 where
   opened : (κs : Lfts 8) (a : Dens κs open-kinds.ps) (c : EngineCounts) (s : AtExit (endedOf 8 open-kinds.ps open-kinds.r) κs) (logEdges logWeights : List ℕ)
       → open-reads.Learnt κs a (Counts c) s
@@ -44,7 +44,7 @@ pub data OpenCalled : (vertices edges : ℕ) → GraphColumns → Engine → Typ
       (graphColumns (now (a .1 .1 .0)) (now (a .1 .1 .1 .0)) (now (a .1 .1 .1 .1 .0)) (now (a .1 .1 .1 .1 .1 .0)))
       (engine c (now (s .1 .1 .1 .1 .1 .1 .0)) (now (s .1 .1 .1 .1 .1 .1 .1 .0)) (now (s .1 .1 .1 .1 .1 .1 .1 .1 .0)) (now (s .1 .1 .1 .1 .1 .1 .1 .1 .1 .0)) logEdges logWeights)
 
--- a load or a reset that returned: the columns lent, the answer, and the columns as the call left them
+-- Engine, Load and Reset: a load or a reset that returned: the columns lent, the answer, and the columns as the call left them.
 pub data Called : Call → Engine → EngineAnswer → Engine → Type 0 where
   erased : (κs : Lfts 7) (a : Dens κs erasures-kinds.ps) (r : EngineAnswer) (s : AtExit (endedOf 7 erasures-kinds.ps erasures-kinds.r) κs) → erasures-reads.Learnt κs a r s
       → Called (loadErasures (now (a .1 .1 .1 .1 .1 .1 .1 .0)))
@@ -62,7 +62,7 @@ pub data Called : Call → Engine → EngineAnswer → Engine → Type 0 where
       r
       (engine (kept (a .0) r) (now (a .1 .0)) (now (a .1 .1 .0)) (now (s .1 .1 .1 .0)) (now (a .1 .1 .1 .1 .0)) (now (a .1 .1 .1 .1 .1 .0)) (now (a .1 .1 .1 .1 .1 .1 .0)))
 
--- a crossing that returned: the columns lent, which it only reads, the lengths of its own columns, the answer, and the weight column before and after
+-- Engine, Crossing: a crossing that returned: the columns lent, which it only reads, the lengths of its own columns, the answer, and the weight column before and after.
 pub data CrossingCalled : Engine → OwnLengths → CrossingReply → (column₀ column : List ℤ) → Type 0 where
   crossed : (κs : Lfts 14) (a : Dens κs crossing-kinds.ps) (r : CrossingReply) (s : AtExit (endedOf 14 crossing-kinds.ps crossing-kinds.r) κs) → crossing-reads.Learnt κs a r s
       → CrossingCalled
@@ -79,7 +79,8 @@ pub data CrossingCalled : Engine → OwnLengths → CrossingReply → (column₀
       })
       r (now (a .1 .1 .1 .1 .1 .1 .1 .0)) (now (s .1 .1 .1 .1 .1 .1 .1 .0))
 
--- a list of calls with the number of each answer: each call is lent the engine's columns, the log and their counts as the call before left them; other columns are any
+-- Engine, Tally, sentences 2 and 3: a list of calls with the number of each answer: each call is lent the engine's columns, the log and their counts
+-- as the call before left them; other columns are any.
 pub data Calls : Engine → List ListedCall → List ℕ → Engine → Type 0 where
   none : {e : Engine} → Calls e [] [] e
   modified : {e e₁ e₂ : Engine} {cs : List ListedCall} {ns : List ℕ} (call : Call) (r : EngineAnswer)
@@ -87,7 +88,8 @@ pub data Calls : Engine → List ListedCall → List ℕ → Engine → Type 0 w
   crossing : {e e₂ : Engine} {cs : List ListedCall} {ns : List ℕ} (own : OwnLengths) (r : CrossingReply) (column₀ column : List ℤ)
       → CrossingCalled e own r column₀ column → Calls e cs ns e₂ → Calls e (crosses (lengthsOf e) own ∷ cs) (replyNumber r ∷ ns) e₂
 
--- a code that was built, by any of the three functions that build one: the counts, the ends and the boundary bytes in the columns as the call left them
+-- Six builders; Engine, Tally, sentence 11: a code that was built, by any of the three functions
+-- that build one: the counts, the ends and the boundary bytes in the columns as the call left them.
 pub data CodeBuilt : (kind d rounds vertices edges : ℕ) (endsA endsB boundary : List ℕ) → Type 0 where
   created : (κs : Lfts 13) (a : Dens κs create-kinds.ps) (vertices edges : ℕ) (s : AtExit (endedOf 13 create-kinds.ps create-kinds.r) κs)
       → create-reads.Learnt κs a (Code vertices edges) s

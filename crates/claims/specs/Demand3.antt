@@ -19,7 +19,8 @@ use Rattle.query_crossing_answer.specs.Crossing.{replyNumber, replyWeight}
 use Rattle.claims.specs.Listed.{OwnLengths, ListedCall, tallyGraph, tallyWeights, before18, tallyCrossingRefusal, modifying, tallyAtEnd, numbers}
 use Rattle.claims.specs.Called.{OpenCalled, Calls, CrossingCalled, CodeBuilt}
 
--- a freshly opened graph and a list of calls on it, with the number of each answer; `left`: the engine's columns at its end
+-- Demand 3, sentence 1; Engine, Tally, sentence 2: a freshly opened graph and a list of
+-- calls on it, with the number of each answer; `left`: the engine's columns at its end.
 pub record History : Type 0 where
   pub vertices : ℕ
   pub edges : ℕ
@@ -31,20 +32,23 @@ pub record History : Type 0 where
   pub opened : OpenCalled vertices edges handed fresh
   pub called : Calls fresh calls answers left
 
--- the tally at first and at the list's end, the graph and the weights that it then holds
+-- Engine, Tally, sentence 6: the tally at first.
 abbrev pub tallyFirst : History → Tally
 tallyFirst h = tallyOf (h .vertices) (h .edges) (h .handed)
 
+-- Engine, Tally, sentence 4: the tally at the list's end.
 abbrev pub tallyLast : History → Tally
 tallyLast h = tallyAtEnd (h .calls) (tallyFirst h)
 
+-- Engine, Tally, sentences 4 and 6: the graph that the tally then holds.
 abbrev pub graphLeft : History → Graph
 graphLeft h = tallyGraph (tallyLast h)
 
+-- Engine, Tally, sentence 4: the weights that the tally then holds.
 abbrev pub weightsLeft : History → ℕ → ℕ
 weightsLeft h = tallyWeights (tallyLast h)
 
--- a crossing called then: its own columns' lengths, its answer, and the weight column before and after
+-- Demand 3, sentence 4: a crossing called then: its own columns' lengths, its answer, and the weight column before and after.
 pub record CrossingThen (h : History) : Type 0 where
   pub own : OwnLengths
   pub reply : CrossingReply
@@ -52,21 +56,22 @@ pub record CrossingThen (h : History) : Type 0 where
   pub column : List ℤ
   pub called : CrossingCalled (h .left) own reply column₀ column
 
--- the question before 18 that refuses it, or 0
+-- Demand 3, sentence 4: the question before 18 that refuses it, or 0.
 abbrev pub refusedBefore : (h : History) → CrossingThen h → ℕ
 refusedBefore h c = before18 (lengthsOf (h .left)) (c .own) (tallyLast h)
 
--- an accepted crossing after each of two lists, on graphs alike in ends and boundary bytes
+-- Demand 3, sentences 6 and 7: an accepted crossing after each of two lists, on graphs alike in ends and boundary bytes.
 pub record TwoLists (h h′ : History) (c : CrossingThen h) (c′ : CrossingThen h′) : Type 0 where
   pub alike : Alike (graphLeft h) (graphLeft h′)
   pub accepted : replyNumber (c .reply) ≡ 0
   pub accepted′ : replyNumber (c′ .reply) ≡ 0
 
+-- Demand 3, from its second sentence on, as one claim (Engine, Tally, sentence 1); sentence 1 is `History`. The quoted words are the demand's where no section is named.
 pub record Demand3 : Type 0 where
   -- "Each call is accepted or refused as document 01's questions say."
   pub each-call : (h : History) → h .answers ≡ numbers (h .calls) (tallyFirst h)
   pub crossing-then : (h : History) (c : CrossingThen h) → replyNumber (c .reply) ≡ tallyCrossingRefusal (lengthsOf (h .left)) (c .own) (tallyLast h)
-  -- document 01, Engine: the tally's count of log entries, and its other counts, are those that the calls hand back.
+  -- Engine, Tally, sentence 6: the tally's count of log entries, and its other counts, are those that the calls hand back.
   pub counts : (h : History) → h .left .counts ≡ tallyLast h .counts
   -- "An edge weighs what an accepted load last named for it since the last accepted reset (0 if erased), else its opening weight."
   pub edge-weighs : (h : History) (k : ℕ) → k < h .edges
@@ -74,13 +79,14 @@ pub record Demand3 : Type 0 where
   pub tally-weighs : (h : History) (k : ℕ) → k < h .edges → weightsLeft h k ≡ getD (h .left .weights) k 0
   -- "Unless a question before 18 refuses it, a crossing called then is accepted exactly when some walk joins a left vertex to a right one."
   pub joined : (h : History) (c : CrossingThen h) → refusedBefore h c ≡ 0 → (replyNumber (c .reply) ≡ 0) ↔ LeftJoinsRight (graphLeft h)
-  -- "Of all edge sets that leave no defect and meet the left boundary an odd number of times, none weighs less than the crossing weight that an accepted crossing reports,"
+  -- "Of all edge sets that leave no defect and meet the left boundary an odd number of times,
+  -- none weighs less than the crossing weight that an accepted crossing reports,"
   pub none-less : (h : History) (c : CrossingThen h) → replyNumber (c .reply) ≡ 0
       → (s : List ℕ) → CrossingSet (graphLeft h) s → replyWeight (c .reply) ≤ sum s (weightsLeft h)
   -- "and one weighs exactly that."
   pub one-exactly : (h : History) (c : CrossingThen h) → replyNumber (c .reply) ≡ 0
       → (s : List ℕ) × CrossingSet (graphLeft h) s × (sum s (weightsLeft h) ≡ replyWeight (c .reply))
-  -- document 01, Crossing: "The weight column then holds the least weight from the left, -1 for unreached."
+  -- Engine, Crossing, sentence 2: "The weight column then holds the least weight from the left, −1 for unreached."
   pub least-weights : (h : History) (c : CrossingThen h) → replyNumber (c .reply) ≡ 0
       → (v : ℕ) → v < h .vertices → LeftWeight (graphLeft h) (weightsLeft h) v (weightIn (c .column) v)
   -- "Where they leave equal weights, accepted crossings report the same crossing weight and, for each vertex, the same least weight from the left;"

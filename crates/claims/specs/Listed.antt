@@ -12,7 +12,7 @@ use Rattle.engine_walks.specs.Answers.{crossing}
 use Rattle.query_questions.specs.Queries.{scratchLong}
 use Rattle.query_crossing_answer.specs.Crossing.{isJoined}
 
--- the lengths of the columns that only a crossing is lent: the weight column and scratch
+-- Engine, Tally, sentence 5: the lengths of the columns that only a crossing is lent: the weight column and scratch.
 pub record OwnLengths : Type 0 where
   pub weights : ℕ
   pub numbers : ℕ
@@ -23,44 +23,45 @@ pub record OwnLengths : Type 0 where
   pub node : ℕ
   pub leaf : ℕ
 
--- one call: a load or a reset, or a crossing
+-- Engine, Tally, sentence 5: one call as the tally is fed it: a load or a reset, or a crossing.
 pub data ListedCall : Type 0 where
   modifies : Fed → ListedCall
   crosses : Lengths → OwnLengths → ListedCall
 
--- the graph that the tally holds, and the weight of each edge
+-- Engine, Tally, sentence 6: the graph that the tally holds.
 abbrev pub tallyGraph : Tally → Graph
 tallyGraph t = record { vertices = t .counts .vertices; endsA = t .endsA; endsB = t .endsB; boundary = t .boundary }
 
+-- Engine, Tally, sentence 6: the weight that the tally holds for each edge.
 abbrev pub tallyWeights : Tally → ℕ → ℕ
 tallyWeights t k = getD (t .weights) k 0
 
--- 6 of a crossing, from the lengths
+-- Engine, Tally, sentence 7; Questions at the door, 6, of a crossing, from the lengths.
 abbrev pub crossingLong : Lengths → OwnLengths → EngineCounts → Bool
 crossingLong k o c =
     tallyLong 0 k c
     && (leb (c .vertices) (o .weights)
     && scratchLong (c .vertices) (c .edges) (o .numbers) (o .listEnds) (o .status) (o .weight) (o .previous) (o .node) (o .leaf))
 
--- the question of a crossing before 18: 7 is always met
+-- Engine, Tally, sentence 7: the question of a crossing before 18: 7 is always met.
 abbrev pub before18 : Lengths → OwnLengths → Tally → ℕ
 before18 k o t = ask (crossingLong k o (t .counts)) 6 0
 
--- 6, then 18
+-- Engine, Tally, sentence 7: the tally's answer to the questions of a crossing, 6, then 18.
 abbrev pub tallyCrossingRefusal : Lengths → OwnLengths → Tally → ℕ
 tallyCrossingRefusal k o t = ask (crossingLong k o (t .counts)) 6 (ask (isJoined (crossing (tallyGraph t) (tallyWeights t))) 18 0)
 
--- the loads and resets of a list
+-- Engine, Tally, sentence 10: the loads and resets of a list.
 abbrev pub modifying : List ListedCall → List Fed
 modifying [] = []
 modifying (modifies f ∷ cs) = f ∷ modifying cs
 modifying (crosses k o ∷ cs) = modifying cs
 
--- the tally at a list's end: crossings leave it
+-- Engine, Tally, sentences 4 and 10: the tally at a list's end: crossings leave it.
 abbrev pub tallyAtEnd : List ListedCall → Tally → Tally
 tallyAtEnd cs t = tallyAfter (modifying cs) t
 
--- the tally's answer to each call of a list: its number, 0 where it is accepted
+-- Engine, Tally, sentence 7: the tally's answer to each call of a list: its number, 0 where it is accepted.
 abbrev pub numbers : List ListedCall → Tally → List ℕ
 numbers [] t = []
 numbers (modifies f ∷ cs) t = tallyRefusal (f .call) (f .lent) t ∷ numbers cs (tallyStep f t)

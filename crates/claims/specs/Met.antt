@@ -34,24 +34,25 @@ abbrev pub EndWithin : ℕ → Option ℕ → Type 0
 EndWithin n none = Unit {0}
 EndWithin n (some b) = b < n
 
--- 6, 7 and 13 of a table query
+-- Questions at the door, 6, 7 and 13, of a table query.
 pub record TableMet (e : Engine) (source : ℕ) (end : Option ℕ) (columns : TableColumns) (scratch : ScratchColumns) : Type 0 where
   pub six-and-seven : Met e (length (columns .weights) ∷ length (columns .previous) ∷ []) scratch
   pub source-within : source < e .counts .vertices
   pub end-within : EndWithin (e .counts .vertices) end
 
--- 6, 7, 13 and 16 of a path query
+-- Questions at the door, 6, 7, 13 and 16, of a path query.
 pub record PathMet (e : Engine) (a b : ℕ) (columns : PathColumns) (scratch : ScratchColumns) : Type 0 where
   pub six-and-seven : Met e (length (columns .vertices) ∷ length (columns .steps) ∷ []) scratch
   pub a-within : a < e .counts .vertices
   pub b-within : b < e .counts .vertices
   pub differ : a ≢ b
 
--- 6 and 7 of a crossing
+-- Questions at the door, 6 and 7, of a crossing.
 abbrev pub CrossingMet : Engine → List ℤ → ScratchColumns → Type 0
 CrossingMet e weights scratch = Met e (length weights ∷ []) scratch
 
--- Where 6 and 7 are met, the graph in the columns has the counted edges, each end is a vertex, each boundary byte is 0, 1 or 2, and each weight is within its limit.
+-- Questions at the door, 6 and 7: where they are met, the graph in the columns has the counted
+-- edges, each end is a vertex, each boundary byte is 0, 1 or 2, and each weight is within its limit.
 abbrev pub ColumnsInRange : Type 0
 ColumnsInRange =
     (e : Engine) → engineLong 0 e ≡ true → engineSound e ≡ true

@@ -7,67 +7,71 @@ use lib.IntN.{ℤ, pos, negsuc}
 use Rattle.engine_walks.specs.Graph.{Graph, boundaryAt}
 use Rattle.engine_walks.specs.Answers.{weightIn, table}
 
--- `is_virtual`
+-- Records, on vertices; complete_graph.rs, `is_virtual`: the boundary byte is not 0.
 abbrev pub virtual : Graph → ℕ → Bool
 virtual g u = not (eqb (boundaryAt g u) 0)
 
--- the weight of a row of a table, none for -1
+-- Engine, Table: the weight of a row of a table, none for -1.
 abbrev pub reached : ℤ → Option ℕ
 reached (pos k) = some k
 reached (negsuc n) = none
 
--- `complete_graph.all_edges(v)` at the peer u: it has no entry for v itself
+-- complete_graph.rs, `complete_graph.all_edges(v)` at the peer u: it has no entry for v itself.
 abbrev pub completeEdge : (g : Graph) (w : ℕ → ℕ) (v u : ℕ) → Option ℕ
 completeEdge g w v u = cond (eqb u v) none (reached (weightIn (table g w v none .weights) u))
 
--- a peer and its weight
+-- complete_graph.rs, `boundary`: a peer and its weight.
 pub record Peer : Type 0 where
   pub vertex : ℕ
   pub weight : ℕ
 
--- a virtual peer u with this entry, beside the `boundary` found so far: it replaces it where there is none, or where it weighs less
+-- complete_graph.rs: a virtual peer u with this entry, beside the `boundary` found so far: it replaces it where there is none, or where it weighs less.
 abbrev pub offered : (u : ℕ) → Option ℕ → Option Peer → Option Peer
 offered u none found = found
 offered u (some weight) none = some (record { vertex = u; weight = weight })
 offered u (some weight) (some b) = cond (ltb weight (b .weight)) (some (record { vertex = u; weight = weight })) (some b)
 
--- `boundary` after the peers below n, in ascending order
+-- complete_graph.rs: `boundary` after the peers below n, in ascending order.
 unfoldable pub boundaryBelow : (g : Graph) (w : ℕ → ℕ) (v n : ℕ) → Option Peer
 boundaryBelow g w v zero = none
 boundaryBelow g w v (suc n) = cond (virtual g n) (offered n (completeEdge g w v n) (boundaryBelow g w v n)) (boundaryBelow g w v n)
 
--- `get_boundary_weight(v)`: none for a virtual vertex
+-- complete_graph.rs, `get_boundary_weight(v)`: none for a virtual vertex.
 abbrev pub getBoundaryWeight : (g : Graph) (w : ℕ → ℕ) (v : ℕ) → Option Peer
 getBoundaryWeight g w v = cond (virtual g v) none (boundaryBelow g w v (g .vertices))
 
--- `edges[v]` at the peer u, as it is first collected: only between vertices that are not virtual
+-- complete_graph.rs, `edges[v]` at the peer u, as it is first collected: only between vertices that are not virtual.
 abbrev pub collected : (g : Graph) (w : ℕ → ℕ) (v u : ℕ) → Option ℕ
 collected g w v u = cond (virtual g v || virtual g u) none (completeEdge g w v u)
 
--- "remove edges in the middle": both ends have a boundary weight, and the edge weighs more than the two together
+-- complete_graph.rs, "remove edges in the middle": both ends have a boundary weight, and the edge weighs more than the two together.
 abbrev pub removed : (own peer : Option Peer) (weight : ℕ) → Bool
 removed (some a) (some b) weight = ltb (a .weight + b .weight) weight
 removed (some a) none weight = false
 removed none peer weight = false
 
+-- complete_graph.rs, "remove edges in the middle": an entry after that.
 abbrev pub remaining : (own peer : Option Peer) → Option ℕ → Option ℕ
 remaining own peer none = none
 remaining own peer (some weight) = cond (removed own peer weight) none (some weight)
 
--- `get_edge_weight(v, u)`
+-- complete_graph.rs, `get_edge_weight(v, u)`.
 abbrev pub getEdgeWeight : (g : Graph) (w : ℕ → ℕ) (v u : ℕ) → Option ℕ
 getEdgeWeight g w v u = remaining (getBoundaryWeight g w v) (getBoundaryWeight g w u) (collected g w v u)
 
 -- ---- in columns: -1 for no edge and no boundary weight, 0 for no boundary vertex
 
+-- The weight of an edge in a row's column.
 abbrev pub edgeEntry : Option ℕ → ℤ
 edgeEntry none = negsuc 0
 edgeEntry (some k) = pos k
 
+-- The boundary weight of a vertex in the column of boundary weights.
 abbrev pub weightEntry : Option Peer → ℤ
 weightEntry none = negsuc 0
 weightEntry (some b) = pos (b .weight)
 
+-- The boundary vertex of a vertex in the column of boundary vertices.
 abbrev pub vertexEntry : Option Peer → ℕ
 vertexEntry none = 0
 vertexEntry (some b) = b .vertex

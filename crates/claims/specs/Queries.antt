@@ -37,26 +37,29 @@ pub record PathSays (e : Engine) (a b : ℕ) (r : PathAnswer) (columns₀ column
   pub least : P.said r .number ≡ 0
       → IsPath (graphIn e) (weightsIn e) a b (record { vertices = take (lengthOf r) (columns .vertices); steps = take (lengthOf r) (columns .steps); total = totalOf r })
 
--- Engine, Crossing; demand 3; questions at the door, 18: exactly where 6 and 7 are met and no walk joins a left vertex to a right one; accepted exactly where they are met and some
--- walk does. The weight reported then is the least of a walk from left to right; one edge set that leaves no defect and meets the left an odd number of times weighs exactly that, none
--- weighs less. The weight column holds the least weight from the left at every vertex, -1 exactly where no walk leads.
+-- Engine, Crossing; demand 3; questions at the door, 18: exactly where 6 and 7 are met and no walk joins a left vertex to a right one; accepted exactly where
+-- they are met and some walk does. The weight reported then is the least of a walk from left to right; one edge set that leaves no defect and meets the left
+-- an odd number of times weighs exactly that, none weighs less. The weight column holds the least weight from the left at every vertex, -1 exactly where no
+-- walk leads.
 pub record CrossingSays (e : Engine) (r : CrossingReply) (weights₀ weights : List ℤ) (scratch₀ : ScratchColumns) : Type 0 where
   pub not-joined : replyNumber r ≡ 18 ↔ (CrossingMet e weights₀ scratch₀ × ¬ LeftJoinsRight (graphIn e))
   pub joined : replyNumber r ≡ 0 ↔ (CrossingMet e weights₀ scratch₀ × LeftJoinsRight (graphIn e))
   pub least : replyNumber r ≡ 0 → IsCrossing (graphIn e) (weightsIn e) (replyWeight r)
   pub column : replyNumber r ≡ 0 → (v : ℕ) → v < e .counts .vertices → LeftWeight (graphIn e) (weightsIn e) v (weightIn weights v)
 
--- for every call that returned, on any columns lent
+-- Engine, Settling and Table: for every call of a table query that returned, on any columns lent.
 abbrev pub AllEdgesIsLeast : Type 0
 AllEdgesIsLeast =
     (e : Engine) (source : ℕ) (end : Option ℕ) (r : Done) (columns₀ columns : TableColumns) (scratch₀ scratch : ScratchColumns)
     → TableReturned e source end r columns₀ columns scratch₀ scratch → TableSays e source end r columns₀ columns scratch₀
 
+-- Engine, Path: for every call of `get_path` that returned, on any columns lent.
 abbrev pub GetPathIsLeast : Type 0
 GetPathIsLeast =
     (e : Engine) (a b : ℕ) (r : PathAnswer) (columns₀ columns : PathColumns) (scratch₀ scratch : ScratchColumns)
     → PathReturned e a b r columns₀ columns scratch₀ scratch → PathSays e a b r columns₀ columns scratch₀
 
+-- Engine, Crossing; demand 3: for every call of a crossing that returned, on any columns lent.
 abbrev pub CrossingCallIsLeast : Type 0
 CrossingCallIsLeast =
     (e : Engine) (r : CrossingReply) (weights₀ weights : List ℤ) (scratch₀ scratch : ScratchColumns)

@@ -24,18 +24,21 @@ use Rattle.query_paths.proofs.get_path.Reads as path-reads
 use Rattle.query_crossings.proofs.crossing.Kinds as crossing-kinds
 use Rattle.query_crossings.proofs.crossing.Reads as crossing-reads
 
+-- Engine, Table: both columns together.
 abbrev pub tableColumns : List ℤ → List ℕ → TableColumns
 tableColumns weights previous = record { weights = weights; previous = previous }
 
--- the columns of a path: its vertices, and the weight of the step into each
+-- Engine, Path, sentence 1: the columns of a path: its vertices, and the weight of the step into each.
 pub record PathColumns : Type 0 where
   pub vertices : List ℕ
   pub steps : List ℕ
 
+-- Engine, Path, sentence 1: both columns together.
 abbrev pub pathColumns : List ℕ → List ℕ → PathColumns
 pathColumns vertices steps = record { vertices = vertices; steps = steps }
 
--- a table query that returned, with a named end or none: the engine lent, the source, the end, the answer, the table's columns and scratch before and after
+-- Engine, Table: a table query that returned, with a named end or none: the engine lent,
+-- the source, the end, the answer, the table's columns and scratch before and after.
 pub data TableReturned : Engine → (source : ℕ) → Option ℕ → Done → (columns₀ columns : TableColumns) → (scratch₀ scratch : ScratchColumns) → Type 0 where
   to-end : (κs : Lfts 15) (a : Dens κs end-kinds.ps) (r : Done) (s : AtExit (endedOf 15 end-kinds.ps end-kinds.r) κs) → end-reads.Learnt κs a r s
       → TableReturned
@@ -52,7 +55,7 @@ pub data TableReturned : Engine → (source : ℕ) → Option ℕ → Done → (
       (scratchOf (now (a .1 .1 .1 .1 .1 .1 .1 .1 .1 .1 .0)) (now (a .1 .1 .1 .1 .1 .1 .1 .1 .1 .1 .1 .0)) (now (a .1 .1 .1 .1 .1 .1 .1 .1 .1 .1 .1 .1 .0)) (now (a .1 .1 .1 .1 .1 .1 .1 .1 .1 .1 .1 .1 .1 .0)) (now (a .1 .1 .1 .1 .1 .1 .1 .1 .1 .1 .1 .1 .1 .1 .0)) (now (a .1 .1 .1 .1 .1 .1 .1 .1 .1 .1 .1 .1 .1 .1 .1 .0)) (now (a .1 .1 .1 .1 .1 .1 .1 .1 .1 .1 .1 .1 .1 .1 .1 .1 .0)))
       (scratchOf (now (s .1 .1 .1 .1 .1 .1 .1 .1 .1 .1 .0)) (now (s .1 .1 .1 .1 .1 .1 .1 .1 .1 .1 .1 .0)) (now (s .1 .1 .1 .1 .1 .1 .1 .1 .1 .1 .1 .1 .0)) (now (s .1 .1 .1 .1 .1 .1 .1 .1 .1 .1 .1 .1 .1 .0)) (now (s .1 .1 .1 .1 .1 .1 .1 .1 .1 .1 .1 .1 .1 .1 .0)) (now (s .1 .1 .1 .1 .1 .1 .1 .1 .1 .1 .1 .1 .1 .1 .1 .0)) (now (s .1 .1 .1 .1 .1 .1 .1 .1 .1 .1 .1 .1 .1 .1 .1 .1 .0)))
 
--- a path query that returned: the engine lent, both vertices, the answer, the path's columns and scratch before and after
+-- Engine, Path: a path query that returned: the engine lent, both vertices, the answer, the path's columns and scratch before and after.
 pub data PathReturned : Engine → (a b : ℕ) → PathAnswer → (columns₀ columns : PathColumns) → (scratch₀ scratch : ScratchColumns) → Type 0 where
   walked : (κs : Lfts 15) (a : Dens κs path-kinds.ps) (r : PathAnswer) (s : AtExit (endedOf 15 path-kinds.ps path-kinds.r) κs) → path-reads.Learnt κs a r s
       → PathReturned
@@ -62,7 +65,7 @@ pub data PathReturned : Engine → (a b : ℕ) → PathAnswer → (columns₀ co
       (scratchOf (now (a .1 .1 .1 .1 .1 .1 .1 .1 .1 .1 .1 .0)) (now (a .1 .1 .1 .1 .1 .1 .1 .1 .1 .1 .1 .1 .0)) (now (a .1 .1 .1 .1 .1 .1 .1 .1 .1 .1 .1 .1 .1 .0)) (now (a .1 .1 .1 .1 .1 .1 .1 .1 .1 .1 .1 .1 .1 .1 .0)) (now (a .1 .1 .1 .1 .1 .1 .1 .1 .1 .1 .1 .1 .1 .1 .1 .0)) (now (a .1 .1 .1 .1 .1 .1 .1 .1 .1 .1 .1 .1 .1 .1 .1 .1 .0)) (now (a .1 .1 .1 .1 .1 .1 .1 .1 .1 .1 .1 .1 .1 .1 .1 .1 .1 .0)))
       (scratchOf (now (s .1 .1 .1 .1 .1 .1 .1 .1 .1 .1 .1 .0)) (now (s .1 .1 .1 .1 .1 .1 .1 .1 .1 .1 .1 .1 .0)) (now (s .1 .1 .1 .1 .1 .1 .1 .1 .1 .1 .1 .1 .1 .0)) (now (s .1 .1 .1 .1 .1 .1 .1 .1 .1 .1 .1 .1 .1 .1 .0)) (now (s .1 .1 .1 .1 .1 .1 .1 .1 .1 .1 .1 .1 .1 .1 .1 .0)) (now (s .1 .1 .1 .1 .1 .1 .1 .1 .1 .1 .1 .1 .1 .1 .1 .1 .0)) (now (s .1 .1 .1 .1 .1 .1 .1 .1 .1 .1 .1 .1 .1 .1 .1 .1 .1 .0)))
 
--- a crossing that returned: the engine lent, the answer, the weight column and scratch before and after
+-- Engine, Crossing: a crossing that returned: the engine lent, the answer, the weight column and scratch before and after.
 pub data CrossingReturned : Engine → CrossingReply → (weights₀ weights : List ℤ) → (scratch₀ scratch : ScratchColumns) → Type 0 where
   crossed : (κs : Lfts 14) (a : Dens κs crossing-kinds.ps) (r : CrossingReply) (s : AtExit (endedOf 14 crossing-kinds.ps crossing-kinds.r) κs) → crossing-reads.Learnt κs a r s
       → CrossingReturned

@@ -22,28 +22,31 @@ use Rattle.query_questions.specs.Queries as Q
 use Rattle.query_paths.specs.GetPath.{pathAsked, pathRefusal}
 use Rattle.claims.specs.Listed.{tallyGraph, tallyWeights}
 
--- the listing's graph: kind 1, d 3, every weight 1000
+-- Checked examples, "the listing's graph": kind 1, d 3, every weight 1000.
 abbrev pub listingGraph : GraphColumns
 listingGraph = graphColumns (firsts (edgesOf 1 3 0)) (seconds (edgesOf 1 3 0)) (1000 ∷ 1000 ∷ 1000 ∷ []) (boundaries (verticesOf 1 3 0))
 
--- columns of 4 vertices and 3 edges, and a log with room for 3 entries
+-- Checked examples, of the listing's graph: columns of 4 vertices and 3 edges, and a log with room for 3 entries.
 abbrev pub roomy : Lengths
 roomy = record { endsA = 3; endsB = 3; weights = 3; boundary = 4; logEdges = 3; logWeights = 3 }
 
+-- Checked examples, of the listing's graph: a call on these columns, as the tally is fed it.
 abbrev pub fed : Call → Fed
 fed call = record { call = call; lent = roomy }
 
--- the listing's graph after a list of calls
+-- Checked examples: the listing's graph after a list of calls.
 abbrev pub listingAfter : List Fed → Tally
 listingAfter fs = tallyAfter fs (tallyOf 4 3 listingGraph)
 
+-- Checked examples: the crossing weight of the listing's graph after a list of calls.
 abbrev pub crossingAfter : List Fed → Option ℕ
 crossingAfter fs = crossing (tallyGraph (listingAfter fs)) (tallyWeights (listingAfter fs))
 
--- the listing's graph in the engine's columns
+-- Checked examples: the listing's graph in the engine's columns.
 abbrev pub listingEngine : Engine
 listingEngine = engine (counts 4 3 0) (listingGraph .endsA) (listingGraph .endsB) (listingGraph .weights) (listingGraph .boundary) (0 ∷ 0 ∷ 0 ∷ []) (0 ∷ 0 ∷ 0 ∷ [])
 
+-- Checked examples, those with a star, as one joint statement; the quoted words are document 01's.
 pub record StarredExamples : Type 0 where
   -- "d 3, kind 5: edges (0,2) (0,3) (1,3) (2,4) (3,4) (3,5) (4,6) (4,7) (5,7); left 2, 6; right 1, 5."
   pub kind-5-edges : edgesOf 5 3 0 ≡ (0, 2) ∷ (0, 3) ∷ (1, 3) ∷ (2, 4) ∷ (3, 4) ∷ (3, 5) ∷ (4, 6) ∷ (4, 7) ∷ (5, 7) ∷ []

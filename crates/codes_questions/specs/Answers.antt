@@ -6,21 +6,23 @@ use Rattle.codes_questions.specs.declared.Count.the-variants.{Counted, R
 use Rattle.codes_layers.specs.Counts.{vertexNum, edgeNum}
 use Rattle.codes_layers.specs.Accepts.{codeRefusal}
 
--- document 01's number for each case, and the value: 0 where the call was refused
+-- Expected forms by place, last paragraph: document 01's number for each case of `Count`, and the value: 0 where the call was refused.
 abbrev pub said : Count → Said ℕ
 said (Counted n) = accepts n
 said (Refused number) = refuses number 0
 
--- `vertex_num` and `edge_num`: questions 2 to 5, then the count
+-- Six builders, Vertices; Questions at the door, 2 to 5: what `vertex_num` answers.
 abbrev pub CountsVertices : (kind d rounds : ℕ) → Count → Type 0
 CountsVertices kind d rounds r = Answered (said r) (codeRefusal kind d rounds 0) (vertexNum kind d rounds) 0
 
+-- Six builders, Edges; Questions at the door, 2 to 5: what `edge_num` answers.
 abbrev pub CountsEdges : (kind d rounds : ℕ) → Count → Type 0
 CountsEdges kind d rounds r = Answered (said r) (codeRefusal kind d rounds 0) (edgeNum kind d rounds) 0
 
--- the number of 3 to 4,095 nearest to d, and the number of 0 to 4,095 nearest to the rounds
+-- Questions at the door, 3, its bounds: the number of 3 to 4,095 nearest to d.
 abbrev pub distanceWithin : ℕ → ℕ
 distanceWithin d = max 3 (min d 4095)
 
+-- Questions at the door, 4, its bounds: the number of 0 to 4,095 nearest to the rounds.
 abbrev pub roundsWithin : ℕ → ℕ
 roundsWithin rounds = min rounds 4095

@@ -10,48 +10,50 @@ use Rattle.columns.specs.Places.{position}
 use Rattle.codes_writers.specs.declared.CodeVertex.{CodeVertex}
 use Rattle.codes_writers.specs.Edges.{Ends, float, straightRows}
 
--- places of a row, and vertices of a layer
+-- Six builders, Vertices: a row of kinds 5 and 6 has (d+1)/2 places; written as the Rust has it, which is the same from d 1 on.
 abbrev pub rotatedWidth : ℕ → ℕ
 rotatedWidth d = (d - 1) / 2 + 1
 
+-- Six builders, Vertices: a layer of kinds 5 and 6 has ((d+1)/2)(d+1), d + 1 such rows.
 abbrev pub rotatedSize : ℕ → ℕ
 rotatedSize d = rotatedWidth d * (d + 1)
 
--- the place of the i-th edge's end in one of the two rows that it joins; for odd i it is one less in the even row than in the odd one
+-- Six builders, Edge order, kinds 5 and 6: the place of the i-th edge's end in one of the
+-- two rows that it joins; for odd i it is one less in the even row than in the odd one.
 unfoldable pub rotatedPlace : (even : Bool) (i : ℕ) → ℕ
 rotatedPlace even i = cond (eqb (i % 2) 0) (i / 2) (cond even ((i - 1) / 2) ((i + 1) / 2))
 
--- the i-th edge between a row that starts at vertex bias and the next one, with w places in a row
+-- Six builders, Edge order, kinds 5 and 6: the i-th edge between a row that starts at vertex bias and the next one, with w places in a row.
 unfoldable pub rotatedEdge : (w bias row i : ℕ) → Ends
 rotatedEdge w bias row i = (bias + rotatedPlace (eqb (row % 2) 0) i, bias + w + rotatedPlace (eqb (row % 2) 1) i)
 
--- the d edges below a row of the layer that starts at vertex base
+-- Six builders, Edge order, kinds 5 and 6: the d edges below a row of the layer that starts at vertex base.
 unfoldable pub rotatedRow : (d base row : ℕ) → List Ends
 rotatedRow d base row = each d (λ i. rotatedEdge (rotatedWidth d) (base + row * rotatedWidth d) row i)
 
--- the layer
+-- Six builders, Edge order, kinds 5 and 6: the edges of the layer that starts at vertex base.
 unfoldable pub rotatedLayer : (d base : ℕ) → List Ends
 rotatedLayer d base = joined d (λ row. rotatedRow d base row)
 
--- kind 6: from each vertex of the layer to the same place of the next layer
+-- Six builders, Edge order, kind 6: from each vertex of the layer to the same place of the next layer.
 unfoldable pub rotatedGap : (d base : ℕ) → List Ends
 rotatedGap d base = straightRows (d + 1) (rotatedWidth d) (rotatedWidth d) base (rotatedSize d)
 
 -- ---- vertices
 
--- the boundary byte of place i of a row: the last place of an even row is right, the first place of an odd row left
+-- Six builders, on left and right, sentence 3: the boundary byte of place i of a row: the last place of an even row is right, the first place of an odd row left.
 unfoldable pub rotatedBoundary : (w row i : ℕ) → ℕ
 rotatedBoundary w row i = cond (eqb (row % 2) 0) (cond (eqb (i + 1) w) right inner) (cond (eqb i 0) left inner)
 
--- √2
+-- Six builders, Edge order, sentence 2: √2.
 abbrev pub root2 : Float
 root2 = ofBits binary64 0x3ff6a09e667f3bcd
 
--- when layer t of kind 6 is
+-- Six builders, on positions, kind 6: the t of layer t.
 abbrev pub rotatedTime : ℕ → Float
 rotatedTime t = mul binary64 (float t) root2
 
--- place i of a row, at a time
+-- Six builders, on positions and on left and right, kinds 5 and 6: place i of a row, at a time.
 unfoldable pub rotatedVertex : (w row i : ℕ) → Float → CodeVertex
 rotatedVertex w row i time = record {
   boundary = rotatedBoundary w row i;

@@ -17,35 +17,35 @@ use Rattle.weights_calls.specs.Calls.{larger}
 use Rattle.weights_diagonal.specs.declared.DiagonalProbability.{DiagonalProbability}
 use Rattle.codes_weights.specs.declared.Weighed.{Weighed}
 
--- the p of a diagonal edge
+-- Weights, on the diagonal probability, sentence 1: the p of a diagonal edge.
 abbrev pub diagonalP : Float → DiagonalProbability → Float
 diagonalP p diagonal = replaced diagonal p true
 
--- the largest weight: an edge that is not diagonal is there, a diagonal one from one round on
+-- Weights, on half weights, sentence 1: the largest w, where an edge that is not diagonal is there, and a diagonal one from one round on.
 unfoldable pub largestOf : (rounds : ℕ) (p : Float) (diagonal : DiagonalProbability) → Float
 largestOf rounds p diagonal =
     cond (eqb rounds 0) (larger zeroFloat (edgeWeight p)) (larger (larger zeroFloat (edgeWeight p)) (edgeWeight (diagonalP p diagonal)))
 
--- what an edge with this p gets
+-- Weights, on half weights: what an edge with this p gets.
 abbrev pub weighedOf : (p : Float) (max : ℕ) (largest : Float) → Weighed
 weighedOf p max largest = record { p = p; half = halfWeight max (edgeWeight p) largest }
 
--- the number of questions 2 to 6, or where it is 0 that of 8 to 10
+-- Questions at the door, 2 to 6 and 8 to 10: the number of 2 to 6, or where it is 0 that of 8 to 10.
 unfoldable pub weightsRefusal : (q : ℕ) (eight nine ten : Bool) → ℕ
 weightsRefusal q eight nine ten = cond (eqb q 0) (ask eight 8 (ask nine 9 (ask ten 10 0))) q
 
--- whether edge k of two columns of ends is diagonal, by three columns of positions
+-- Weights, on the diagonal probability, sentence 1: whether edge k of two columns of ends is diagonal, by three columns of positions.
 unfoldable pub diagonalAt : (a b : List ℕ) (i j t : List Float) (k : ℕ) → Bool
 diagonalAt a b i j t k = isDiagonal (positionAt i j t (getD a k 0)) (positionAt i j t (getD b k 0))
 
--- n places in the columns of ends, p and half weights
+-- There are n places in the columns of ends, p and half weights.
 pub record WeighRoom (n : ℕ) (a b : List ℕ) (p : List Float) (h : List ℕ) : Type 0 where
   pub room-a : n ≤ length a
   pub room-b : n ≤ length b
   pub room-p : n ≤ length p
   pub room-h : n ≤ length h
 
--- the columns of p and half weights hold what the first n edges get
+-- Weights, on the diagonal probability and on half weights: the columns of p and half weights hold what the first n edges get.
 pub record EdgesWeighed (n : ℕ) (diagonal : ℕ → Bool) (straight other : Weighed) (p₀ : List Float) (h₀ : List ℕ) (p : List Float) (h : List ℕ) : Type 0 where
   pub in-p : p ≡ sets p₀ 0 (each n (λ k. cond (diagonal k) (other .p) (straight .p)))
   pub in-h : h ≡ sets h₀ 0 (each n (λ k. cond (diagonal k) (other .half) (straight .half)))

@@ -3,7 +3,7 @@ use Prim.Native.Nat.{ℕ, zero, suc}
 use Rattle.columns.specs.declared.Done.{Done}
 use Rattle.columns.specs.declared.Done.the-variants.{Accepted, Refused}
 
--- the case for each number; no refusal has the number 0
+-- Questions at the door, sentence 2: the answer for a number, accepted for 0, else refused with it; no refusal has the number 0.
 abbrev pub done : ℕ → Done
 done zero = Accepted
 done (suc n) = Refused (suc n)

@@ -1,33 +1,38 @@
 -- The limits of document 01's "Records".
 use Prim.Native.Nat.{ℕ}
 
--- vertices and edges of a graph
+-- Records, last sentence: a graph has at most 4,096 vertices.
 abbrev pub vertexLimit : ℕ
 vertexLimit = 4096
 
+-- Records, last sentence: a graph has at most 32,768 edges.
 abbrev pub edgeLimit : ℕ
 edgeLimit = 32768
 
--- the half weight of an edge, and the weight of an edge of an engine graph
+-- Records, on edges: the greatest half weight of an edge.
 abbrev pub halfWeightLimit : ℕ
 halfWeightLimit = 250000
 
+-- Records, on engine graphs: the greatest weight of an edge.
 abbrev pub weightLimit : ℕ
 weightLimit = 500000
 
--- a boundary byte: 0 inner, 1 left, 2 right
+-- Records, on vertices: the boundary byte of an inner vertex.
 abbrev pub inner : ℕ
 inner = 0
 
+-- Records, on vertices: the boundary byte of a left vertex.
 abbrev pub left : ℕ
 left = 1
 
+-- Records, on vertices: the boundary byte of a right vertex.
 abbrev pub right : ℕ
 right = 2
 
+-- Records, on vertices: the greatest boundary byte.
 abbrev pub boundaryLimit : ℕ
 boundaryLimit = 2
 
--- a defect byte and an erasure byte: 0 or 1
+-- Records, on vertices: the greatest defect byte; and the greatest erasure byte, whose values Records, on edges, leaves out.
 abbrev pub markLimit : ℕ
 markLimit = 1

@@ -5,7 +5,7 @@ use lib.ListN.{getD}
 use lib.Ieee.{Float, binary64, ofBits}
 use Rattle.columns.specs.declared.VisualizePosition.{VisualizePosition}
 
--- 0, 1 and 0.5 as f64
+-- The f64 0, 1 and 0.5, by their bits.
 abbrev pub zeroFloat : Float
 zeroFloat = ofBits binary64 0
 
@@ -15,9 +15,10 @@ one = ofBits binary64 0x3ff0_0000_0000_0000
 abbrev pub half : Float
 half = ofBits binary64 0x3fe0_0000_0000_0000
 
+-- Records, on vertices: the position with the coordinates i, j and t.
 abbrev pub position : Float → Float → Float → VisualizePosition
 position i j t = record { i = i; j = j; t = t }
 
--- what stands at a place of the three columns, 0 past their ends
+-- Records, on vertices: the position of vertex v in the columns of i, j and t, 0 past their ends.
 abbrev pub positionAt : List Float → List Float → List Float → ℕ → VisualizePosition
 positionAt is js ts v = position (getD is v zeroFloat) (getD js v zeroFloat) (getD ts v zeroFloat)

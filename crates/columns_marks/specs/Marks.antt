@@ -9,23 +9,23 @@ use lib.Dec.{eqb}
 use Rattle.columns.specs.Lists.{each}
 use Rattle.columns_neighbors.specs.Lists.{chosen}
 
--- a byte that is not 0: a defect, an erasure, and of boundary bytes a virtual vertex
+-- Records, on vertices and on edges: a byte that is not 0: a defect, an erasure, and of boundary bytes a virtual vertex.
 abbrev pub isSet : ℕ → Bool
 isSet byte = not (eqb byte 0)
 
--- the numbers below n whose byte is set, ascending
+-- Sampling, syndromes, reordering, paragraph 2, sentence 4: a list of defects, erasures or virtual vertices: the numbers below n whose byte is set, ascending.
 unfoldable pub listed : ℕ → List ℕ → List ℕ
 listed n column = chosen n (λ k. isSet (getD column k 0))
 
--- the list goes on: where its first places hold the numbers below `from` whose byte is set, they hold those below `to` afterwards
+-- Such a list goes on: where its first places hold the numbers below `from` whose byte is set, they hold those below `to` afterwards.
 abbrev pub Continued : (column : List ℕ) (from to : ℕ) (list₀ list : List ℕ) → Type 0
 Continued column from to list₀ list = (l : List ℕ) → list₀ ≡ sets l 0 (listed from column) → list ≡ sets l 0 (listed to column)
 
--- whether a list names the number k
+-- Whether a list names the number k.
 unfoldable pub names : List ℕ → ℕ → Bool
 names [] k = false
 names (x ∷ list) k = eqb x k || names list k
 
--- n bytes: 1 at each number that the list names, once or more often, else 0
+-- Records, on vertices and on edges: the n defect or erasure bytes that a list sets, 1 at each number that it names, once or more often, else 0.
 unfoldable pub marks : ℕ → List ℕ → List ℕ
 marks n list = each n (λ k. cond (names list k) 1 0)

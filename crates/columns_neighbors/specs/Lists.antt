@@ -7,31 +7,32 @@ use lib.ListN.{getD, length}
 use lib.Dec.{eqb}
 use Rattle.columns.specs.Lists.{each, joined, when, over}
 
--- edge number k where x is vertex v, else nothing
+-- Edge number k where x is vertex v, else nothing.
 unfoldable pub hits : (v x k : ℕ) → List ℕ
 hits v x k = when (eqb x v) k
 
--- the neighbour list of vertex v: the numbers of the edges before number e that end at v, ascending; a and b are the columns of ends
+-- Six builders, on new edges, sentence 2: the neighbour list of vertex v, the numbers of
+-- the edges before number e that end at v, ascending; a and b are the columns of ends.
 unfoldable pub neighbours : (a b : List ℕ) (e v : ℕ) → List ℕ
 neighbours a b e v = joined e (λ k. hits v (getD a k 0) k ++ hits v (getD b k 0) k)
 
--- the lists of vertices 0 to n - 1 one after another, in vertex order
+-- Records, on neighbour lists: the lists of vertices 0 to n - 1 one after another, in vertex order.
 unfoldable pub lists : (a b : List ℕ) (e n : ℕ) → List ℕ
 lists a b e n = joined n (λ v. neighbours a b e v)
 
--- the length of each list
+-- Records, on neighbour lists: the length of each list.
 unfoldable pub degrees : (a b : List ℕ) (e n : ℕ) → List ℕ
 degrees a b e n = each n (λ v. length (neighbours a b e v))
 
--- the numbers below n for which a test holds, ascending
+-- The numbers below n for which a test holds, ascending.
 unfoldable pub chosen : ℕ → (ℕ → Bool) → List ℕ
 chosen n test = joined n (λ k. when (test k) k)
 
--- edge k ends at vertex v
+-- Records, on edges: edge k ends at vertex v.
 abbrev pub endsAt : (a b : List ℕ) (v k : ℕ) → Bool
 endsAt a b v k = eqb (getD a k 0) v || eqb (getD b k 0) v
 
--- the columns after the lists are filled in; the last column has the place where each vertex's list ends
+-- Records, on neighbour lists: the columns after the lists are filled in, unchanged past them; the last column has the place where each vertex's list ends.
 pub record ListsFilled (a b : List ℕ) (e n : ℕ) (lengths₀ numbers₀ lengths numbers ends : List ℕ) : Type 0 where
   pub lengths-are : lengths ≡ over (degrees a b e n) lengths₀
   pub numbers-are : numbers ≡ over (lists a b e n) numbers₀

@@ -7,15 +7,15 @@ use lib.Dec.{leb}
 use Rattle.columns.specs.Questions.{allBelow, weightsSound, vertexCountSound, edgeCountSound}
 use Rattle.columns_pairs.specs.Pairs.{endsDiffer, pairsApart}
 
--- the columns hold e edges whose ends are below v
+-- Questions at the door, 7: the columns hold e edges, whose ends are in range, that is below v.
 unfoldable pub endsInRange : (v e : ℕ) (a b : List ℕ) → Bool
 endsInRange v e a b = leb e (length a) && (leb e (length b) && (allBelow v (take e a) && allBelow v (take e b)))
 
--- the counts and ends of a graph: 1 to 4,096 vertices, 0 to 32,768 edges, ends in range and different, no two edges joining one pair
+-- Questions at the door, 7, of the counts and ends of a graph: 1 to 4,096 vertices, 0 to 32,768 edges, ends in range and different, no two edges joining one pair.
 unfoldable pub graphSound : (v e : ℕ) (a b : List ℕ) → Bool
 graphSound v e a b =
     vertexCountSound v && (edgeCountSound e && (endsInRange v e a b && (endsDiffer a b e && pairsApart a b e)))
 
--- the first n log entries: each names one of e edges and an earlier weight within the Records
+-- Questions at the door, 7, of the first n log entries: each names one of e edges and an earlier weight within the Records.
 unfoldable pub logSound : (e n : ℕ) (edges weights : List ℕ) → Bool
 logSound e n edges weights = allBelow e (take n edges) && weightsSound n weights

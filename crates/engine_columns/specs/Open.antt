@@ -11,23 +11,24 @@ use Rattle.engine_columns.specs.declared.EngineAnswer.{EngineAnswer}
 use Rattle.engine_columns.specs.Records.{counts, noCounts, said}
 use Rattle.engine_columns.specs.Questions.{columnsLong, columnsSound}
 
--- the columns of a graph without its log
+-- Records, on engine graphs: the columns of a graph without its log.
 pub record GraphColumns : Type 0 where
   pub endsA : List ℕ
   pub endsB : List ℕ
   pub weights : List ℕ
   pub boundary : List ℕ
 
+-- Records, on engine graphs: the four columns together.
 abbrev pub graphColumns : List ℕ → List ℕ → List ℕ → List ℕ → GraphColumns
 graphColumns a b w m = record { endsA = a; endsB = b; weights = w; boundary = m }
 
--- the first question that is not met: 6 of what is handed over and of the columns lent, 7 of what is handed over
+-- Questions at the door, of open, the first that is not met: 6 of what is handed over and of the columns lent, 7 of what is handed over; 0 where both are met.
 abbrev pub openRefusal : (v e : ℕ) → GraphColumns → GraphColumns → ℕ
 openRefusal v e handed lent =
     ask (columnsLong v e (handed .endsA) (handed .endsB) (handed .weights) (handed .boundary) && columnsLong v e (lent .endsA) (lent .endsB) (lent .weights) (lent .boundary)) 6
     (ask (columnsSound v e (handed .endsA) (handed .endsB) (handed .weights) (handed .boundary)) 7 0)
 
--- the answer, and every column: an accepted open copies, and the log is empty
+-- Engine, Open: the answer, and every column: an accepted open copies, and the log is empty.
 pub record OpenStep (v e : ℕ) (handed lent : GraphColumns) (r : EngineAnswer) (opened : GraphColumns) : Type 0 where
   pub answer : Answered (said r) (openRefusal v e handed lent) (counts v e 0) noCounts
   pub endsA-after : opened .endsA ≡ after (openRefusal v e handed lent) (take e (handed .endsA)) (lent .endsA)

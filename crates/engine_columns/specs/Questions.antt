@@ -8,21 +8,21 @@ use Rattle.columns.specs.Questions.{weightsSound, boundariesSound}
 use Rattle.columns_neighbors.specs.Sound.{graphSound, logSound}
 use Rattle.engine_columns.specs.Records.{Engine}
 
--- 6: ends, weights and boundary bytes as long as their counts
+-- Questions at the door, 6: ends, weights and boundary bytes as long as their counts.
 unfoldable pub columnsLong : (v e : ℕ) (a b w m : List ℕ) → Bool
 columnsLong v e a b w m = leb e (length a) && (leb e (length b) && (leb e (length w) && leb v (length m)))
 
--- 6: and a log with room for n entries more
+-- Questions at the door, 6, of an engine graph: these columns, and a log with room for n entries more.
 unfoldable pub engineLong : ℕ → Engine → Bool
 engineLong n e =
     columnsLong (e .counts .vertices) (e .counts .edges) (e .endsA) (e .endsB) (e .weights) (e .boundary)
     && (leb (e .counts .entries + n) (length (e .logEdges)) && leb (e .counts .entries + n) (length (e .logWeights)))
 
--- 7: ends, weights and boundary bytes sound
+-- Questions at the door, 7: ends, weights and boundary bytes sound.
 unfoldable pub columnsSound : (v e : ℕ) (a b w m : List ℕ) → Bool
 columnsSound v e a b w m = graphSound v e a b && (weightsSound e w && boundariesSound v m)
 
--- 7: and the log entries
+-- Questions at the door, 7, of an engine graph: these columns, and the log entries.
 unfoldable pub engineSound : Engine → Bool
 engineSound e =
     columnsSound (e .counts .vertices) (e .counts .edges) (e .endsA) (e .endsB) (e .weights) (e .boundary)

@@ -6,7 +6,8 @@ use Rattle.engine_columns.specs.declared.EngineCounts.{EngineCounts}
 use Rattle.engine_columns.specs.declared.EngineAnswer.{EngineAnswer}
 use Rattle.engine_columns.specs.declared.EngineAnswer.the-variants.{Counts, Refused}
 
--- every column is whole, as it is lent: places past a count are in it
+-- Records, on engine graphs: ends, a weight for each edge, boundary bytes and a log, with
+-- their counts. Every column is whole, as it is lent: places past a count are in it.
 pub record Engine : Type 0 where
   pub counts : EngineCounts
   pub endsA : List ℕ
@@ -16,22 +17,25 @@ pub record Engine : Type 0 where
   pub logEdges : List ℕ
   pub logWeights : List ℕ
 
+-- Records, on engine graphs: the counts and the columns together.
 abbrev pub engine : EngineCounts → List ℕ → List ℕ → List ℕ → List ℕ → List ℕ → List ℕ → Engine
 engine c a b w m e l =
     record { counts = c; endsA = a; endsB = b; weights = w; boundary = m; logEdges = e; logWeights = l }
 
+-- Records, on engine graphs: the numbers of vertices, edges and log entries together.
 abbrev pub counts : ℕ → ℕ → ℕ → EngineCounts
 counts v e n = record { vertices = v; edges = e; entries = n }
 
+-- Questions at the door, sentence 2: the counts that a refusal reports, all 0.
 abbrev pub noCounts : EngineCounts
 noCounts = counts 0 0 0
 
--- document 01's number and values for each case of an answer: the counts to go on with are 0 at a refusal
+-- Expected forms by place, last paragraph: document 01's number and values for each case of `EngineAnswer`; the counts to go on with are 0 at a refusal.
 abbrev pub said : EngineAnswer → Said EngineCounts
 said (Counts c) = accepts c
 said (Refused number) = refuses number noCounts
 
--- the counts after an answer: an accepted call hands them back, a refused one leaves them
+-- Engine, Tally, sentence 2: the counts after an answer, which the next call is lent: an accepted call hands them back, a refused one leaves them.
 abbrev pub kept : EngineCounts → EngineAnswer → EngineCounts
 kept c (Counts k) = k
 kept c (Refused n) = c

@@ -13,13 +13,13 @@ use Rattle.engine_columns.specs.Records.{Engine, engine, counts, noCount
 use Rattle.engine_log.specs.Load.{loaded, earlier, named, undone, erased, given}
 use Rattle.engine_columns.specs.Questions.{engineLong, engineSound}
 
--- a load or a reset, with its arguments
+-- Engine, Load and Reset: a load or a reset, with its arguments.
 pub data Call : Type 0 where
   loadErasures : List ℕ → Call
   loadWeights : List ℕ → List ℕ → Call
   reset : Call
 
--- the number of the first question that is not met, or 0
+-- Questions at the door, 6, 7, 12, 13 and 15, of a load or a reset: the number of the first that is not met, or 0.
 abbrev pub engineRefusal : Call → Engine → ℕ
 engineRefusal (loadErasures es) e =
     ask (engineLong (length es) e) 6
@@ -35,14 +35,14 @@ engineRefusal (loadWeights es xs) e =
     (ask (allWithin weightLimit xs) 15 0)))))
 engineRefusal reset e = ask (engineLong 0 e) 6 (ask (engineSound e) 7 0)
 
--- the columns after an accepted load
+-- Engine, Load, sentences 2 to 4: the columns after an accepted load; entry k sets the edge named there to x k.
 abbrev pub loadedBy : List ℕ → (ℕ → ℕ) → Engine → Engine
 loadedBy es x e =
     engine (counts (e .counts .vertices) (e .counts .edges) (length es)) (e .endsA) (e .endsB)
     (loaded es x (length es) (e .weights)) (e .boundary)
     (named es (length es) (e .logEdges)) (earlier es x (length es) (e .weights) (e .logWeights))
 
--- the columns after an accepted call
+-- Engine, Load and Reset: the columns after an accepted call.
 abbrev pub changed : Call → Engine → Engine
 changed (loadErasures es) e = loadedBy es erased e
 changed (loadWeights es xs) e = loadedBy es (given xs) e
@@ -50,7 +50,7 @@ changed reset e =
     engine (counts (e .counts .vertices) (e .counts .edges) 0) (e .endsA) (e .endsB)
     (undone (e .logEdges) (e .logWeights) (e .counts .entries) (e .weights)) (e .boundary) (e .logEdges) (e .logWeights)
 
--- the answer, and every column left, refusals included
+-- Engine, Load and Reset; Questions at the door, sentence 2: the answer, and every column left, refusals included.
 pub record Step (call : Call) (before : Engine) (r : EngineAnswer) (after : Engine) : Type 0 where
   pub answer : Answered (said r) (engineRefusal call before) (changed call before .counts) noCounts
   pub left : after ≡ cond (eqb (engineRefusal call before) 0) (changed call before) before

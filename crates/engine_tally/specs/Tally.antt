@@ -1,4 +1,5 @@
 -- The tally of document 01's "Engine": what a list of calls says by itself, from the calls' arguments and the lengths of the columns they are lent.
+-- "Engine, Tally" is the paragraph of that section that begins "Demand 3 is one claim".
 use Prim.Native.Nat.{ℕ, zero, suc, _+_}
 use mathlib.Core.Bool.{Bool, cond, _&&_}
 use mathlib.Core.List.{List, [], _∷_}
@@ -12,7 +13,7 @@ use Rattle.engine_log.specs.Load.{loaded, erased, given}
 use Rattle.engine_columns.specs.Step.{Call, loadErasures, loadWeights, reset}
 use Rattle.engine_columns.specs.Open.{GraphColumns}
 
--- the lengths of the columns that a call is lent
+-- Engine, Tally, sentence 5: the lengths of the columns that a call is lent.
 pub record Lengths : Type 0 where
   pub endsA : ℕ
   pub endsB : ℕ
@@ -21,6 +22,7 @@ pub record Lengths : Type 0 where
   pub logEdges : ℕ
   pub logWeights : ℕ
 
+-- Engine, Tally, sentence 5: the lengths of an engine graph's columns.
 abbrev pub lengthsOf : Engine → Lengths
 lengthsOf e = record {
   endsA = length (e .endsA);
@@ -31,7 +33,7 @@ lengthsOf e = record {
   logWeights = length (e .logWeights);
 }
 
--- a weight for each edge, the ends and boundary bytes handed to open, the opening weights, and the counts with that of log entries
+-- Engine, Tally, sentence 6: a weight for each edge, the ends and boundary bytes handed to open, the opening weights, and the counts with that of log entries.
 pub record Tally : Type 0 where
   pub counts : EngineCounts
   pub endsA : List ℕ
@@ -40,7 +42,7 @@ pub record Tally : Type 0 where
   pub opening : List ℕ
   pub weights : List ℕ
 
--- the tally at first, from what was handed to open
+-- Engine, Tally, sentence 6: the tally at first, from what was handed to open.
 abbrev pub tallyOf : (v e : ℕ) → GraphColumns → Tally
 tallyOf v e handed = record {
   counts = counts v e 0;
@@ -51,13 +53,13 @@ tallyOf v e handed = record {
   weights = take e (handed .weights);
 }
 
--- question 6 from the lengths
+-- Engine, Tally, sentence 7; Questions at the door, 6: from the lengths, with room in the log for n entries more.
 abbrev pub tallyLong : ℕ → Lengths → EngineCounts → Bool
 tallyLong n k c =
     (leb (c .edges) (k .endsA) && (leb (c .edges) (k .endsB) && (leb (c .edges) (k .weights) && leb (c .vertices) (k .boundary))))
     && (leb (c .entries + n) (k .logEdges) && leb (c .entries + n) (k .logWeights))
 
--- the tally's answer to a call's questions: 7 is always met
+-- Engine, Tally, sentence 7: the tally's answer to the questions of a load or a reset; 7 is always met.
 abbrev pub tallyRefusal : Call → Lengths → Tally → ℕ
 tallyRefusal (loadErasures es) k t =
     ask (tallyLong (length es) k (t .counts)) 6
@@ -71,6 +73,7 @@ tallyRefusal (loadWeights es xs) k t =
     (ask (allWithin weightLimit xs) 15 0))))
 tallyRefusal reset k t = ask (tallyLong 0 k (t .counts)) 6 0
 
+-- Engine, Tally, sentences 8 and 9: the tally with other weights and another count of log entries.
 abbrev pub withWeights : Tally → ℕ → List ℕ → Tally
 withWeights t n w = record {
   counts = counts (t .counts .vertices) (t .counts .edges) n;
@@ -81,29 +84,31 @@ withWeights t n w = record {
   weights = w;
 }
 
--- the tally after an accepted call: a load goes through its list in order, reset puts every opening weight back
+-- Engine, Tally, sentences 8 and 9: the tally after an accepted call: a load goes through its list in order, reset puts every opening weight back.
 abbrev pub tallied : Call → Tally → Tally
 tallied (loadErasures es) t = withWeights t (t .counts .entries + length es) (loaded es erased (length es) (t .weights))
 tallied (loadWeights es xs) t = withWeights t (t .counts .entries + length es) (loaded es (given xs) (length es) (t .weights))
 tallied reset t = withWeights t 0 (t .opening)
 
--- what the tally is fed of a call
+-- Engine, Tally, sentence 5: what the tally is fed of a call: its arguments and the lengths of the columns it is lent.
 pub record Fed : Type 0 where
   pub call : Call
   pub lent : Lengths
 
+-- Engine, Tally, sentence 7: whether the tally accepts a call.
 abbrev pub isAccepted : Fed → Tally → Bool
 isAccepted f t = eqb (tallyRefusal (f .call) (f .lent) t) 0
 
--- refused calls leave the tally
+-- Engine, Tally, sentences 8 to 10: the tally after a call; refused calls leave it.
 abbrev pub tallyStep : Fed → Tally → Tally
 tallyStep f t = cond (isAccepted f t) (tallied (f .call) t) t
 
+-- Engine, Tally, sentence 4: the tally at the end of a list of loads and resets.
 abbrev pub tallyAfter : List Fed → Tally → Tally
 tallyAfter [] t = t
 tallyAfter (f ∷ fs) t = tallyAfter fs (tallyStep f t)
 
--- each call's number, 0 where it is accepted
+-- Engine, Tally, sentence 7: each call's number, 0 where it is accepted.
 abbrev pub tallyNumbers : List Fed → Tally → List ℕ
 tallyNumbers [] t = []
 tallyNumbers (f ∷ fs) t = tallyRefusal (f .call) (f .lent) t ∷ tallyNumbers fs (tallyStep f t)

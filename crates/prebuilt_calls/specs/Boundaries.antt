@@ -18,25 +18,28 @@ use Rattle.engine_walks.specs.Answers.{table}
 use Rattle.query_questions.specs.Queries.{graphIn, weightsIn, queryRefusal}
 use Rattle.prebuilt_entries.specs.Nearest.{boundaryIn, weightTo, vertexTo}
 
--- the weights from v with no end, and in them the nearest virtual vertex of v, as `get_boundary_weight` reports it
+-- Engine, Table: the weights from v with no end.
 abbrev pub weightsFrom : (g : Graph) (w : ℕ → ℕ) (v : ℕ) → List ℤ
 weightsFrom g w v = table g w v none .weights
 
+-- complete_graph.rs, `get_boundary_weight`: the nearest virtual vertex of v in these weights.
 abbrev pub nearestOf : (g : Graph) (w : ℕ → ℕ) (v : ℕ) → Option ℕ
 nearestOf g w v = boundaryIn (g .boundary) (weightsFrom g w v) (g .vertices) v
 
+-- complete_graph.rs, `get_boundary_weight`: the weight of that vertex, -1 for none.
 abbrev pub boundaryWeight : (g : Graph) (w : ℕ → ℕ) (v : ℕ) → ℤ
 boundaryWeight g w v = weightTo (weightsFrom g w v) (nearestOf g w v)
 
+-- complete_graph.rs, `get_boundary_weight`: the number of that vertex, 0 for none.
 abbrev pub boundaryVertex : (g : Graph) (w : ℕ → ℕ) (v : ℕ) → ℕ
 boundaryVertex g w v = vertexTo (nearestOf g w v)
 
--- the number of the first question that is not met, or 0: 6, 7; `scratch` says whether scratch is long enough
+-- Questions at the door, 6 and 7, of `fill_boundaries`: the number of the first that is not met, or 0; `scratch` says whether scratch is long enough.
 abbrev pub boundariesRefusal : Engine → (scratch : Bool) (weights vertices least before : ℕ) → ℕ
 boundariesRefusal e scratch weights vertices least before =
     queryRefusal e (leb (e .counts .vertices) weights && (leb (e .counts .vertices) vertices && (leb (e .counts .vertices) least && (leb (e .counts .vertices) before && scratch)))) true 0
 
--- the answer, and both columns
+-- complete_graph.rs, `PrebuiltCompleteGraph`: the answer of `fill_boundaries`, and both columns.
 pub record BoundariesStep (e : Engine) (scratch : Bool) (least before : ℕ) (r : Done) (weights₀ : List ℤ) (vertices₀ : List ℕ) (weights : List ℤ) (vertices : List ℕ) : Type 0 where
   pub answer : Answered (said r) (boundariesRefusal e scratch (length weights₀) (length vertices₀) least before) tt tt
   pub weights-after : weights
@@ -44,7 +47,7 @@ pub record BoundariesStep (e : Engine) (scratch : Bool) (least before : ℕ) (r 
   pub vertices-after : vertices
       ≡ after (boundariesRefusal e scratch (length weights₀) (length vertices₀) least before) (each (e .counts .vertices) (boundaryVertex (graphIn e) (weightsIn e))) vertices₀
 
--- a refused call leaves the two first scratch columns as they were
+-- Questions at the door, sentence 2: a refused call leaves the two first scratch columns as they were.
 abbrev pub FirstKept : Done → (least₀ least : List ℤ) (before₀ before : List ℕ) → Type 0
 FirstKept Accepted least₀ least before₀ before = Unit {0}
 FirstKept (Refused n) least₀ least before₀ before = (least ≡ least₀) × (before ≡ before₀)

@@ -12,23 +12,24 @@ use Rattle.prebuilt_calls.specs.declared.nearest.BoundaryAnswer.{Boundar
 use Rattle.prebuilt_calls.specs.declared.nearest.BoundaryAnswer.the-variants.{Nearest, NoBoundary, Refused}
 use Rattle.prebuilt_entries.specs.Nearest.{amount, boundaryIn}
 
--- document 01's number for each case, and the values: 1 where there is a virtual vertex, its number and the weight; 0 where there is none and where the call was refused
+-- Expected forms by place, last paragraph: document 01's number for each case of `BoundaryAnswer`, and the values:
+-- 1 where there is a virtual vertex, its number and the weight; 0 where there is none and where the call was refused.
 abbrev pub said : BoundaryAnswer → Said (ℕ × ℕ × ℕ)
 said (Nearest u weight) = accepts (1, u .0, weight)
 said NoBoundary = accepts (0, 0, 0)
 said (Refused n) = refuses n (0, 0, 0)
 
--- the values for a vertex or none: its weight stands in `weights`
+-- complete_graph.rs, `get_boundary_weight`: the values for a vertex or none: its weight stands in `weights`.
 abbrev pub boundaryFound : List ℤ → Option ℕ → ℕ × ℕ × ℕ
 boundaryFound weights none = (0, 0, 0)
 boundaryFound weights (some u) = (1, u, amount (weightIn weights u))
 
--- the answer, where q is the number of the first question that is not met: by the table from v with no end
+-- complete_graph.rs, `get_boundary_weight`: the answer, where q is the number of the first question that is not met: by the table from v with no end.
 abbrev pub BoundarySaid : (q : ℕ) (g : Graph) (w : ℕ → ℕ) (v : ℕ) → BoundaryAnswer → Type 0
 BoundarySaid q g w v r =
     Answered (said r) q (boundaryFound (table g w v none .weights) (boundaryIn (g .boundary) (table g w v none .weights) (g .vertices) v)) (0, 0, 0)
 
--- every lent column but the engine's is scratch; a refused call leaves it as it was
+-- Questions at the door, sentence 2: every lent column but the engine's is scratch; a refused call leaves it as it was.
 abbrev pub BoundaryKept : BoundaryAnswer → (least₀ least : List ℤ) (before₀ before : List ℕ) → ScratchColumns → ScratchColumns → Type 0
 BoundaryKept (Nearest u weight) least₀ least before₀ before s₀ s = Unit {0}
 BoundaryKept NoBoundary least₀ least before₀ before s₀ s = Unit {0}

@@ -18,21 +18,21 @@ use Rattle.engine_walks.specs.Answers.{table}
 use Rattle.query_questions.specs.Queries.{graphIn, weightsIn, queryRefusal}
 use Rattle.prebuilt_entries.specs.Entries.{rowEntry}
 
--- the row of v; `nearest` holds for each vertex the least weight to a virtual vertex, -1 for none
+-- complete_graph.rs, `PrebuiltCompleteGraph`: the row of v; `nearest` holds for each vertex the least weight to a virtual vertex, -1 for none.
 abbrev pub row : (g : Graph) (w : ℕ → ℕ) (nearest : List ℤ) (v : ℕ) → List ℤ
 row g w nearest v = each (g .vertices) (rowEntry (g .boundary) nearest v (table g w v none .weights))
 
--- the number of the first question that is not met, or 0: 6, 7, 13; `scratch` says whether scratch is long enough
+-- Questions at the door, 6, 7 and 13, of `fill_row`: the number of the first that is not met, or 0; `scratch` says whether scratch is long enough.
 abbrev pub rowRefusal : Engine → (scratch : Bool) (v nearest out before : ℕ) → ℕ
 rowRefusal e scratch v nearest out before =
     queryRefusal e (leb (e .counts .vertices) nearest && (leb (e .counts .vertices) out && (leb (e .counts .vertices) before && scratch))) (ltb v (e .counts .vertices)) 0
 
--- the answer, and the row's column
+-- complete_graph.rs, `PrebuiltCompleteGraph`: the answer of `fill_row`, and the row's column.
 pub record RowStep (e : Engine) (scratch : Bool) (v : ℕ) (nearest : List ℤ) (before : ℕ) (r : Done) (out₀ out : List ℤ) : Type 0 where
   pub answer : Answered (said r) (rowRefusal e scratch v (length nearest) (length out₀) before) tt tt
   pub out-after : out ≡ after (rowRefusal e scratch v (length nearest) (length out₀) before) (row (graphIn e) (weightsIn e) nearest v) out₀
 
--- a refused call leaves a scratch column as it was
+-- Questions at the door, sentence 2: a refused call leaves a scratch column as it was.
 abbrev pub ColumnKept : Done → List ℕ → List ℕ → Type 0
 ColumnKept Accepted column₀ column = Unit {0}
 ColumnKept (Refused n) column₀ column = column ≡ column₀

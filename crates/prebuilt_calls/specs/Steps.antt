@@ -6,7 +6,7 @@ use Rattle.engine_columns.specs.Records.{Engine}
 use Rattle.engine_columns.specs.Questions.{engineLong, engineSound}
 use Rattle.query_questions.specs.Queries.{scratchLong}
 
--- an engine graph that 6 and 7 accept, with room in every column lent
+-- Questions at the door, 6 and 7: an engine graph that they accept, with room in every column lent.
 pub record Fillable (e : Engine) (weights vertices least before numbers ends status weight previous node leaf : ℕ) : Type 0 where
   pub long : engineLong 0 e ≡ true
   pub is-sound : engineSound e ≡ true

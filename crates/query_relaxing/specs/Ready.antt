@@ -14,32 +14,33 @@ use Rattle.columns_neighbors.specs.Lists.{lists}
 use Rattle.engine_walks.specs.Graph.{Graph}
 use Rattle.engine_walks.specs.Settling.{State, statusAt, weightAt}
 
--- the graph of columns of ends that hold its edges alone
+-- Records, on engine graphs: the graph of columns of ends that hold its edges alone.
 abbrev pub graphOf : ℕ → List ℕ → List ℕ → List ℕ → Graph
 graphOf n a b m = record { vertices = n; endsA = a; endsB = b; boundary = m }
 
--- the weight of each edge, from a column
+-- Records, on engine graphs: the weight of each edge, from a column.
 abbrev pub weighs : List ℕ → ℕ → ℕ
 weighs column e = getD column e 0
 
+-- Engine, Settling: the state in the columns of status bytes, weights and previous vertices.
 abbrev pub stateOf : List ℕ → List ℕ → List ℕ → State
 stateOf status weight previous = record { status = status; weight = weight; previous = previous }
 
--- the key of vertex v: weight first, then number; none where v does not wait
+-- Engine, Settling, sentence 1: the key of vertex v: weight first, then number, so that the least key is that of the vertex to take; none where v does not wait.
 abbrev pub keyOf : (status weight v : ℕ) → ℕ
 keyOf status weight v = cond (eqb status 1) (weight * 4096 + v) Q.none
 
--- sums fit 32 signed bits
+-- Records, last sentence: sums fit 32 signed bits, that is, they are below this limit.
 abbrev pub sumLimit : ℕ
 sumLimit = 2147483648
 
--- whether an offer is taken up, by the status of the vertex
+-- Engine, Settling, sentence 4: whether an offer is taken up, by the status of the vertex.
 abbrev pub takesUp : ℕ → Bool → Bool
 takesUp zero change = true
 takesUp (suc zero) change = change
 takesUp (suc (suc n)) change = false
 
--- the columns hold a state of n vertices and the keys of those that wait, in a tree
+-- Engine, Settling: the columns hold a state of n vertices and the keys of those that wait, in a tree.
 pub record Ready (n : ℕ) (s : State) (node leaf : List ℕ) : Type 0 where
   pub few : n ≤ 4096
   pub status-fits : length (s .status) ≡ n
@@ -51,7 +52,8 @@ pub record Ready (n : ℕ) (s : State) (node leaf : List ℕ) : Type 0 where
   pub keys : (v : ℕ) → v < n → getD leaf v 0 ≡ keyOf (statusAt s v) (weightAt s v) v
   pub light : (v : ℕ) → v < n → weightAt s v < sumLimit
 
--- the graph's columns hold e edges between n vertices whose ends differ, and the neighbour lists with the place where each ends
+-- Records, on neighbour lists; Questions at the door, 7: the graph's columns hold edges between
+-- n vertices whose ends differ, and the neighbour lists with the place where each ends.
 pub record Listed (n : ℕ) (a b w numbers ends : List ℕ) : Type 0 where
   pub same-b : length b ≡ length a
   pub same-w : length w ≡ length a
@@ -64,7 +66,7 @@ pub record Listed (n : ℕ) (a b w numbers ends : List ℕ) : Type 0 where
   pub numbers-are : take (length (lists a b (length a) n)) numbers ≡ lists a b (length a) n
   pub ends-are : (u : ℕ) → u < n → getD ends u 0 ≡ length (lists a b (length a) (u + 1))
 
--- what the edges at the places from `from` to `to` of the lists are to vertex v, which is taken with weight W
+-- Engine, Settling, sentence 4: what the edges at the places from `from` to `to` of the lists are to vertex v, which is taken with weight W.
 pub record Along (n : ℕ) (a b w numbers : List ℕ) (from to v W : ℕ) : Type 0 where
   pub same-b : length b ≡ length a
   pub same-w : length w ≡ length a
@@ -76,24 +78,25 @@ pub record Along (n : ℕ) (a b w numbers : List ℕ) (from to v W : ℕ) : Type
   pub at-v : (i : ℕ) → from ≤ i → i < to → (getD a (getD numbers i 0) 0 ≡ v) ⊎ (getD b (getD numbers i 0) 0 ≡ v)
   pub light : (e : ℕ) → e < length a → W + getD w e 0 < sumLimit
 
--- what every vertex that waits may offer fits
+-- Records, last sentence: what every vertex that waits may offer fits.
 abbrev pub Offers : (s : State) (w : List ℕ) → Type 0
 Offers s w = (v e : ℕ) → statusAt s v ≡ 1 → e < length w → weightAt s v + getD w e 0 < sumLimit
 
--- the vertices that wait at first are the sources
+-- Engine, Settling, sentence 3: the vertices that wait at first are the sources.
 abbrev pub sources : List ℕ → ℕ → Bool
 sources status v = eqb (getD status v 0) 1
 
--- the vertex after which settling stops; a number that is no vertex stops nothing
+-- Engine, Settling, sentence 5: the vertex after which settling stops; a number that is no vertex stops nothing.
 abbrev pub endOf : (n stop : ℕ) → Option ℕ
 endOf n stop = cond (ltb stop n) (some stop) none
 
--- where the list of vertex v starts, from where the lists end
+-- Records, on neighbour lists: where the list of vertex v starts, from where the lists end.
 abbrev pub startIn : List ℕ → ℕ → ℕ
 startIn ends zero = 0
 startIn ends (suc v) = getD ends v 0
 
--- the state before the first turn: status bytes 0 and 1, every weight 0, every vertex its own previous; weights within the limit; `stop` is no source
+-- Engine, Settling, sentence 3: the state before the first turn: status bytes 0 and 1, every
+-- weight 0, every vertex its own previous; weights within the limit; `stop` is no source.
 pub record Begun (status weight previous w : List ℕ) (stop : ℕ) : Type 0 where
   pub bytes : (v : ℕ) → getD status v 0 ≤ 1
   pub no-weight : weight ≡ each (length status) (λ v. 0)
@@ -101,6 +104,6 @@ pub record Begun (status weight previous w : List ℕ) (stop : ℕ) : Type 0 whe
   pub light : (e : ℕ) → e < length w → getD w e 0 ≤ 500000
   pub no-source : getD status stop 0 ≡ 1 → ⊥
 
--- the first i leaves hold the keys of the vertices that wait with weight 0, the others none
+-- Engine, Settling, sentence 3: the first i leaves hold the keys of the vertices that wait with weight 0, the others none.
 abbrev pub Keyed : (status : List ℕ) (i : ℕ) (leaf : List ℕ) → Type 0
 Keyed status i leaf = (v : ℕ) → v < length status → getD leaf v 0 ≡ cond (ltb v i) (keyOf (getD status v 0) 0 v) Q.none

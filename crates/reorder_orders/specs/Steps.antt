@@ -8,7 +8,7 @@ use Rattle.columns.specs.Limits.{vertexLimit}
 use Rattle.columns.specs.Questions.{allBelow}
 use Rattle.reorder_orders.specs.Order.{noneTwice}
 
--- the list names each of its places once
+-- Questions at the door, 11, 13 and 14, as far as the functions need it: the list names each of its places once.
 pub record IsOrder (order : List ℕ) : Type 0 where
   pub few : length order ≤ vertexLimit
   pub below : allBelow (length order) order ≡ true

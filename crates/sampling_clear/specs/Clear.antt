@@ -11,12 +11,12 @@ use Rattle.columns_answers.specs.Said.{Answered}
 use Rattle.columns_answers.specs.Done.{said}
 use Rattle.columns.specs.declared.Done.{Done}
 
--- questions 6 and 7
+-- Questions at the door, 6 and 7, of `clear_errors`; both columns are only written, so 7 asks the counts alone.
 abbrev pub clearRefusal : (v e : ℕ) (defect erasure : List ℕ) → ℕ
 clearRefusal v e defect erasure =
     ask (leb v (length defect) && leb e (length erasure)) 6 (ask (vertexCountSound v && edgeCountSound e) 7 0)
 
--- every defect byte 0, every erasure byte 1
+-- Sampling, syndromes, reordering, paragraph 2, sentence 2: every defect byte 0, every erasure byte 1; the answer, and both columns afterwards.
 pub record ClearedErrors (v e : ℕ) (defect₀ erasure₀ : List ℕ) (answer : Done) (defect erasure : List ℕ) : Type 0 where
   pub answers : Answered (said answer) (clearRefusal v e defect₀ erasure₀) tt tt
   pub defect-is : defect ≡ after (clearRefusal v e defect₀ erasure₀) (replicate v 0) defect₀

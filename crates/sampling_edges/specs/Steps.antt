@@ -12,13 +12,13 @@ use Rattle.sampling_flips.specs.Flip.{flipEach}
 use Rattle.sampling_edges.specs.declared.SampledEdge.{SampledEdge}
 use Rattle.sampling_edges.specs.Draws.{advanced, sampledErasures, sampledErrors}
 
--- what two draws say of an edge with p and pe
+-- Sampling, syndromes, reordering, paragraph 1, sentence 5: what two draws say of an edge with p and pe, and the generator after them.
 pub record EdgeSampled (g : DeterministicRng) (p pe : Float) (r : SampledEdge) : Type 0 where
   pub erased : r .erased ≡ lt (drawOf (wordOf g)) pe
   pub error : r .error ≡ lt (drawOf (wordOf (nextOf g))) (cond (r .erased) half p)
   pub state : r .rng ≡ nextOf (nextOf g)
 
--- the first i edges are sampled: the generator, the erasure bytes and the defect bytes
+-- Sampling, syndromes, reordering, paragraph 1, sentence 5: the first i edges are sampled: the generator, the erasure bytes and the defect bytes.
 pub record Sampled (g : DeterministicRng) (a b boundary : List ℕ) (p pe : List Float) (defect₀ erasure₀ : List ℕ) (i : ℕ) (next : DeterministicRng) (defect erasure : List ℕ) : Type 0 where
   pub state : next ≡ advanced g (2 * i)
   pub erasure-is : erasure ≡ sets erasure₀ 0 (sampledErasures g pe i)

@@ -3,7 +3,7 @@ use Prim.Native.Nat.{ℕ, _≤_, _<_}
 use mathlib.Core.List.{List}
 use lib.ListN.{length, getD}
 
--- e edges with ends below v, and v boundary and defect bytes
+-- Questions at the door, 6 and 7, as far as the flips need it: e edges with ends below v, and v boundary and defect bytes.
 pub record Fits (v e : ℕ) (a b boundary defect : List ℕ) : Type 0 where
   pub long-a : e ≤ length a
   pub long-b : e ≤ length b

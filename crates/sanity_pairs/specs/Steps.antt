@@ -4,7 +4,7 @@ use mathlib.Core.Path.{_≡_}
 use mathlib.Core.List.{List}
 use Rattle.columns_pairs.specs.Pairs.{lowAt, highAt}
 
--- r is the first edge that joins the pair of edge i, or i where no earlier edge does
+-- Six builders, sanity_check, sentence 1, verdict 2: r is the first edge that joins the pair of edge i, or i where no earlier edge does.
 pub record FirstSame (a b : List ℕ) (i r : ℕ) : Type 0 where
   pub within : r ≤ i
   pub low : r < i → lowAt a b r ≡ lowAt a b i

@@ -15,14 +15,17 @@ use Rattle.sanity_verdicts.specs.declared.Verdict.the-variants.{Sound, E
 
 -- ---- document 01's numbers and values
 
+-- Records, on vertex and edge numbers: the edge number k.
 abbrev pub edgeNumbered : ℕ → EdgeIndex
 edgeNumbered k = record { 0 = k }
 
+-- Records, on vertex and edge numbers: the vertex number v.
 abbrev pub vertexNumbered : ℕ → VertexIndex
 vertexNumbered v = record { 0 = v }
 
--- the number of the question that refuses, 0 where none does, and the verdict with its two values, 0 where there is none: 0 sound, 1 empty,
--- 2 duplicate edge (first and later number), 3 vertex without edges (its number), 4 edge twice at a vertex (edge, vertex)
+-- Six builders, sanity_check, sentence 1; Expected forms by place, last paragraph: the number of the question that refuses, 0 where none does,
+-- and the verdict with its two values, 0 where there is none: 0 sound, 1 empty, 2 duplicate edge (first and later number),
+-- 3 vertex without edges (its number), 4 edge twice at a vertex (edge, vertex).
 abbrev pub said : Verdict → Said (ℕ × ℕ × ℕ)
 said Sound = accepts (0, 0, 0)
 said Empty = accepts (1, 0, 0)
@@ -33,7 +36,7 @@ said (Refused number) = refuses number (0, 0, 0)
 
 -- ---- the first finding
 
--- a finding goes before what comes next; Sound is no finding
+-- Six builders, sanity_check, sentence 2: a finding goes before what comes next; Sound is no finding.
 abbrev pub orElse : Verdict → Verdict → Verdict
 orElse Sound next = next
 orElse Empty next = Empty
@@ -42,55 +45,57 @@ orElse (NoEdges vertex) next = NoEdges vertex
 orElse (EdgeTwice edge vertex) next = EdgeTwice edge vertex
 orElse (Refused number) next = Refused number
 
--- the first finding of f 0, f 1, up to f (n - 1)
+-- Six builders, sanity_check, sentence 2: the first finding of f 0, f 1, up to f (n - 1).
 unfoldable pub firstOf : ℕ → (ℕ → Verdict) → Verdict
 firstOf zero f = Sound
 firstOf (suc n) f = orElse (firstOf n f) (f n)
 
--- a finding where the test holds
+-- A finding where the test holds, else Sound.
 abbrev pub foundIf : Bool → Verdict → Verdict
 foundIf b finding = cond b finding Sound
 
 -- ---- the edges, in order
 
--- edge k joins the pair of an earlier edge: the first such edge and k
+-- Six builders, sanity_check, sentence 1, verdict 2: edge k joins the pair of an earlier edge: the first such edge and k.
 unfoldable pub duplicate : (a b : List ℕ) (k : ℕ) → Verdict
 duplicate a b k = firstOf k (λ j. foundIf (samePair a b j k) (DuplicateEdge (edgeNumbered j) (edgeNumbered k)))
 
 -- ---- the vertices, in order
 
--- the sum of a list
+-- Questions at the door, 6, the list lengths' sum: the sum of a list.
 unfoldable pub total : List ℕ → ℕ
 total [] = 0
 total (x ∷ xs) = x + total xs
 
--- the list of vertex v: the lists stand one after another
+-- Records, on neighbour lists: the list of vertex v; the lists stand one after another.
 unfoldable pub listAt : (lengths numbers : List ℕ) (v : ℕ) → List ℕ
 listAt lengths numbers v = take (getD lengths v 0) (drop (total (take v lengths)) numbers)
 
--- the first number of a list that stands there before: that edge and the vertex
+-- Six builders, sanity_check, sentence 1, verdict 4: the first number of a list that stands there before: that edge and the vertex.
 unfoldable pub twice : (list : List ℕ) (v : ℕ) → Verdict
 twice list v = firstOf (length list) (λ i. firstOf i (λ j. foundIf (eqb (getD list j 0) (getD list i 0)) (EdgeTwice (edgeNumbered (getD list i 0)) (vertexNumbered v))))
 
--- vertex v has no edges, or an edge twice
+-- Six builders, sanity_check, sentence 1, verdicts 3 and 4: vertex v has no edges, or an edge twice.
 unfoldable pub atVertex : (list : List ℕ) (len v : ℕ) → Verdict
 atVertex list len v = cond (eqb len 0) (NoEdges (vertexNumbered v)) (twice list v)
 
 -- ---- the whole
 
--- no vertices or no edges, then the edges, then the vertices
+-- Six builders, sanity_check, sentences 1 and 2: no vertices or no edges, then the edges, then the vertices.
 unfoldable pub verdict : (v e : ℕ) (a b lengths numbers : List ℕ) → Verdict
 verdict v e a b lengths numbers =
     cond (eqb v 0 || eqb e 0) Empty
     (orElse (firstOf e (duplicate a b)) (firstOf v (λ u. atVertex (listAt lengths numbers u) (getD lengths u 0) u)))
 
--- 6: ends as long as the edges, list lengths as long as the vertices, neighbour numbers as long as twice the edges and as the sum of the list lengths
+-- Questions at the door, 6: ends as long as the edges, list lengths as long as the vertices,
+-- neighbour numbers as long as twice the edges and as the sum of the list lengths.
 unfoldable pub sanityLong : (v e : ℕ) (a b lengths numbers : List ℕ) → Bool
 sanityLong v e a b lengths numbers =
     (leb e (length a) && (leb e (length b) && leb v (length lengths)))
     && (leb (2 * e) (length numbers) && leb (total (take v lengths)) (length numbers))
 
--- the call: only question 6 is asked; its case, and in document 01's numbers the question, the verdict and its values
+-- Six builders, sanity_check; Questions at the door, 7, last sentence: only 6 is asked;
+-- the call's case, and in document 01's numbers the question, the verdict and its values.
 pub record SanityChecked (v e : ℕ) (a b lengths numbers : List ℕ) (answer : Verdict) : Type 0 where
   pub case-is : answer ≡ cond (sanityLong v e a b lengths numbers) (verdict v e a b lengths numbers) (Refused 6)
   pub answers : Answered (said answer) (ask (sanityLong v e a b lengths numbers) 6 0) (said (verdict v e a b lengths numbers) .values) (0, 0, 0)

@@ -3,6 +3,7 @@ use mathlib.Core.Bool.{Bool, true, false}
 use Rattle.sanity_verdicts.specs.declared.Verdict.{Verdict}
 use Rattle.sanity_verdicts.specs.declared.Verdict.the-variants.{Sound, Empty, DuplicateEdge, NoEdges, EdgeTwice, Refused}
 
+-- Six builders, sanity_check, sentence 1: whether a verdict is no finding.
 abbrev pub isSound : Verdict → Bool
 isSound Sound = true
 isSound Empty = false

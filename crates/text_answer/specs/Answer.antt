@@ -19,33 +19,35 @@ use Rattle.text_answer.specs.declared.Listed.the-variants.{Text, Refused
 
 -- ---- the text for an input
 
--- whether question 1 is met, and the five numbers
+-- The program codelist, sentences 1 and 4: the text by whether question 1 is met, and the five numbers.
 abbrev pub textBy : Bool → CodeLine → List ℕ
 textBy true l = codeText (l .kind) (l .d) (l .rounds) (ofBits binary64 (l .bits)) (l .max)
 textBy false l = refusalLine 1
 
+-- The program codelist: the text for a line that was read.
 abbrev pub textOf : LineRead → List ℕ
 textOf r = textBy (lineSaid r .accepted) (lineSaid r .values)
 
+-- The program codelist: the text for an input.
 abbrev pub answerText : (input : List ℕ) → List ℕ
 answerText input = textBy (wellFormed input) (lineOf input)
 
 -- ---- the call
 
--- the places that a text column needs: no text is longer
+-- Questions at the door, 6: the places that a text column needs: no text is longer.
 abbrev pub textRoom : ℕ
 textRoom = 320000
 
--- document 01's number for each case, and how many bytes the text has: 0 where the call was refused
+-- Expected forms by place, last paragraph: document 01's number for each case of `Listed`, and how many bytes the text has: 0 where the call was refused.
 abbrev pub said : Listed → Said ℕ
 said (Text bytes) = accepts bytes
 said (Refused number) = refuses number 0
 
--- question 6 of the text column
+-- Questions at the door, 6, of the text column.
 abbrev pub textRefusal : List ℕ → ℕ
 textRefusal text = ask (leb textRoom (length text)) 6 0
 
--- the answer, and the text column before and after
+-- The program codelist: the call's answer, and the text column before and after.
 pub record CodeListed (input before text : List ℕ) (r : Listed) : Type 0 where
   pub answer : Answered (said r) (textRefusal before) (length (answerText input)) 0
   pub written : text ≡ after (textRefusal before) (answerText input) before

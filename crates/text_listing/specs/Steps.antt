@@ -21,7 +21,7 @@ use Rattle.text_numbers.specs.Text.{refusalLine, listing}
 use Rattle.text_listing.specs.Listing.{weightsOf, crossingOf, listingOf}
 use Rattle.codes_calls.specs.Probabilities.{probabilities, diagonalOf}
 
--- scratch for 1,024 vertices and 6,144 edges
+-- Questions at the door, 6: scratch for 1,024 vertices and 6,144 edges.
 pub record ScratchRoom (out numbers ends status weight previous node leaf : ℕ) : Type 0 where
   pub out-room : out ≡ 1024
   pub numbers-room : numbers ≡ 12288
@@ -32,7 +32,7 @@ pub record ScratchRoom (out numbers ends status weight previous node leaf : ℕ)
   pub node-room : node ≡ 1024
   pub leaf-room : leaf ≡ 1024
 
--- these columns hold a code with its half weights
+-- The program codelist, sentence 2: these columns hold a code with its half weights.
 pub record HoldsCode (kind d rounds : ℕ) (p : Float) (max v e : ℕ) (a b h m : List ℕ) : Type 0 where
   pub code : Buildable kind d rounds
   pub vertices : v ≡ vertexNum kind d rounds
@@ -46,7 +46,7 @@ pub record HoldsCode (kind d rounds : ℕ) (p : Float) (max v e : ℕ) (a b h m 
   pub in-h : take e h ≡ halfWeights max (probabilities kind d rounds p (diagonalOf kind p))
   pub in-m : take v m ≡ boundaries (verticesOf kind d rounds)
 
--- these columns hold a code with its weights
+-- Weights, get_initializer: these columns hold a code with its weights.
 pub record HoldsWeights (kind d rounds : ℕ) (p : Float) (max v e : ℕ) (a b w m : List ℕ) : Type 0 where
   pub code : Buildable kind d rounds
   pub vertices : v ≡ vertexNum kind d rounds
@@ -59,21 +59,21 @@ pub record HoldsWeights (kind d rounds : ℕ) (p : Float) (max v e : ℕ) (a b w
   pub few-w : weightsSound e w ≡ true
   pub in-m : take v m ≡ boundaries (verticesOf kind d rounds)
 
--- what the crossing query answers
+-- Engine, Crossing; Questions at the door, 18: what the crossing query answers.
 abbrev pub Replied : (kind d rounds : ℕ) (p : Float) (max : ℕ) → CrossingReply → Type 0
 Replied kind d rounds p max r = Answered (said r) (ask (isJoined (crossingOf kind d rounds p max)) 18 0) (weightFound (crossingOf kind d rounds p max)) 0
 
--- the text for what the crossing query answers
+-- The program codelist, sentence 4 and the listing: the text for what the crossing query answers.
 abbrev pub replyText : (kind d rounds v e : ℕ) (boundary a b weights : List ℕ) → CrossingReply → List ℕ
 replyText kind d rounds v e boundary a b weights (Crossed weight) = listing kind d rounds v e boundary a b weights weight
 replyText kind d rounds v e boundary a b weights (Refused number) = refusalLine number
 
--- where `new` answers with a code, these columns hold it
+-- The program codelist, sentence 2: where `new` answers with a code, these columns hold it.
 abbrev pub MadeHolds : (kind d rounds : ℕ) (p : Float) (max : ℕ) (a b h m : List ℕ) → Created → Type 0
 MadeHolds kind d rounds p max a b h m (made.Code v e) = HoldsCode kind d rounds p max v e a b h m
 MadeHolds kind d rounds p max a b h m (made.Refused number) = Unit {0}
 
--- the text for what `new` answers
+-- The program codelist, sentence 4 and the listing: the text for what `new` answers.
 abbrev pub madeText : (kind d rounds : ℕ) (p : Float) (max : ℕ) → Created → List ℕ
 madeText kind d rounds p max (made.Code v e) = listingOf kind d rounds p max
 madeText kind d rounds p max (made.Refused number) = refusalLine number

@@ -5,7 +5,7 @@ use Rattle.columns_answers.specs.Said.{Said, accepts, refuses}
 use Rattle.weights_calls.specs.declared.WeightOfP.{WeightOfP}
 use Rattle.weights_calls.specs.declared.WeightOfP.the-variants.{Weighs, Refused}
 
--- document 01's number and value for each case: the value is 0 at a refusal
+-- Expected forms by place, last paragraph: document 01's number and value for each case of `WeightOfP`; the value is 0 at a refusal.
 abbrev pub said : WeightOfP → Said Float
 said (Weighs w) = accepts w
 said (Refused number) = refuses number zeroFloat

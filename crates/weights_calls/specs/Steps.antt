@@ -7,15 +7,15 @@ use lib.Ieee.{Float}
 use Rattle.weights_recipe.specs.Logarithm.{edgeWeight}
 use Rattle.weights_recipe.specs.Rounding.{halfWeight}
 
--- how many places a table has
+-- How many places a table has.
 abbrev pub places : ℕ
 places = 256
 
--- a table of probabilities: beside each stands what f gives for it
+-- A table of probabilities: beside each stands what f gives for it.
 pub record Known {A : Type 0} (f : Float → A) (ps : List Float) (values : List A) : Type 0 where
   pub room : length ps ≡ places
   pub right : values ≡ map f ps
 
--- the half weight of an edge with probability p
+-- Weights, on half weights: the half weight of an edge with probability p.
 abbrev pub halfWeightOf : (max : ℕ) (largest : Float) (p : Float) → ℕ
 halfWeightOf max largest p = halfWeight max (edgeWeight p) largest

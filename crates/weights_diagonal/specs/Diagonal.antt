@@ -8,35 +8,35 @@ use Rattle.weights_recipe.specs.Probabilities.{isProbability}
 use Rattle.weights_diagonal.specs.declared.DiagonalProbability.{DiagonalProbability}
 use Rattle.weights_diagonal.specs.declared.DiagonalProbability.the-variants.{None, Given}
 
--- the absolute value: the same number without its sign
+-- The absolute value: the same number without its sign.
 unfoldable pub absolute : Float → Float
 absolute nan = nan
 absolute (inf sign) = inf false
 absolute (fin sign m e) = fin false m e
 
--- |i - i'| + |j - j'| + |t - t'|, added from the left
+-- Weights, on the diagonal probability, sentence 1: the Manhattan distance |i - i'| + |j - j'| + |t - t'|, added from the left.
 unfoldable pub manhattanDistance : VisualizePosition → VisualizePosition → Float
 manhattanDistance a b =
     add binary64 (add binary64 (absolute (sub binary64 (a .i) (b .i))) (absolute (sub binary64 (a .j) (b .j)))) (absolute (sub binary64 (a .t) (b .t)))
 
--- an edge is diagonal where its ends lie at Manhattan distance above 1
+-- Weights, on the diagonal probability, sentence 1: an edge is diagonal where its ends lie at Manhattan distance above 1.
 abbrev pub isDiagonal : VisualizePosition → VisualizePosition → Bool
 isDiagonal a b = lt one (manhattanDistance a b)
 
--- the number replaces p where the edge is diagonal
+-- Weights, on the diagonal probability, sentence 1: the number, where there is one, replaces p where the edge is diagonal.
 abbrev pub replaced : DiagonalProbability → Float → Bool → Float
 replaced None p diagonal = p
 replaced (Given x) p diagonal = cond diagonal x p
 
--- the p of an edge with these ends
+-- Weights, on the diagonal probability, sentence 1: the p of an edge whose ends have these positions.
 abbrev pub edgeProbability : Float → DiagonalProbability → VisualizePosition → VisualizePosition → Float
 edgeProbability p d a b = replaced d p (isDiagonal a b)
 
--- `new` gives p/3
+-- Weights, on the diagonal probability, sentence 2: `new` gives p/3.
 abbrev pub newDiagonal : Float → DiagonalProbability
 newDiagonal p = Given (div binary64 p three)
 
--- question 9 of the diagonal probability
+-- Questions at the door, 9, of the diagonal probability.
 abbrev pub isDiagonalProbability : DiagonalProbability → Bool
 isDiagonalProbability None = true
 isDiagonalProbability (Given x) = isProbability x

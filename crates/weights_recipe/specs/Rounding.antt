@@ -5,28 +5,29 @@ use lib.IntN.{pos}
 use lib.Ieee.{Float, binary64, sub, mul, div, le, ofInt}
 use Rattle.columns.specs.Places.{half}
 
--- v = (M·w) / (largest w)
+-- Weights, on half weights, sentence 1: v = (M·w) / (largest w).
 unfoldable pub scaled : ℕ → Float → Float → Float
 scaled max w largest = div binary64 (mul binary64 (ofInt binary64 (pos max)) w) largest
 
--- v ≥ n - 0.5; a NaN reaches no n
+-- Weights, on half weights, sentences 1 and 2: v ≥ n - 0.5; a NaN reaches no n.
 unfoldable pub reaches : Float → ℕ → Bool
 reaches v n = le (sub binary64 (ofInt binary64 (pos n)) half) v
 
--- from n down, the first number that v reaches, or 0; `met` says whether v reaches n
+-- Weights, on half weights, sentence 1: from n down, the first number that v reaches, or 0; `met` says whether v reaches n.
 unfoldable pub seek : Float → ℕ → (met : Bool) → ℕ
 seek v zero met = 0
 seek v (suc n) true = suc n
 seek v (suc n) false = seek v n (reaches v n)
 
--- the greatest n of 0 to M with n = 0 or v ≥ n - 0.5
+-- Weights, on half weights, sentence 1: the greatest n of 0 to M with n = 0 or v ≥ n - 0.5.
 unfoldable pub greatest : Float → ℕ → ℕ
 greatest v max = seek v max (reaches v max)
 
--- 0 then becomes 1
+-- Weights, on half weights, sentence 1: 0 then becomes 1.
 abbrev pub atLeastOne : ℕ → ℕ
 atLeastOne zero = 1
 atLeastOne (suc n) = suc n
 
+-- Weights, on half weights, sentence 1: the half weight of an edge of weight w.
 unfoldable pub halfWeight : ℕ → Float → Float → ℕ
 halfWeight max w largest = atLeastOne (greatest (scaled max w largest) max)

@@ -1,4 +1,4 @@
-// Getters and setters of a code's columns.
+// Getters and setters of a code's columns, and its vertex columns filled in from the edges.
 pub mod fill;
 
 pub use access_vertices::Truth;
@@ -23,6 +23,7 @@ use columns_marks::set_marks;
 use columns_neighbors::sound::graph_sound;
 use columns_room::three_long;
 use columns_stores::copy_u32;
+pub use fill::fill_vertices;
 ghost use mathlib.Core.Path.{_≡_};
 ghost use Rattle.columns.specs.Questions.{vertexCountSound, edgeCountSound};
 ghost use Rattle.access_calls.specs.Calls.{code, initializer, initializerLong, initializerSound, initializerRefusal, GotInitializer, SetMarks, syndrome, countsSound, setSyndromeRefusal, SetSyndrome, GotMarks, getSyndromeRefusal, GotSyndrome};

@@ -2,7 +2,10 @@
 pub mod create;
 pub mod weighted;
 
-use codes_questions::Count;
+pub use codes_questions::Count;
+pub use create::create_code;
+pub use weighted::new;
+pub use weighted::new_diagonal;
 ghost use Rattle.codes_questions.specs.Answers.{CountsVertices, CountsEdges};
 
 // The counts of vertices and edges of a built code, or the number of the question that was answered no.

@@ -4,6 +4,7 @@ pub mod questions;
 pub mod stores;
 
 ghost use mathlib.Core.Path.{_≡_};
+ghost use Prim.Native.Nat.{_<_};
 ghost use lib.ListN.{set};
 ghost use lib.Ieee.{binary64, ofBits};
 ghost use Rattle.columns.specs.Answers.{done};
@@ -40,7 +41,7 @@ pub const MARK_LIMIT: u8 = 1;
 
 // A number at the width of places.
 pub fn wide(x: u32) -> usize
-    ensures { λ r. ⌜ r ≡ x ⌝ }
+    ensures { λ r. ⌜ (r ≡ x) × (r < 4294967296) ⌝ }
 {
     x as usize
 }

@@ -136,7 +136,7 @@ shared es e rest =
 
 pub record Loads (es : List ℕ) (e : Engine) (rest : ℕ) : Type 0 where
   pub long : Long (length es) e
-  pub engineSound : Sound e
+  pub sound : Sound e
   pub empty : e .counts .entries ≡ 0
   pub below : allBelow (e .counts .edges) es ≡ true
   pub last : rest ≡ 0
@@ -193,7 +193,7 @@ module _ (e : Engine) (z : engineRefusal reset e ≡ 0) where
 pub record Opens (v e : ℕ) (handed lent : GraphColumns) : Type 0 where
   pub from : ColumnsLong v e (handed .endsA) (handed .endsB) (handed .weights) (handed .boundary)
   pub to : ColumnsLong v e (lent .endsA) (lent .endsB) (lent .weights) (lent .boundary)
-  pub engineSound : ColumnsSound v e (handed .endsA) (handed .endsB) (handed .weights) (handed .boundary)
+  pub sound : ColumnsSound v e (handed .endsA) (handed .endsB) (handed .weights) (handed .boundary)
 
 pub opens-of : (v e : ℕ) (h l : GraphColumns) → openRefusal v e h l ≡ 0 → Opens v e h l
 opens-of v e h l z =

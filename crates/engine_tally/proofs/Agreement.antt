@@ -36,7 +36,7 @@ pub record Agrees (t : Tally) (e : Engine) : Type 0 where
   pub back : take (t .counts .edges) (undone (e .logEdges) (e .logWeights) (e .counts .entries) (e .weights)) ≡ t .opening
   pub opening-sound : allWithin weightLimit (t .opening) ≡ true
   pub long : Long 0 e
-  pub engineSound : Sound e
+  pub sound : Sound e
 
 pub long-same : (n : ℕ) (e : Engine) (c : EngineCounts) → e .counts ≡ c → engineLong n e ≡ tallyLong n (lengthsOf e) c
 unfolding engineLong columnsLong

@@ -2,6 +2,9 @@
 pub mod boundaries;
 pub mod nearest;
 
+pub use boundaries::fill_boundaries;
+pub use nearest::BoundaryAnswer;
+pub use nearest::get_boundary_weight;
 ghost use lib.ListN.{length};
 ghost use Rattle.engine_columns.specs.Records.{engine};
 ghost use Rattle.query_questions.specs.Queries.{scratchLong};

@@ -124,7 +124,7 @@ pub record CrossingAsked (e : Engine) (scratch : Bool) (weights : ℕ) : Type 0 
   pub long : Long 0 e
   pub weights-long : e .counts .vertices ≤ weights
   pub scratch-is : scratch ≡ true
-  pub engineSound : Sound e
+  pub sound : Sound e
 
 pub crossing-of : (e : Engine) (scratch : Bool) (weights : ℕ) → crossingAsked e scratch weights 0 ≡ 0 → CrossingAsked e scratch weights
 crossing-of e scratch weights z =

@@ -23,7 +23,7 @@ use Rattle.query_search.proofs.Asked.{query-of}
 
 pub record PathAsked (e : Engine) (scratch : Bool) (a b vertices steps : ℕ) : Type 0 where
   pub long : Long 0 e
-  pub engineSound : Sound e
+  pub sound : Sound e
   pub vertices-long : e .counts .vertices ≤ vertices
   pub steps-long : e .counts .vertices ≤ steps
   pub scratch-is : scratch ≡ true

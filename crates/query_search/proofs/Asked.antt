@@ -51,7 +51,7 @@ scratch-of v e numbers ends status weight previous node leaf h =
 pub record QueryAsked (e : Engine) (fits inRange : Bool) (next : ℕ) : Type 0 where
   pub long : Long 0 e
   pub fits-are : fits ≡ true
-  pub engineSound : Sound e
+  pub sound : Sound e
   pub in-range : inRange ≡ true
   pub last : next ≡ 0
 

@@ -1,4 +1,5 @@
-// The vertices of a graph: filled in from its edges, and checked.
+// `sanity_check`: the verdict on the edges and the neighbour lists of a graph.
 pub mod sanity;
 
+pub use sanity::sanity_check;
 pub use sanity_verdicts::Verdict;

@@ -22,7 +22,7 @@ slice-write-weights : tie.Need-slice-write-weights Inv-loop μ-loop
 slice-write-weights c =
     let s = c .before .before .before .before .before .before .before .before in
     let l = c .before .before .before .before .loop in
-    rw (c .before .wide .ensures, l .inv .2) (s .pre .0 (l .left - 1) (omega arith))
+    rw (c .before .wide .ensures .0, l .inv .2) (s .pre .0 (l .left - 1) (omega arith))
 
 mul-weights-2 : tie.Need-mul-weights-2 Inv-loop μ-loop
 mul-weights-2 c = omega (arith, slice-write-weights c)
@@ -32,7 +32,7 @@ loop-again c =
     let a = c .before .before .before .before .before .before .before .before .args in
     let l = c .before .before .before .before .loop in (
       omega arith,
-      rw (c .before .wide .ensures) (undone-step (a .log-edges .now) (a .log-weights .now) (l .left) (l .weights) (omega arith) ∙ l .inv .1),
+      rw (c .before .wide .ensures .0) (undone-step (a .log-edges .now) (a .log-weights .now) (l .left) (l .weights) (omega arith) ∙ l .inv .1),
       simp length-set (l .inv .2),
     )
 

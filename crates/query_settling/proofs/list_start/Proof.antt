@@ -23,7 +23,7 @@ shared-slice-read-wide : tie.Need-shared-slice-read-wide
 shared-slice-read-wide c = omega (arith, c .before .before .before .pre)
 
 returns-2 : tie.Need-returns-2
-returns-2 c = let s = c .before .before .before .before .args in c .wide .ensures ∙ next-start (s .list-ends .now) (s .v) (c .before .before .if1 .left)
+returns-2 c = let s = c .before .before .before .before .args in c .wide .ensures .0 ∙ next-start (s .list-ends .now) (s .v) (c .before .before .if1 .left)
 
 pub list-start-spec : {M : Type 1} → statement M
 list-start-spec = tie.close (tie.spec returns (λ c. search needs) (λ c. search needs) shared-slice-read-wide (λ c κs. tt) returns-2)

@@ -32,7 +32,7 @@ loop-again c =
     let a = s .args in
     let l = c .before .before .before .before .before .before .before .before .before .before .before .before .before .before .loop in
     let v = c .before .before .before .before .before .before .before .before .before .before .load .ensures in
-    let w = c .before .before .before .before .before .before .before .before .before .before .before .wide .ensures in
+    let w = c .before .before .before .before .before .before .before .before .before .before .before .wide .ensures .0 in
     let e = c .before .before .before .before .before .before .store .ensures in
     let b : l .k < length (a .list .now) = omega (arith, c .before .before .before .before .before .before .before .before .before .before .before .before .before .loop-test .taken) in (
       omega (arith, b),

@@ -29,7 +29,7 @@ slice-read-if1 : tie.Need-slice-read-if1 Inv-loop μ-loop
 slice-read-if1 c =
     let s = c .before .before .before .before .before .before .before in
     let l = c .before .before .before .before .loop in
-    omega (arith, l .inv .1, c .before .wide .ensures, s .pre .0 (l .i) (omega arith))
+    omega (arith, l .inv .1, c .before .wide .ensures .0, s .pre .0 (l .i) (omega arith))
 
 same-length : tie.Need-same-length Inv-loop μ-loop
 same-length c = c .before .before .before .before .before .loop .inv .1
@@ -38,24 +38,24 @@ returns : tie.Need-returns Inv-loop μ-loop
 returns c =
     let s = c .before .before .before .before .before .before .before .before in
     let l = c .before .before .before .before .before .loop in
-    seen-twice (s .args .order .now) (l .i) (l .seen) (omega arith) (l .inv .2) (c .before .before .wide .ensures) (omega (arith, l .inv .1, c .before .before .wide .ensures, s .pre .0 (l .i) (omega arith))) (c .if1 .taken)
+    seen-twice (s .args .order .now) (l .i) (l .seen) (omega arith) (l .inv .2) (c .before .before .wide .ensures .0) (omega (arith, l .inv .1, c .before .before .wide .ensures .0, s .pre .0 (l .i) (omega arith))) (c .if1 .taken)
 
 slice-write-seen : tie.Need-slice-write-seen Inv-loop μ-loop
 slice-write-seen c =
     let s = c .before .before .before .before .before .before .before .before in
     let l = c .before .before .before .before .before .loop in
-    omega (arith, l .inv .1, c .before .before .wide .ensures, s .pre .0 (l .i) (omega arith))
+    omega (arith, l .inv .1, c .before .before .wide .ensures .0, s .pre .0 (l .i) (omega arith))
 
 loop-again : tie.Need-loop-again Inv-loop μ-loop
 loop-again c =
     let s = c .before .before .before .before .before .before .before .before in
     let l = c .before .before .before .before .before .loop in
     let o = s .args .order .now in
-    let b : c .before .before .wide .result < length (l .seen) = omega (arith, l .inv .1, c .before .before .wide .ensures, s .pre .0 (l .i) (omega arith)) in (
+    let b : c .before .before .wide .result < length (l .seen) = omega (arith, l .inv .1, c .before .before .wide .ensures .0, s .pre .0 (l .i) (omega arith)) in (
       omega arith,
       simp length-set (l .inv .1),
-      seen-more o (l .i) (l .seen) (l .inv .2) (c .before .before .wide .ensures) b,
-      every-more (λ k. unseen o k (getD o k 0)) (l .i) (l .inv .3) (seen-once o (l .i) (l .seen) (l .inv .2) (c .before .before .wide .ensures) b (c .if1 .left)),
+      seen-more o (l .i) (l .seen) (l .inv .2) (c .before .before .wide .ensures .0) b,
+      every-more (λ k. unseen o k (getD o k 0)) (l .i) (l .inv .3) (seen-once o (l .i) (l .seen) (l .inv .2) (c .before .before .wide .ensures .0) b (c .if1 .left)),
     )
 
 same-length-2 : tie.Need-same-length-2 Inv-loop μ-loop

@@ -26,7 +26,7 @@ shared-slice-read-to : tie.Need-shared-slice-read-to Inv-loop μ-loop
 shared-slice-read-to c =
     let s = c .before .before .before .before .before .before .before .before in
     let l = c .before .before .before .before .loop in
-    omega (arith, c .before .wide .ensures, s .pre .0 (l .i) (omega arith))
+    omega (arith, c .before .wide .ensures .0, s .pre .0 (l .i) (omega arith))
 
 slice-write-to : tie.Need-slice-write-to Inv-loop μ-loop
 slice-write-to c =
@@ -38,7 +38,7 @@ loop-again : tie.Need-loop-again Inv-loop μ-loop
 loop-again c =
     let s = c .before .before .before .before .before .before .before .before in
     let l = c .before .before .before .before .loop in
-    (omega arith, gather-more (λ u. getD (s .args .from .now) u 0) (s .args .list .now) (s .args .to .now) (l .i) (omega arith) (l .inv .1) (ap (λ (k : ℕ). getD (s .args .from .now) k 0) (c .before .wide .ensures)), simp lib.ListN.length-set (l .inv .2))
+    (omega arith, gather-more (λ u. getD (s .args .from .now) u 0) (s .args .list .now) (s .args .to .now) (l .i) (omega arith) (l .inv .1) (ap (λ (k : ℕ). getD (s .args .from .now) k 0) (c .before .wide .ensures .0)), simp lib.ListN.length-set (l .inv .2))
 
 same-length : tie.Need-same-length Inv-loop μ-loop
 same-length c = c .before .loop .inv .2

@@ -32,7 +32,7 @@ shared-slice-read-ends : tie.Need-shared-slice-read-ends Inv-loop μ-loop
 shared-slice-read-ends c =
     let s = c .before .before .before .before .before .before .before in
     let l = c .before .before .before .before .loop in
-    omega (arith, c .before .wide .ensures, rename-reads (λ u. getD (s .args .new-numbers .now) u 0) (s .args .ends .now) (s .args .n) (l .i) (omega arith) (s .pre .1) (l .inv .1), s .pre .0 (l .i) (omega arith))
+    omega (arith, c .before .wide .ensures .0, rename-reads (λ u. getD (s .args .new-numbers .now) u 0) (s .args .ends .now) (s .args .n) (l .i) (omega arith) (s .pre .1) (l .inv .1), s .pre .0 (l .i) (omega arith))
 
 slice-write-ends : tie.Need-slice-write-ends Inv-loop μ-loop
 slice-write-ends c = let s = c .before .before .before .before .before .before .before in let l = c .before .before .before .before .loop in omega (arith, l .inv .2, s .pre .1)
@@ -42,7 +42,7 @@ loop-again c =
     let s = c .before .before .before .before .before .before .before in
     let l = c .before .before .before .before .loop in
     let f = (s .args .new-numbers .now) in
-    (omega arith, rename-more (λ u. getD (s .args .new-numbers .now) u 0) (s .args .ends .now) (s .args .n) (l .i) (omega arith) (s .pre .1) (l .inv .1) (ap (λ (k : ℕ). getD (s .args .new-numbers .now) k 0) (c .before .wide .ensures)), simp lib.ListN.length-set (l .inv .2))
+    (omega arith, rename-more (λ u. getD (s .args .new-numbers .now) u 0) (s .args .ends .now) (s .args .n) (l .i) (omega arith) (s .pre .1) (l .inv .1) (ap (λ (k : ℕ). getD (s .args .new-numbers .now) k 0) (c .before .wide .ensures .0)), simp lib.ListN.length-set (l .inv .2))
 
 same-length : tie.Need-same-length Inv-loop μ-loop
 same-length c = c .before .loop .inv .2

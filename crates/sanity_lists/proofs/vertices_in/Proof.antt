@@ -44,7 +44,7 @@ at-vertex-requires : tie.Need-at-vertex-requires Inv-loop μ-loop
 at-vertex-requires c κs =
     let s = c .before .before .before .before .before .before .before .before in
     let l = c .before .before .before .before .loop in
-    ((room (s .args .lengths .now) (s .args .numbers .now) (s .args .n) (l .v) (omega arith) (s .pre .0 .0) (s .pre .0 .1) (l .inv .2) (c .before .wide .ensures), omega arith), l .inv .1)
+    ((room (s .args .lengths .now) (s .args .numbers .now) (s .args .n) (l .v) (omega arith) (s .pre .0 .0) (s .pre .0 .1) (l .inv .2) (c .before .wide .ensures .0), omega arith), l .inv .1)
 
 same-length : tie.Need-same-length Inv-loop μ-loop
 same-length c = c .before .before .before .before .at-vertex .ensures .1 .len ∙ sym (c .before .before .before .before .before .before .before .before .before .before .before .before .before .pre .1 .len)
@@ -53,22 +53,22 @@ returns : tie.Need-returns Inv-loop μ-loop
 returns c =
     let s = c .before .before .before .before .before .before .before .before .before .before .before .before .before in
     let l = c .before .before .before .before .before .before .before .before .before .loop in
-    let is = vertex-is (s .args .lengths .now) (s .args .numbers .now) (l .v) (c .before .before .before .before .before .before .wide .ensures) (l .inv .2) (c .before .before .before .before .at-vertex .ensures .0) in
+    let is = vertex-is (s .args .lengths .now) (s .args .numbers .now) (l .v) (c .before .before .before .before .before .before .wide .ensures .0) (l .inv .2) (c .before .before .before .before .at-vertex .ensures .0) in
     is ∙ sym (first-stop (finding (s .args .lengths .now) (s .args .numbers .now)) (s .args .n) (l .v) (omega arith) (l .inv .3) (ap isSound (sym is) ∙ sym (c .before .is-sound .ensures) ∙ not-true _ (c .if1 .taken)))
 
 add-start : tie.Need-add-start Inv-loop μ-loop
 add-start c =
     let s = c .before .before .before .before .before .before .before .before .before .before .before .before .before in
     let l = c .before .before .before .before .before .before .before .before .before .loop in
-    omega (arith, room (s .args .lengths .now) (s .args .numbers .now) (s .args .n) (l .v) (omega arith) (s .pre .0 .0) (s .pre .0 .1) (l .inv .2) (c .before .before .before .before .before .before .wide .ensures))
+    omega (arith, room (s .args .lengths .now) (s .args .numbers .now) (s .args .n) (l .v) (omega arith) (s .pre .0 .0) (s .pre .0 .1) (l .inv .2) (c .before .before .before .before .before .before .wide .ensures .0))
 
 loop-again : tie.Need-loop-again Inv-loop μ-loop
 loop-again c =
     let s = c .before .before .before .before .before .before .before .before .before .before .before .before .before in
     let l = c .before .before .before .before .before .before .before .before .before .loop in
-    let is = vertex-is (s .args .lengths .now) (s .args .numbers .now) (l .v) (c .before .before .before .before .before .before .wide .ensures) (l .inv .2) (c .before .before .before .before .at-vertex .ensures .0) in
+    let is = vertex-is (s .args .lengths .now) (s .args .numbers .now) (l .v) (c .before .before .before .before .before .before .wide .ensures .0) (l .inv .2) (c .before .before .before .before .at-vertex .ensures .0) in
     let none = sym is ∙ sound-of _ (sym (c .before .is-sound .ensures) ∙ not-false _ (c .if1 .left)) in
-    (omega arith, c .before .before .before .before .at-vertex .ensures .1, omega (arith, l .inv .2, c .before .before .before .before .before .before .wide .ensures, total-more (s .args .lengths .now) (l .v) (omega (arith, s .pre .0 .0))), first-next (finding (s .args .lengths .now) (s .args .numbers .now)) (l .v) (l .inv .3) none)
+    (omega arith, c .before .before .before .before .at-vertex .ensures .1, omega (arith, l .inv .2, c .before .before .before .before .before .before .wide .ensures .0, total-more (s .args .lengths .now) (l .v) (omega (arith, s .pre .0 .0))), first-next (finding (s .args .lengths .now) (s .args .numbers .now)) (l .v) (l .inv .3) none)
 
 same-length-2 : tie.Need-same-length-2 Inv-loop μ-loop
 same-length-2 c = c .before .loop .inv .1 .len ∙ sym (c .before .before .before .before .before .pre .1 .len)

@@ -14,8 +14,8 @@ unfolding diagonalAt
 returns c =
     let s = c .before .before .before .before .before .before .before .before .before .before .before .before .args in
     let place : ℕ → VisualizePosition = positionAt (s .pos-i .now) (s .pos-j .now) (s .pos-t .now) in
-    let a = c .before .before .before .before .load .ensures ∙ ap place (c .before .before .before .before .before .wide .ensures) in
-    let b = c .before .load2 .ensures ∙ ap place (c .before .before .wide2 .ensures) in
+    let a = c .before .before .before .before .load .ensures ∙ ap place (c .before .before .before .before .before .wide .ensures .0) in
+    let b = c .before .load2 .ensures ∙ ap place (c .before .before .wide2 .ensures .0) in
     c .is-diagonal .ensures ∙ (λ k. isDiagonal (a k) (b k))
 
 pub diagonal-at-spec : {M : Type 1} → statement M

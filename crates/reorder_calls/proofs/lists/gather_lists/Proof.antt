@@ -31,7 +31,7 @@ shared-slice-read-wide-2 : tie.Need-shared-slice-read-wide-2 Inv-loop μ-loop
 shared-slice-read-wide-2 c =
     let s = c .before .before .before .before .before .before .before .before .before .before in
     let l = c .before .before .before .before .loop in
-    omega (arith, c .before .wide .ensures, s .pre .0 .1, order-below (s .args .order .now) (s .pre .0 .0) (l .k) (omega arith))
+    omega (arith, c .before .wide .ensures .0, s .pre .0 .1, order-below (s .args .order .now) (s .pre .0 .0) (l .k) (omega arith))
 
 mul-copy-run : tie.Need-mul-copy-run Inv-loop μ-loop
 mul-copy-run c = record { fits = omega (arith, c .before .before .wide .ensures .1) }
@@ -40,7 +40,7 @@ shared-slice-read-copy-run : tie.Need-shared-slice-read-copy-run Inv-loop μ-loo
 shared-slice-read-copy-run c =
     let s = c .before .before .before .before .before .before .before .before .before .before .before .before in
     let l = c .before .before .before .before .before .before .loop in
-    omega (arith, c .before .before .before .wide .ensures, s .pre .0 .2, order-below (s .args .order .now) (s .pre .0 .0) (l .k) (omega (arith, c .before .before .before .before .before .loop-test .taken)))
+    omega (arith, c .before .before .before .wide .ensures .0, s .pre .0 .2, order-below (s .args .order .now) (s .pre .0 .0) (l .k) (omega (arith, c .before .before .before .before .before .loop-test .taken)))
 
 copy-run-requires : tie.Need-copy-run-requires Inv-loop μ-loop
 copy-run-requires c κs =
@@ -49,10 +49,10 @@ copy-run-requires c κs =
     let l = c .before .before .before .before .before .before .before .loop in
     let o = a .order .now in
     let h : l .k < length o = omega (arith, c .before .before .before .before .before .before .loop-test .taken) in
-    let u : c .before .before .before .before .wide .result ≡ getD o (l .k) 0 = c .before .before .before .before .wide .ensures in
+    let u : c .before .before .before .before .wide .result ≡ getD o (l .k) 0 = c .before .before .before .before .wide .ensures .0 in
     let b = order-below o (s .pre .0 .0) (l .k) h in
     let st : getD (a .starts .now) (c .before .before .before .before .wide .result) 0 ≡ sumTo (getD o (l .k) 0) (a .lengths .now) = ap (λ (x : ℕ). getD (a .starts .now) x 0) u ∙ s .pre .1 .0 (getD o (l .k) 0) b in
-    let ct : c .before .before .wide2 .result ≡ getD (a .lengths .now) (getD o (l .k) 0) 0 = c .before .before .wide2 .ensures ∙ ap (λ (x : ℕ). getD (a .lengths .now) x 0) u in (
+    let ct : c .before .before .wide2 .result ≡ getD (a .lengths .now) (getD o (l .k) 0) 0 = c .before .before .wide2 .ensures .0 ∙ ap (λ (x : ℕ). getD (a .lengths .now) x 0) u in (
       omega (arith, st, ct, list-fits (a .lengths .now) (a .from .now) (length o) (getD o (l .k) 0) b (s .pre .1 .1 .0)),
       omega (arith, ct, l .inv .1, l .inv .3, list-room o (a .lengths .now) (a .from .now) (s .pre .0 .0) (s .pre .1 .1 .0) (l .k) h, s .pre .1 .1 .1),
     )
@@ -64,7 +64,7 @@ add-at c =
     let l = c .before .before .before .before .before .before .before .before .before .before .loop in
     let o = a .order .now in
     let h : l .k < length o = omega (arith, c .before .before .before .before .before .before .before .before .before .loop-test .taken) in
-    let ct : c .before .before .before .before .before .wide2 .result ≡ getD (a .lengths .now) (getD o (l .k) 0) 0 = c .before .before .before .before .before .wide2 .ensures ∙ ap (λ (x : ℕ). getD (a .lengths .now) x 0) (c .before .before .before .before .before .before .before .wide .ensures) in
+    let ct : c .before .before .before .before .before .wide2 .result ≡ getD (a .lengths .now) (getD o (l .k) 0) 0 = c .before .before .before .before .before .wide2 .ensures .0 ∙ ap (λ (x : ℕ). getD (a .lengths .now) x 0) (c .before .before .before .before .before .before .before .wide .ensures .0) in
     record { fits = omega (arith, ct, l .inv .1, list-room o (a .lengths .now) (a .from .now) (s .pre .0 .0) (s .pre .1 .1 .0) (l .k) h, s .pre .1 .1 .1) }
 
 loop-again : tie.Need-loop-again Inv-loop μ-loop
@@ -74,10 +74,10 @@ loop-again c =
     let l = c .before .before .before .before .before .before .before .before .before .before .loop in
     let o = a .order .now in
     let h : l .k < length o = omega (arith, c .before .before .before .before .before .before .before .before .before .loop-test .taken) in
-    let u : c .before .before .before .before .before .before .before .wide .result ≡ getD o (l .k) 0 = c .before .before .before .before .before .before .before .wide .ensures in
+    let u : c .before .before .before .before .before .before .before .wide .result ≡ getD o (l .k) 0 = c .before .before .before .before .before .before .before .wide .ensures .0 in
     let b = order-below o (s .pre .0 .0) (l .k) h in
     let st : getD (a .starts .now) (c .before .before .before .before .before .before .before .wide .result) 0 ≡ sumTo (getD o (l .k) 0) (a .lengths .now) = ap (λ (x : ℕ). getD (a .starts .now) x 0) u ∙ s .pre .1 .0 (getD o (l .k) 0) b in
-    let ct : c .before .before .before .before .before .wide2 .result ≡ getD (a .lengths .now) (getD o (l .k) 0) 0 = c .before .before .before .before .before .wide2 .ensures ∙ ap (λ (x : ℕ). getD (a .lengths .now) x 0) u in
+    let ct : c .before .before .before .before .before .wide2 .result ≡ getD (a .lengths .now) (getD o (l .k) 0) 0 = c .before .before .before .before .before .wide2 .ensures .0 ∙ ap (λ (x : ℕ). getD (a .lengths .now) x 0) u in
     let same = simp length-sets at (ap length (c .before .before .copy-run .ensures)) in (
       omega (arith, h),
       lists-count o (a .lengths .now) (a .from .now) (s .pre .0 .0) (s .pre .1 .1 .0) (l .k) h (l .inv .1) ct,

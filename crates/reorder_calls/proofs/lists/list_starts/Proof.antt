@@ -34,7 +34,7 @@ add-sum c =
     let s = c .before .before .before .before .before .before in
     let a = s .args in
     let l = c .before .before .before .loop in
-    record { fits = omega (arith, c .wide .ensures, l .inv .1, s .pre .2, sum-more (l .i) (a .lengths .now), sum-ascends (l .i + 1) (a .n) (a .lengths .now) (omega (arith, c .before .before .loop-test .taken))) }
+    record { fits = omega (arith, c .wide .ensures .0, l .inv .1, s .pre .2, sum-more (l .i) (a .lengths .now), sum-ascends (l .i + 1) (a .n) (a .lengths .now) (omega (arith, c .before .before .loop-test .taken))) }
 
 loop-again : tie.Need-loop-again Inv-loop μ-loop
 loop-again c =
@@ -42,7 +42,7 @@ loop-again c =
     let a = s .args in
     let l = c .before .before .before .loop in (
       omega arith,
-      ap (λ (x : ℕ). x + c .wide .result) (l .inv .1) ∙ ap (λ (x : ℕ). sumTo (l .i) (a .lengths .now) + x) (c .wide .ensures) ∙ sym (sum-more (l .i) (a .lengths .now)),
+      ap (λ (x : ℕ). x + c .wide .result) (l .inv .1) ∙ ap (λ (x : ℕ). sumTo (l .i) (a .lengths .now) + x) (c .wide .ensures .0) ∙ sym (sum-more (l .i) (a .lengths .now)),
       starts-more (l .i) (a .lengths .now) (l .starts) (omega (arith, l .inv .3, s .pre .1)) (l .inv .1) (l .inv .2),
       simp length-set (l .inv .3),
     )

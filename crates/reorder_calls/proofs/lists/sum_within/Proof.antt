@@ -36,13 +36,13 @@ returns c =
     let a = c .before .before .before .before .before .before .before .args in
     let l = c .before .before .before .before .loop in
     sym (lt-leb (sumTo (a .n) (a .lengths .now)) (a .limit)
-    (omega (arith, c .before .wide .ensures, l .inv .1, l .inv .2, l .inv .3, sum-more (l .i) (a .lengths .now), sum-ascends (l .i + 1) (a .n) (a .lengths .now) (omega (arith, l .inv .1)))))
+    (omega (arith, c .before .wide .ensures .0, l .inv .1, l .inv .2, l .inv .3, sum-more (l .i) (a .lengths .now), sum-ascends (l .i + 1) (a .n) (a .lengths .now) (omega (arith, l .inv .1)))))
 
 loop-again : tie.Need-loop-again Inv-loop μ-loop
 loop-again c =
     let a = c .before .before .before .before .before .before .before .args in
     let l = c .before .before .before .before .loop in
-    (omega arith, l .inv .1, ap (λ (x : ℕ). x + c .before .wide .result) (l .inv .2) ∙ ap (λ (x : ℕ). sumTo (l .i) (a .lengths .now) + x) (c .before .wide .ensures) ∙ sym (sum-more (l .i) (a .lengths .now)), omega (arith, l .inv .3))
+    (omega arith, l .inv .1, ap (λ (x : ℕ). x + c .before .wide .result) (l .inv .2) ∙ ap (λ (x : ℕ). sumTo (l .i) (a .lengths .now) + x) (c .before .wide .ensures .0) ∙ sym (sum-more (l .i) (a .lengths .now)), omega (arith, l .inv .3))
 
 returns-2 : tie.Need-returns-2 Inv-loop μ-loop
 returns-2 c =

@@ -26,7 +26,7 @@ returns : tie.Need-returns Inv-loop μ-loop
 returns c =
     let s = c .before .before .before .before .before .before .before .args in
     let l = c .before .before .before .before .loop in
-    sym (lt-leb (total (take (s .n) (s .lengths .now))) (s .room) (omega (arith, l .inv .1, l .inv .2, c .before .wide .ensures, total-more (s .lengths .now) (l .i) (omega (arith, l .inv .1)), total-part (s .lengths .now) (l .i + 1) (s .n) (omega (arith, l .inv .1)))))
+    sym (lt-leb (total (take (s .n) (s .lengths .now))) (s .room) (omega (arith, l .inv .1, l .inv .2, c .before .wide .ensures .0, total-more (s .lengths .now) (l .i) (omega (arith, l .inv .1)), total-part (s .lengths .now) (l .i + 1) (s .n) (omega (arith, l .inv .1)))))
 
 add-i : tie.Need-add-i Inv-loop μ-loop
 add-i c = omega (arith, c .before .before .before .before .loop .inv .1)
@@ -35,7 +35,7 @@ loop-again : tie.Need-loop-again Inv-loop μ-loop
 loop-again c =
     let s = c .before .before .before .before .before .before .before .args in
     let l = c .before .before .before .before .loop in
-    (omega arith, l .inv .1, omega (arith, l .inv .2, c .before .wide .ensures, total-more (s .lengths .now) (l .i) (omega (arith, l .inv .1))))
+    (omega arith, l .inv .1, omega (arith, l .inv .2, c .before .wide .ensures .0, total-more (s .lengths .now) (l .i) (omega (arith, l .inv .1))))
 
 returns-2 : tie.Need-returns-2 Inv-loop μ-loop
 returns-2 c =

@@ -11,7 +11,7 @@ ghost use lib.ListN.{length};
 ghost use Rattle.engine_columns.specs.Records.{engine, counts};
 ghost use Rattle.query_questions.specs.Queries.{scratchLong};
 ghost use Rattle.query_questions.specs.Scratch.{scratchOf};
-ghost use Rattle.query_paths.specs.GetPath.{PathStep, PathScratchKept};
+ghost use Rattle.query_paths.specs.GetPath.{PathStep, PathScratch};
 ghost use Rattle.query_crossing_answer.specs.Crossing.{CrossingStep, CrossingScratch};
 ghost use Rattle.c_reports.specs.Reports.{Reported};
 ghost use Rattle.c_engine.specs.QueryReports.{ReportsPath, ReportsCrossing};
@@ -43,7 +43,7 @@ pub extern "C" fn moldingcress_get_path(
 ) -> TwoCounts
     ensures { λ q. ⌜ Reported ReportsPath (λ r. (PathStep (engine (counts vertices edges entries) (now («ends_a» .entry)) (now («ends_b» .entry)) (now (weights .entry)) (now (boundary .entry)) (now («log_edges» .entry)) (now («log_weights» .entry)))
         (scratchLong vertices edges (length (now (numbers .entry))) (length (now («list_ends» .entry))) (length (now (status .entry))) (length (now (weight .entry))) (length (now (previous .entry))) (length (now (node .entry))) (length (now (leaf .entry))))
-        a b r (now («out_vertices» .entry)) (now («out_steps» .entry)) (now («out_vertices» .exit)) (now («out_steps» .exit))) × (PathScratchKept r
+        a b r (now («out_vertices» .entry)) (now («out_steps» .entry)) (now («out_vertices» .exit)) (now («out_steps» .exit))) × (PathScratch (engine (counts vertices edges entries) (now («ends_a» .entry)) (now («ends_b» .entry)) (now (weights .entry)) (now (boundary .entry)) (now («log_edges» .entry)) (now («log_weights» .entry))) a b r
         (scratchOf (now (numbers .entry)) (now («list_ends» .entry)) (now (status .entry)) (now (weight .entry)) (now (previous .entry)) (now (node .entry)) (now (leaf .entry)))
         (scratchOf (now (numbers .exit)) (now («list_ends» .exit)) (now (status .exit)) (now (weight .exit)) (now (previous .exit)) (now (node .exit)) (now (leaf .exit))))) q ⌝ }
 {

@@ -10,11 +10,13 @@ ghost use lib.ListN.{length};
 ghost use Rattle.engine_columns.specs.Records.{engine, counts};
 ghost use Rattle.query_tables.specs.declared.End.the-variants.{None};
 ghost use Rattle.query_questions.specs.Queries.{scratchLong, graphIn, weightsIn};
-ghost use Rattle.query_questions.specs.Scratch.{ScratchKept, scratchOf};
-ghost use Rattle.query_tables.specs.Steps.{tableRefusal};
-ghost use Rattle.prebuilt_calls.specs.Rows.{RowStep, ColumnKept};
-ghost use Rattle.prebuilt_calls.specs.Nearest.{BoundarySaid, BoundaryKept};
-ghost use Rattle.prebuilt_calls.specs.Boundaries.{BoundariesStep, FirstKept};
+ghost use Rattle.query_questions.specs.Scratch.{scratchOf};
+ghost use Rattle.query_tables.specs.Steps.{tableRefusal, TableInside};
+ghost use Rattle.columns_answers.specs.Done.{said};
+ghost use Prim.Native.Nat.{_-_};
+ghost use Rattle.prebuilt_calls.specs.Rows.{RowStep, RowScratch};
+ghost use Rattle.prebuilt_calls.specs.Nearest.{said as boundary-said, BoundarySaid};
+ghost use Rattle.prebuilt_calls.specs.Boundaries.{BoundariesStep};
 ghost use Rattle.c_reports.specs.Reports.{Reported, ReportsDone};
 ghost use Rattle.c_engine.specs.PrebuiltReports.{ReportsBoundary};
 
@@ -45,9 +47,10 @@ pub extern "C" fn moldingcress_fill_row(
 ) -> u32
     ensures { λ q. ⌜ Reported ReportsDone (λ r. (RowStep (engine (counts vertices edges entries) (now («ends_a» .entry)) (now («ends_b» .entry)) (now (weights .entry)) (now (boundary .entry)) (now («log_edges» .entry)) (now («log_weights» .entry)))
         (scratchLong vertices edges (length (now (numbers .entry))) (length (now («list_ends» .entry))) (length (now (status .entry))) (length (now (weight .entry))) (length (now (previous .entry))) (length (now (node .entry))) (length (now (leaf .entry))))
-        vertex (now (nearest .entry)) (length (now (before .entry))) r (now (out .entry)) (now (out .exit))) × ((ColumnKept r (now (before .entry)) (now (before .exit))) × (ScratchKept r
+        vertex (now (nearest .entry)) (length (now (before .entry))) r (now (out .entry)) (now (out .exit))) × (RowScratch (engine (counts vertices edges entries) (now («ends_a» .entry)) (now («ends_b» .entry)) (now (weights .entry)) (now (boundary .entry)) (now («log_edges» .entry)) (now («log_weights» .entry))) vertex r (now (before .entry))
         (scratchOf (now (numbers .entry)) (now («list_ends» .entry)) (now (status .entry)) (now (weight .entry)) (now (previous .entry)) (now (node .entry)) (now (leaf .entry)))
-        (scratchOf (now (numbers .exit)) (now («list_ends» .exit)) (now (status .exit)) (now (weight .exit)) (now (previous .exit)) (now (node .exit)) (now (leaf .exit)))))) q ⌝ }
+        (now (before .exit))
+        (scratchOf (now (numbers .exit)) (now («list_ends» .exit)) (now (status .exit)) (now (weight .exit)) (now (previous .exit)) (now (node .exit)) (now (leaf .exit))))) q ⌝ }
 {
     done_number(prebuilt_calls::fill_row(
         EngineCounts {
@@ -103,8 +106,9 @@ pub extern "C" fn moldingcress_get_boundary_weight(
         vertex None (length (now (least .entry))) (length (now (before .entry))))
         (graphIn (engine (counts vertices edges entries) (now («ends_a» .entry)) (now («ends_b» .entry)) (now (weights .entry)) (now (boundary .entry)) (now («log_edges» .entry)) (now («log_weights» .entry))))
         (weightsIn (engine (counts vertices edges entries) (now («ends_a» .entry)) (now («ends_b» .entry)) (now (weights .entry)) (now (boundary .entry)) (now («log_edges» .entry)) (now («log_weights» .entry))))
-        vertex r) × (BoundaryKept r (now (least .entry)) (now (least .exit)) (now (before .entry)) (now (before .exit))
+        vertex r) × (TableInside (boundary-said r .number) (engine (counts vertices edges entries) (now («ends_a» .entry)) (now («ends_b» .entry)) (now (weights .entry)) (now (boundary .entry)) (now («log_edges» .entry)) (now («log_weights» .entry))) vertex (now (least .entry)) (now (before .entry))
         (scratchOf (now (numbers .entry)) (now («list_ends» .entry)) (now (status .entry)) (now (weight .entry)) (now (previous .entry)) (now (node .entry)) (now (leaf .entry)))
+        (now (least .exit)) (now (before .exit))
         (scratchOf (now (numbers .exit)) (now («list_ends» .exit)) (now (status .exit)) (now (weight .exit)) (now (previous .exit)) (now (node .exit)) (now (leaf .exit))))) q ⌝ }
 {
     boundary_report(prebuilt_calls::nearest::get_boundary_weight(
@@ -158,9 +162,10 @@ pub extern "C" fn moldingcress_fill_boundaries(
 ) -> u32
     ensures { λ q. ⌜ Reported ReportsDone (λ r. (BoundariesStep (engine (counts vertices edges entries) (now («ends_a» .entry)) (now («ends_b» .entry)) (now (weights .entry)) (now (boundary .entry)) (now («log_edges» .entry)) (now («log_weights» .entry)))
         (scratchLong vertices edges (length (now (numbers .entry))) (length (now («list_ends» .entry))) (length (now (status .entry))) (length (now (weight .entry))) (length (now (previous .entry))) (length (now (node .entry))) (length (now (leaf .entry))))
-        (length (now (least .entry))) (length (now (before .entry))) r (now («out_weight» .entry)) (now («out_vertex» .entry)) (now («out_weight» .exit)) (now («out_vertex» .exit))) × ((FirstKept r (now (least .entry)) (now (least .exit)) (now (before .entry)) (now (before .exit))) × (ScratchKept r
+        (length (now (least .entry))) (length (now (before .entry))) r (now («out_weight» .entry)) (now («out_vertex» .entry)) (now («out_weight» .exit)) (now («out_vertex» .exit))) × (TableInside (said r .number) (engine (counts vertices edges entries) (now («ends_a» .entry)) (now («ends_b» .entry)) (now (weights .entry)) (now (boundary .entry)) (now («log_edges» .entry)) (now («log_weights» .entry))) (vertices - 1) (now (least .entry)) (now (before .entry))
         (scratchOf (now (numbers .entry)) (now («list_ends» .entry)) (now (status .entry)) (now (weight .entry)) (now (previous .entry)) (now (node .entry)) (now (leaf .entry)))
-        (scratchOf (now (numbers .exit)) (now («list_ends» .exit)) (now (status .exit)) (now (weight .exit)) (now (previous .exit)) (now (node .exit)) (now (leaf .exit)))))) q ⌝ }
+        (now (least .exit)) (now (before .exit))
+        (scratchOf (now (numbers .exit)) (now («list_ends» .exit)) (now (status .exit)) (now (weight .exit)) (now (previous .exit)) (now (node .exit)) (now (leaf .exit))))) q ⌝ }
 {
     done_number(prebuilt_calls::boundaries::fill_boundaries(
         EngineCounts {

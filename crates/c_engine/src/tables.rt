@@ -1,8 +1,8 @@
 ghost use Rattle.c_reports.specs.Reports.{Reported, ReportsDone};
 ghost use Rattle.c_reports.specs.Engine.{givenEnd, noEnd};
 ghost use Rattle.query_questions.specs.Queries.{scratchLong};
-ghost use Rattle.query_tables.specs.Steps.{TableStep};
-ghost use Rattle.query_questions.specs.Scratch.{ScratchKept, scratchOf};
+ghost use Rattle.query_tables.specs.Steps.{TableStep, TableScratch};
+ghost use Rattle.query_questions.specs.Scratch.{scratchOf};
 ghost use Rattle.engine_columns.specs.Records.{engine, counts};
 ghost use lib.ListN.{length};
 use c_reports::done_number;
@@ -40,7 +40,7 @@ pub extern "C" fn moldingcress_all_edges_with_terminate(
 ) -> u32
     ensures { λ q. ⌜ Reported ReportsDone (λ r. (TableStep (engine (counts vertices edges entries) (now («ends_a» .entry)) (now («ends_b» .entry)) (now (weights .entry)) (now (boundary .entry)) (now («log_edges» .entry)) (now («log_weights» .entry)))
         (scratchLong vertices edges (length (now (numbers .entry))) (length (now («list_ends» .entry))) (length (now (status .entry))) (length (now (weight .entry))) (length (now (previous .entry))) (length (now (node .entry))) (length (now (leaf .entry))))
-        source (givenEnd «has_end» end) r (now («out_weight» .entry)) (now («out_previous» .entry)) (now («out_weight» .exit)) (now («out_previous» .exit))) × (ScratchKept r
+        source (givenEnd «has_end» end) r (now («out_weight» .entry)) (now («out_previous» .entry)) (now («out_weight» .exit)) (now («out_previous» .exit))) × (TableScratch (engine (counts vertices edges entries) (now («ends_a» .entry)) (now («ends_b» .entry)) (now (weights .entry)) (now (boundary .entry)) (now («log_edges» .entry)) (now («log_weights» .entry))) source (givenEnd «has_end» end) r
         (scratchOf (now (numbers .entry)) (now («list_ends» .entry)) (now (status .entry)) (now (weight .entry)) (now (previous .entry)) (now (node .entry)) (now (leaf .entry)))
         (scratchOf (now (numbers .exit)) (now («list_ends» .exit)) (now (status .exit)) (now (weight .exit)) (now (previous .exit)) (now (node .exit)) (now (leaf .exit))))) q ⌝ }
 {
@@ -95,7 +95,7 @@ pub extern "C" fn moldingcress_all_edges(
 ) -> u32
     ensures { λ q. ⌜ Reported ReportsDone (λ r. (TableStep (engine (counts vertices edges entries) (now («ends_a» .entry)) (now («ends_b» .entry)) (now (weights .entry)) (now (boundary .entry)) (now («log_edges» .entry)) (now («log_weights» .entry)))
         (scratchLong vertices edges (length (now (numbers .entry))) (length (now («list_ends» .entry))) (length (now (status .entry))) (length (now (weight .entry))) (length (now (previous .entry))) (length (now (node .entry))) (length (now (leaf .entry))))
-        source noEnd r (now («out_weight» .entry)) (now («out_previous» .entry)) (now («out_weight» .exit)) (now («out_previous» .exit))) × (ScratchKept r
+        source noEnd r (now («out_weight» .entry)) (now («out_previous» .entry)) (now («out_weight» .exit)) (now («out_previous» .exit))) × (TableScratch (engine (counts vertices edges entries) (now («ends_a» .entry)) (now («ends_b» .entry)) (now (weights .entry)) (now (boundary .entry)) (now («log_edges» .entry)) (now («log_weights» .entry))) source noEnd r
         (scratchOf (now (numbers .entry)) (now («list_ends» .entry)) (now (status .entry)) (now (weight .entry)) (now (previous .entry)) (now (node .entry)) (now (leaf .entry)))
         (scratchOf (now (numbers .exit)) (now («list_ends» .exit)) (now (status .exit)) (now (weight .exit)) (now (previous .exit)) (now (node .exit)) (now (leaf .exit))))) q ⌝ }
 {

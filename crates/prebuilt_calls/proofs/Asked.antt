@@ -1,6 +1,7 @@
 -- The questions of a call that fills both columns. Assumes nothing.
-use mathlib.Core.Path.{_≡_, _∙_}
-use mathlib.Core.Bool.{Bool, true}
+use mathlib.Core.Path.{_≡_, refl, _∙_}
+use mathlib.Core.Logic.{_≢_}
+use mathlib.Core.Bool.{Bool, true, false, _&&_}
 use Prim.Native.Nat.{ℕ, _<_}
 use native.Mathlib.Omega.{arith}
 use lib.Dec.{leb}
@@ -11,7 +12,9 @@ use Rattle.engine_columns.proofs.Refusals.{long-from, sound-from}
 use Rattle.query_tables.specs.declared.End.the-variants.{None}
 use Rattle.query_questions.specs.Queries.{scratchLong}
 use Rattle.query_tables.specs.Steps.{tableRefusal}
+use Rattle.query_questions.specs.Scratch.{isFree}
 use Rattle.query_search.proofs.Asked.{query-of}
+use Rattle.query_search.proofs.Scratch.{query-kept}
 use Rattle.prebuilt_calls.specs.Steps.{Fillable}
 use Rattle.prebuilt_calls.specs.Boundaries.{boundariesRefusal}
 
@@ -43,6 +46,12 @@ module _ (e : Engine) (weights vertices least before numbers ends status weight 
         before-fits = leb-true _ _ d;
         scratch-fits = s;
       }
+
+  -- a refused call leaves scratch as it was
+  pub boundaries-kept : boundariesRefusal e scratch weights vertices least before ≢ 0 → isFree (boundariesRefusal e scratch weights vertices least before) ≡ false
+  boundaries-kept f =
+      let n = e .counts .vertices in
+      query-kept e (leb n weights && (leb n vertices && (leb n least && (leb n before && scratch)))) true 0 (λ x. absurd (x refl)) f
 
 -- the same room in columns of the same lengths
 pub same-room : {e : Engine} {w v l b n d s k p o f w′ v′ l′ b′ n′ d′ s′ k′ p′ o′ f′ : ℕ} → Fillable e w v l b n d s k p o f

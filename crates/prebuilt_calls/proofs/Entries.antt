@@ -1,6 +1,7 @@
 -- A row written over a column of least weights. Assumes nothing.
 use mathlib.Core.Path.{_≡_, refl, sym, ap, _∙_}
-use mathlib.Core.Bool.{Bool, true, _&&_, _||_}
+use mathlib.Core.Logic.{_≢_}
+use mathlib.Core.Bool.{Bool, true, false, _&&_, _||_}
 use mathlib.Core.List.{List}
 use Prim.Native.Nat.{ℕ, zero, suc, _+_, _<_, _≤_}
 use native.Mathlib.Omega.{arith}
@@ -20,7 +21,9 @@ use Rattle.engine_columns.proofs.Refusals.{Long, long-from, Sound, sound-from}
 use Rattle.query_tables.specs.declared.End.the-variants.{None}
 use Rattle.query_questions.specs.Queries.{queryRefusal}
 use Rattle.query_tables.specs.Steps.{tableRefusal}
+use Rattle.query_questions.specs.Scratch.{isFree}
 use Rattle.query_search.proofs.Asked.{query-of}
+use Rattle.query_search.proofs.Scratch.{query-kept}
 use Rattle.prebuilt_entries.specs.Entries.{isVirtual, entryBy, rowEntry}
 use Rattle.prebuilt_entries.proofs.Stored.{over-over}
 use Rattle.prebuilt_calls.specs.Rows.{rowRefusal}
@@ -62,6 +65,12 @@ module _ (e : Engine) (scratch : Bool) (v nearest out before : ℕ) where
       }
 
   -- the table query inside is accepted too
+  -- a refused call leaves scratch as it was
+  pub row-kept : rowRefusal e scratch v nearest out before ≢ 0 → isFree (rowRefusal e scratch v nearest out before) ≡ false
+  row-kept f =
+      let n = e .counts .vertices in
+      query-kept e (leb n nearest && (leb n out && (leb n before && scratch))) (ltb v n) 0 (λ x. absurd (x refl)) f
+
   pub table-met : RowAsked e scratch v nearest out before → tableRefusal e scratch v None out before ≡ 0
   table-met k =
       let n = e .counts .vertices in

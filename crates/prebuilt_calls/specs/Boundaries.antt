@@ -11,7 +11,6 @@ use Rattle.columns.specs.Lists.{each, after}
 use Rattle.columns_answers.specs.Said.{Answered}
 use Rattle.columns_answers.specs.Done.{said}
 use Rattle.columns.specs.declared.Done.{Done}
-use Rattle.columns.specs.declared.Done.the-variants.{Accepted, Refused}
 use Rattle.engine_columns.specs.Records.{Engine}
 use Rattle.engine_walks.specs.Graph.{Graph}
 use Rattle.engine_walks.specs.Answers.{table}
@@ -46,8 +45,3 @@ pub record BoundariesStep (e : Engine) (scratch : Bool) (least before : ℕ) (r 
       ≡ after (boundariesRefusal e scratch (length weights₀) (length vertices₀) least before) (each (e .counts .vertices) (boundaryWeight (graphIn e) (weightsIn e))) weights₀
   pub vertices-after : vertices
       ≡ after (boundariesRefusal e scratch (length weights₀) (length vertices₀) least before) (each (e .counts .vertices) (boundaryVertex (graphIn e) (weightsIn e))) vertices₀
-
--- Questions at the door, sentence 2: a refused call leaves the two first scratch columns as they were.
-abbrev pub FirstKept : Done → (least₀ least : List ℤ) (before₀ before : List ℕ) → Type 0
-FirstKept Accepted least₀ least before₀ before = Unit {0}
-FirstKept (Refused n) least₀ least before₀ before = (least ≡ least₀) × (before ≡ before₀)

@@ -7,7 +7,6 @@ use lib.IntN.{ℤ}
 use Rattle.columns_answers.specs.Said.{Said, accepts, refuses, Answered}
 use Rattle.engine_walks.specs.Graph.{Graph}
 use Rattle.engine_walks.specs.Answers.{weightIn, table}
-use Rattle.query_questions.specs.Scratch.{ScratchColumns}
 use Rattle.prebuilt_calls.specs.declared.nearest.BoundaryAnswer.{BoundaryAnswer}
 use Rattle.prebuilt_calls.specs.declared.nearest.BoundaryAnswer.the-variants.{Nearest, NoBoundary, Refused}
 use Rattle.prebuilt_entries.specs.Nearest.{amount, boundaryIn}
@@ -28,9 +27,3 @@ boundaryFound weights (some u) = (1, u, amount (weightIn weights u))
 abbrev pub BoundarySaid : (q : ℕ) (g : Graph) (w : ℕ → ℕ) (v : ℕ) → BoundaryAnswer → Type 0
 BoundarySaid q g w v r =
     Answered (said r) q (boundaryFound (table g w v none .weights) (boundaryIn (g .boundary) (table g w v none .weights) (g .vertices) v)) (0, 0, 0)
-
--- Questions at the door, sentence 2: every lent column but the engine's is scratch; a refused call leaves it as it was.
-abbrev pub BoundaryKept : BoundaryAnswer → (least₀ least : List ℤ) (before₀ before : List ℕ) → ScratchColumns → ScratchColumns → Type 0
-BoundaryKept (Nearest u weight) least₀ least before₀ before s₀ s = Unit {0}
-BoundaryKept NoBoundary least₀ least before₀ before s₀ s = Unit {0}
-BoundaryKept (Refused n) least₀ least before₀ before s₀ s = (least ≡ least₀) × (before ≡ before₀) × (s ≡ s₀)

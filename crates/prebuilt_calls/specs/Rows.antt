@@ -11,11 +11,13 @@ use Rattle.columns.specs.Lists.{each, after}
 use Rattle.columns_answers.specs.Said.{Answered}
 use Rattle.columns_answers.specs.Done.{said}
 use Rattle.columns.specs.declared.Done.{Done}
-use Rattle.columns.specs.declared.Done.the-variants.{Accepted, Refused}
 use Rattle.engine_columns.specs.Records.{Engine}
 use Rattle.engine_walks.specs.Graph.{Graph}
 use Rattle.engine_walks.specs.Answers.{table}
 use Rattle.query_questions.specs.Queries.{graphIn, weightsIn, queryRefusal}
+use Rattle.query_questions.specs.Scratch.{ScratchColumns}
+use Rattle.query_tables.specs.declared.End.the-variants.{None}
+use Rattle.query_tables.specs.Steps.{TableScratch}
 use Rattle.prebuilt_entries.specs.Entries.{rowEntry}
 
 -- complete_graph.rs, `PrebuiltCompleteGraph`: the row of v; `nearest` holds for each vertex the least weight to a virtual vertex, -1 for none.
@@ -32,7 +34,7 @@ pub record RowStep (e : Engine) (scratch : Bool) (v : ℕ) (nearest : List ℤ) 
   pub answer : Answered (said r) (rowRefusal e scratch v (length nearest) (length out₀) before) tt tt
   pub out-after : out ≡ after (rowRefusal e scratch v (length nearest) (length out₀) before) (row (graphIn e) (weightsIn e) nearest v) out₀
 
--- Questions at the door, sentence 2: a refused call leaves a scratch column as it was.
-abbrev pub ColumnKept : Done → List ℕ → List ℕ → Type 0
-ColumnKept Accepted column₀ column = Unit {0}
-ColumnKept (Refused n) column₀ column = column ≡ column₀
+-- Engine, Table: what `fill_row` leaves in the column of previous vertices, which serves as scratch, and in scratch, by the table from v with no end. A refused call leaves them as they were.
+pub record RowScratch (e : Engine) (v : ℕ) (r : Done) (before₀ : List ℕ) (s₀ : ScratchColumns) (before : List ℕ) (s : ScratchColumns) : Type 0 where
+  pub before-after : before ≡ after (said r .number) (table (graphIn e) (weightsIn e) v none .previous) before₀
+  pub scratch-after : TableScratch e v None r s₀ s

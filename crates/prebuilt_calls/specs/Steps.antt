@@ -1,10 +1,14 @@
 -- What the private functions of this crate promise one another. No public contract cites it.
-use Prim.Native.Nat.{ℕ, _≤_, _<_}
+use Prim.Native.Nat.{ℕ, _+_, _≤_}
 use mathlib.Core.Path.{_≡_}
 use mathlib.Core.Bool.{true}
+use mathlib.Core.List.{List}
+use lib.IntN.{ℤ}
 use Rattle.engine_columns.specs.Records.{Engine}
 use Rattle.engine_columns.specs.Questions.{engineLong, engineSound}
 use Rattle.query_questions.specs.Queries.{scratchLong}
+use Rattle.query_questions.specs.Scratch.{ScratchColumns}
+use Rattle.query_tables.specs.Steps.{TableInside}
 
 -- Questions at the door, 6 and 7: an engine graph that they accept, with room in every column lent.
 pub record Fillable (e : Engine) (weights vertices least before numbers ends status weight previous node leaf : ℕ) : Type 0 where
@@ -15,3 +19,8 @@ pub record Fillable (e : Engine) (weights vertices least before numbers ends sta
   pub least-fits : e .counts .vertices ≤ least
   pub before-fits : e .counts .vertices ≤ before
   pub scratch-fits : scratchLong (e .counts .vertices) (e .counts .edges) numbers ends status weight previous node leaf ≡ true
+
+-- Engine, Table: after the tables from the vertices below n, one after another: what the last one leaves, and where there is none the columns as they were.
+pub record TablesInside (e : Engine) (n : ℕ) (least₀ : List ℤ) (before₀ : List ℕ) (s₀ : ScratchColumns) (least : List ℤ) (before : List ℕ) (s : ScratchColumns) : Type 0 where
+  pub none : n ≡ 0 → (least ≡ least₀) × (before ≡ before₀) × (s ≡ s₀)
+  pub last : (v : ℕ) → n ≡ v + 1 → TableInside 0 e v least₀ before₀ s₀ least before s

@@ -1,14 +1,16 @@
 // The prebuilt complete graph: the boundary weight and the boundary vertex of every vertex.
 ghost use mathlib.Core.Path.{_≡_};
-ghost use Prim.Native.Nat.{_<_};
+ghost use Prim.Native.Nat.{_-_, _<_};
 ghost use lib.ListN.{length, set};
 ghost use lib.Seq.{sets};
 ghost use Rattle.columns.specs.Lists.{each};
+ghost use Rattle.columns_answers.specs.Done.{said};
 ghost use Rattle.engine_columns.specs.Records.{engine};
+ghost use Rattle.query_tables.specs.Steps.{TableInside};
 ghost use Rattle.query_questions.specs.Queries.{scratchLong, graphIn, weightsIn};
-ghost use Rattle.query_questions.specs.Scratch.{ScratchKept, scratchOf};
-ghost use Rattle.prebuilt_calls.specs.Boundaries.{boundaryWeight, boundaryVertex, BoundariesStep, FirstKept};
-ghost use Rattle.prebuilt_calls.specs.Steps.{Fillable};
+ghost use Rattle.query_questions.specs.Scratch.{scratchOf};
+ghost use Rattle.prebuilt_calls.specs.Boundaries.{boundaryWeight, boundaryVertex, BoundariesStep};
+ghost use Rattle.prebuilt_calls.specs.Steps.{Fillable, TablesInside};
 use columns::Done;
 use columns::VertexIndex;
 use columns::Weight;
@@ -46,6 +48,10 @@ fn fill_one(
     requires { ⌜ v < c .vertices ⌝ }
     ensures { λ _. ⌜ now («out_weight» .exit) ≡ set (now («out_weight» .entry)) v (boundaryWeight (graphIn (engine c (now («ends_a» .entry)) (now («ends_b» .entry)) (now (weights .entry)) (now (boundary .entry)) (now («log_edges» .entry)) (now («log_weights» .entry)))) (weightsIn (engine c (now («ends_a» .entry)) (now («ends_b» .entry)) (now (weights .entry)) (now (boundary .entry)) (now («log_edges» .entry)) (now («log_weights» .entry)))) v) ⌝ }
     ensures { λ _. ⌜ now («out_vertex» .exit) ≡ set (now («out_vertex» .entry)) v (boundaryVertex (graphIn (engine c (now («ends_a» .entry)) (now («ends_b» .entry)) (now (weights .entry)) (now (boundary .entry)) (now («log_edges» .entry)) (now («log_weights» .entry)))) (weightsIn (engine c (now («ends_a» .entry)) (now («ends_b» .entry)) (now (weights .entry)) (now (boundary .entry)) (now («log_edges» .entry)) (now («log_weights» .entry)))) v) ⌝ }
+    ensures { λ _. ⌜ TableInside 0 (engine c (now («ends_a» .entry)) (now («ends_b» .entry)) (now (weights .entry)) (now (boundary .entry)) (now («log_edges» .entry)) (now («log_weights» .entry))) v (now (least .entry)) (now (before .entry))
+        (scratchOf (now (numbers .entry)) (now («list_ends» .entry)) (now (status .entry)) (now (weight .entry)) (now (previous .entry)) (now (node .entry)) (now (leaf .entry)))
+        (now (least .exit)) (now (before .exit))
+        (scratchOf (now (numbers .exit)) (now («list_ends» .exit)) (now (status .exit)) (now (weight .exit)) (now (previous .exit)) (now (node .exit)) (now (leaf .exit))) ⌝ }
 {
     all_edges(
         c,
@@ -100,6 +106,10 @@ fn fill_all(
     requires { ⌜ Fillable (engine c (now «ends_a») (now «ends_b») (now weights) (now boundary) (now «log_edges») (now «log_weights»)) (length (now «out_weight»)) (length (now «out_vertex»)) (length (now least)) (length (now before)) (length (now numbers)) (length (now «list_ends»)) (length (now status)) (length (now weight)) (length (now previous)) (length (now node)) (length (now leaf)) ⌝ }
     ensures { λ _. ⌜ now («out_weight» .exit) ≡ sets (now («out_weight» .entry)) 0 (each (c .vertices) (boundaryWeight (graphIn (engine c (now («ends_a» .entry)) (now («ends_b» .entry)) (now (weights .entry)) (now (boundary .entry)) (now («log_edges» .entry)) (now («log_weights» .entry)))) (weightsIn (engine c (now («ends_a» .entry)) (now («ends_b» .entry)) (now (weights .entry)) (now (boundary .entry)) (now («log_edges» .entry)) (now («log_weights» .entry)))))) ⌝ }
     ensures { λ _. ⌜ now («out_vertex» .exit) ≡ sets (now («out_vertex» .entry)) 0 (each (c .vertices) (boundaryVertex (graphIn (engine c (now («ends_a» .entry)) (now («ends_b» .entry)) (now (weights .entry)) (now (boundary .entry)) (now («log_edges» .entry)) (now («log_weights» .entry)))) (weightsIn (engine c (now («ends_a» .entry)) (now («ends_b» .entry)) (now (weights .entry)) (now (boundary .entry)) (now («log_edges» .entry)) (now («log_weights» .entry)))))) ⌝ }
+    ensures { λ _. ⌜ TablesInside (engine c (now («ends_a» .entry)) (now («ends_b» .entry)) (now (weights .entry)) (now (boundary .entry)) (now («log_edges» .entry)) (now («log_weights» .entry))) (c .vertices) (now (least .entry)) (now (before .entry))
+        (scratchOf (now (numbers .entry)) (now («list_ends» .entry)) (now (status .entry)) (now (weight .entry)) (now (previous .entry)) (now (node .entry)) (now (leaf .entry)))
+        (now (least .exit)) (now (before .exit))
+        (scratchOf (now (numbers .exit)) (now («list_ends» .exit)) (now (status .exit)) (now (weight .exit)) (now (previous .exit)) (now (node .exit)) (now (leaf .exit))) ⌝ }
 {
     let mut v: u32 = 0;
     while v < c.vertices {
@@ -153,9 +163,9 @@ pub fn fill_boundaries(
     ensures { λ r. ⌜ BoundariesStep (engine c (now («ends_a» .entry)) (now («ends_b» .entry)) (now (weights .entry)) (now (boundary .entry)) (now («log_edges» .entry)) (now («log_weights» .entry)))
         (scratchLong (c .vertices) (c .edges) (length (now (numbers .entry))) (length (now («list_ends» .entry))) (length (now (status .entry))) (length (now (weight .entry))) (length (now (previous .entry))) (length (now (node .entry))) (length (now (leaf .entry))))
         (length (now (least .entry))) (length (now (before .entry))) r (now («out_weight» .entry)) (now («out_vertex» .entry)) (now («out_weight» .exit)) (now («out_vertex» .exit)) ⌝ }
-    ensures { λ r. ⌜ FirstKept r (now (least .entry)) (now (least .exit)) (now (before .entry)) (now (before .exit)) ⌝ }
-    ensures { λ r. ⌜ ScratchKept r
+    ensures { λ r. ⌜ TableInside (said r .number) (engine c (now («ends_a» .entry)) (now («ends_b» .entry)) (now (weights .entry)) (now (boundary .entry)) (now («log_edges» .entry)) (now («log_weights» .entry))) (c .vertices - 1) (now (least .entry)) (now (before .entry))
         (scratchOf (now (numbers .entry)) (now («list_ends» .entry)) (now (status .entry)) (now (weight .entry)) (now (previous .entry)) (now (node .entry)) (now (leaf .entry)))
+        (now (least .exit)) (now (before .exit))
         (scratchOf (now (numbers .exit)) (now («list_ends» .exit)) (now (status .exit)) (now (weight .exit)) (now (previous .exit)) (now (node .exit)) (now (leaf .exit))) ⌝ }
 {
     let v = c.vertices as usize;

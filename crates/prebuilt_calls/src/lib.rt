@@ -8,8 +8,8 @@ pub use nearest::get_boundary_weight;
 ghost use lib.ListN.{length};
 ghost use Rattle.engine_columns.specs.Records.{engine};
 ghost use Rattle.query_questions.specs.Queries.{scratchLong};
-ghost use Rattle.query_questions.specs.Scratch.{ScratchKept, scratchOf};
-ghost use Rattle.prebuilt_calls.specs.Rows.{RowStep, ColumnKept};
+ghost use Rattle.query_questions.specs.Scratch.{scratchOf};
+ghost use Rattle.prebuilt_calls.specs.Rows.{RowStep, RowScratch};
 use columns::Done;
 use columns::VertexIndex;
 use columns::Weight;
@@ -46,9 +46,9 @@ pub fn fill_row(
     ensures { λ r. ⌜ RowStep (engine c (now («ends_a» .entry)) (now («ends_b» .entry)) (now (weights .entry)) (now (boundary .entry)) (now («log_edges» .entry)) (now («log_weights» .entry)))
         (scratchLong (c .vertices) (c .edges) (length (now (numbers .entry))) (length (now («list_ends» .entry))) (length (now (status .entry))) (length (now (weight .entry))) (length (now (previous .entry))) (length (now (node .entry))) (length (now (leaf .entry))))
         (vertex .0) (now (nearest .entry)) (length (now (before .entry))) r (now (out .entry)) (now (out .exit)) ⌝ }
-    ensures { λ r. ⌜ ColumnKept r (now (before .entry)) (now (before .exit)) ⌝ }
-    ensures { λ r. ⌜ ScratchKept r
+    ensures { λ r. ⌜ RowScratch (engine c (now («ends_a» .entry)) (now («ends_b» .entry)) (now (weights .entry)) (now (boundary .entry)) (now («log_edges» .entry)) (now («log_weights» .entry))) (vertex .0) r (now (before .entry))
         (scratchOf (now (numbers .entry)) (now («list_ends» .entry)) (now (status .entry)) (now (weight .entry)) (now (previous .entry)) (now (node .entry)) (now (leaf .entry)))
+        (now (before .exit))
         (scratchOf (now (numbers .exit)) (now («list_ends» .exit)) (now (status .exit)) (now (weight .exit)) (now (previous .exit)) (now (node .exit)) (now (leaf .exit))) ⌝ }
 {
     let v = c.vertices as usize;

@@ -7,10 +7,10 @@ ghost use Rattle.columns_answers.specs.Done.{said};
 ghost use Rattle.engine_columns.specs.Records.{engine};
 ghost use Rattle.query_tables.specs.declared.End.the-variants.{None};
 ghost use Rattle.query_questions.specs.Queries.{scratchLong, graphIn, weightsIn};
-ghost use Rattle.query_tables.specs.Steps.{tableRefusal};
+ghost use Rattle.query_tables.specs.Steps.{tableRefusal, TableInside};
 ghost use Rattle.query_questions.specs.Scratch.{scratchOf};
 ghost use Rattle.prebuilt_entries.specs.Nearest.{boundaryIn};
-ghost use Rattle.prebuilt_calls.specs.Nearest.{said as boundary-said, boundaryFound, BoundarySaid, BoundaryKept};
+ghost use Rattle.prebuilt_calls.specs.Nearest.{said as boundary-said, boundaryFound, BoundarySaid};
 use columns::Done;
 use columns::VertexIndex;
 use columns::Weight;
@@ -78,8 +78,9 @@ pub fn get_boundary_weight(
         (graphIn (engine c (now («ends_a» .entry)) (now («ends_b» .entry)) (now (weights .entry)) (now (boundary .entry)) (now («log_edges» .entry)) (now («log_weights» .entry))))
         (weightsIn (engine c (now («ends_a» .entry)) (now («ends_b» .entry)) (now (weights .entry)) (now (boundary .entry)) (now («log_edges» .entry)) (now («log_weights» .entry))))
         (vertex .0) r ⌝ }
-    ensures { λ r. ⌜ BoundaryKept r (now (least .entry)) (now (least .exit)) (now (before .entry)) (now (before .exit))
+    ensures { λ r. ⌜ TableInside (boundary-said r .number) (engine c (now («ends_a» .entry)) (now («ends_b» .entry)) (now (weights .entry)) (now (boundary .entry)) (now («log_edges» .entry)) (now («log_weights» .entry))) (vertex .0) (now (least .entry)) (now (before .entry))
         (scratchOf (now (numbers .entry)) (now («list_ends» .entry)) (now (status .entry)) (now (weight .entry)) (now (previous .entry)) (now (node .entry)) (now (leaf .entry)))
+        (now (least .exit)) (now (before .exit))
         (scratchOf (now (numbers .exit)) (now («list_ends» .exit)) (now (status .exit)) (now (weight .exit)) (now (previous .exit)) (now (node .exit)) (now (leaf .exit))) ⌝ }
 {
     let done = all_edges(

@@ -1,5 +1,6 @@
 -- What the nearest right vertex says of a crossing, and its questions. Assumes nothing.
 use mathlib.Core.Path.{_≡_, refl, sym, ap, _∙_, subst}
+use mathlib.Core.Logic.{_≢_}
 use mathlib.Core.Bool.{Bool, true, false, _&&_, cond}
 use mathlib.Core.List.{List}
 use mathlib.Core.Option.{Option, some, none}
@@ -27,10 +28,10 @@ use Rattle.engine_walks.specs.Settling.{State, weightAt, firstLeast, settled}
 use Rattle.engine_walks.specs.Answers.{isLeft, taken, tableWeight, weightOf, fromLeft, leastFromLeft, nearestRight, crossing}
 use Rattle.query_relaxing.specs.Ready.{graphOf, sources, endOf, sumLimit}
 use Rattle.query_crossing_answer.specs.declared.CrossingReply.the-variants.{Crossed, Refused}
-use Rattle.query_search.specs.Search.{Waiting, Searched}
 use Rattle.query_crossing_answer.specs.Crossing.{isJoined, weightFound, said, crossingAsked}
 use Rattle.query_crossing_answer.specs.Codes.{Coded, wherever, codeOf}
 use Rattle.query_questions.specs.Scratch.{isFree}
+use Rattle.query_search.proofs.Scratch.{ask-kept}
 
 -- ---- what stands for a weight
 
@@ -51,56 +52,6 @@ column-of r (some w) column weights₀ (e, h) = ap (λ b. cond b weights₀ (set
 pub column-after : (c : Option ℕ) (column weights₀ : List ℤ) → length column ≤ length weights₀ → wherever c column weights₀ ≡ after (ask (isJoined c) 18 0) column weights₀
 column-after none column weights₀ h = refl
 column-after (some w) column weights₀ h = sets-over weights₀ column h
-
--- ---- the sources
-
-module _ (n : ℕ) (a b m : List ℕ) (fits : length m ≡ n) where
-  abbrev first : List ℕ
-  first = each n (λ v. delta (getD m v 0) 1)
-
-  past : (v : ℕ) → n ≤ v → getD m v 0 ≡ 0
-  past v h = List·getD-eq-default m 0 {n = v} (omega arith)
-
-  past-first : (v : ℕ) → n ≤ v → getD first v 0 ≡ 0
-  past-first v h = List·getD-eq-default first 0 {n = v} (omega (arith, length-each n (λ v. delta (getD m v 0) 1)))
-
-  one-bit : (x : ℕ) → eqb (delta x 1) 1 ≡ eqb x 1
-  one-bit x = go (eqb x 1)
-    where
-      go : (b : Bool) → eqb (bit b) 1 ≡ b
-      go true = refl
-      go false = refl
-
-  pub sources-left : sources first ≡ isLeft (graphOf n a b m)
-  sources-left = λ i v. one v i
-    where
-      one : (v : ℕ) → eqb (getD first v 0) 1 ≡ eqb (getD m v 0) 1
-      one v = elim (decLt v n) [
-        | yes h ↦ ap (λ k. eqb k 1) (getD-each n (λ v. delta (getD m v 0) 1) 0 v h) ∙ one-bit (getD m v 0)
-        | no h ↦ ap (λ k. eqb k 1) (past-first v (omega arith)) ∙ ap (λ k. eqb k 1) (sym (past v (omega arith)))
-      ]
-
-  bit-small : (x : ℕ) → delta x 1 ≤ 1
-  bit-small x = go (eqb x 1)
-    where
-      go : (b : Bool) → bit b ≤ 1
-      go true = omega arith
-      go false = omega arith
-
-  pub waiting-left : (stop : ℕ) → stop ≡ n → Waiting n first stop
-  waiting-left stop e = record {
-    fits = length-each n (λ v. delta (getD m v 0) 1);
-    bytes = λ v. elim (decLt v n) [
-      | yes h ↦ omega (arith, getD-each n (λ v. delta (getD m v 0) 1) 0 v h, bit-small (getD m v 0))
-      | no h ↦ omega (arith, past-first v (omega arith))
-    ];
-    no-source = λ q. omega (arith, past-first stop (omega arith));
-  }
-
-  pub settled-left : (w : ℕ → ℕ) → settled (graphOf n a b m) w (sources first) (endOf n n) ≡ fromLeft (graphOf n a b m) w
-  unfolding fromLeft
-  settled-left w = ap (λ f. settled (graphOf n a b m) w f (endOf n n)) sources-left
-      ∙ ap (λ k. settled (graphOf n a b m) w (isLeft (graphOf n a b m)) (cond k (some n) none)) (le-ltb n n (omega arith))
 
 -- ---- the questions
 
@@ -168,23 +119,12 @@ left-length g w = length-each (g .vertices) (tableWeight (fromLeft g w))
 
 -- ---- scratch
 
--- the same number of vertices by another name
-pub searched-as : {n n′ : ℕ} {a b m numbers₀ numbers ends status weight previous node leaf : List ℕ} (w : ℕ → ℕ) → n ≡ n′
-    → Searched (graphOf n a b m) (fromLeft (graphOf n a b m) w) numbers₀ numbers ends status weight previous node leaf
-    → Searched (graphOf n′ a b m) (fromLeft (graphOf n′ a b m) w) numbers₀ numbers ends status weight previous node leaf
-searched-as {a = a} {b} {m} {numbers₀} {numbers} {ends} {status} {weight} {previous} {node} {leaf} w e h =
-    subst (λ k. Searched (graphOf k a b m) (fromLeft (graphOf k a b m) w) numbers₀ numbers ends status weight previous node leaf) e h
-
 -- scratch is free after success and after 18
 pub free-number : (c : Option ℕ) → isFree (ask (isJoined c) 18 0) ≡ true
 free-number none = refl
 free-number (some w) = refl
 
 -- 6 and 7 leave it as it was
-pub kept-number : (e : Engine) (scratch : Bool) (weights : ℕ) → (crossingAsked e scratch weights 0 ≡ 0 → ⊥) → isFree (crossingAsked e scratch weights 0) ≡ false
-kept-number e scratch weights f = go (engineLong 0 e && (leb (e .counts .vertices) weights && scratch)) (engineSound e) f
-  where
-    go : (p q : Bool) → (ask p 6 (ask q 7 0) ≡ 0 → ⊥) → isFree (ask p 6 (ask q 7 0)) ≡ false
-    go true true f = absurd (f refl)
-    go true false f = refl
-    go false q f = refl
+pub kept-number : (e : Engine) (scratch : Bool) (weights : ℕ) → crossingAsked e scratch weights 0 ≢ 0 → isFree (crossingAsked e scratch weights 0) ≡ false
+kept-number e scratch weights f =
+    ask-kept (engineLong 0 e && (leb (e .counts .vertices) weights && scratch)) 6 (ask (engineSound e) 7 0) refl (λ g. ask-kept (engineSound e) 7 0 refl (λ x. absurd (x refl)) g) f

@@ -12,7 +12,6 @@ ghost use Rattle.engine_walks.specs.Answers.{tableWeight, crossing, fromLeft, l
 ghost use Rattle.query_relaxing.specs.Ready.{graphOf, weighs, stateOf, sumLimit};
 ghost use Rattle.query_questions.specs.Queries.{scratchLong};
 ghost use Rattle.query_questions.specs.Scratch.{scratchOf};
-ghost use Rattle.query_search.specs.Search.{Searchable, Searched};
 ghost use Rattle.query_crossing_answer.specs.Crossing.{CrossingStep, CrossingScratch};
 ghost use Rattle.query_crossing_answer.specs.Codes.{Coded, wherever};
 use columns::Weight;
@@ -23,51 +22,9 @@ use query_crossing_answer::crossing_asked;
 use query_crossing_answer::nearest_right;
 use query_crossing_answer::reply;
 use query_questions::scratch_long;
+use query_search::Origin;
 use query_search::search;
 use query_search::write_weights;
-
-// The crossing weight and, where there is one, the weight column, over columns that hold vertices and edges alone.
-fn run_crossing(
-    ends_a: &[u32],
-    ends_b: &[u32],
-    weights: &[Weight],
-    boundary: &[u8],
-    numbers: &mut [u32],
-    list_ends: &mut [u32],
-    status: &mut [u8],
-    weight: &mut [Weight],
-    previous: &mut [u32],
-    node: &mut [u64],
-    leaf: &mut [u64],
-    out_weight: &mut [i32],
-    vertices: u32,
-) -> Weight
-    requires { ⌜ Searchable (length (now status)) (now «ends_a») (now «ends_b») (now weights) (now numbers) (now «list_ends») (now weight) (now previous) (now node) (now leaf) ⌝ }
-    requires { ⌜ (length (now boundary) ≡ length (now status)) × (vertices ≡ length (now status)) × (length (now status) ≤ length (now «out_weight»)) ⌝ }
-    ensures { λ r. ⌜ Coded r (crossing (graphOf (length (now (status .entry))) (now («ends_a» .entry)) (now («ends_b» .entry)) (now (boundary .entry))) (weighs (now (weights .entry)))) ⌝ }
-    ensures { λ r. ⌜ now («out_weight» .exit) ≡ wherever (crossing (graphOf (length (now (status .entry))) (now («ends_a» .entry)) (now («ends_b» .entry)) (now (boundary .entry))) (weighs (now (weights .entry)))) (leastFromLeft (graphOf (length (now (status .entry))) (now («ends_a» .entry)) (now («ends_b» .entry)) (now (boundary .entry))) (weighs (now (weights .entry)))) (now («out_weight» .entry)) ⌝ }
-    ensures { λ _. ⌜ Searched (graphOf (length (now (status .entry))) (now («ends_a» .entry)) (now («ends_b» .entry)) (now (boundary .entry)))
-        (fromLeft (graphOf (length (now (status .entry))) (now («ends_a» .entry)) (now («ends_b» .entry)) (now (boundary .entry))) (weighs (now (weights .entry))))
-        (now (numbers .entry)) (now (numbers .exit)) (now («list_ends» .exit)) (now (status .exit)) (now (weight .exit)) (now (previous .exit)) (now (node .exit)) (now (leaf .exit)) ⌝ }
-{
-    query_search::sources::begin_left(status, boundary);
-    search(
-        ends_a,
-        ends_b,
-        weights,
-        numbers,
-        list_ends,
-        status,
-        weight,
-        previous,
-        node,
-        leaf,
-        vertices,
-    );
-    let found = nearest_right(status, weight, boundary);
-    write_found(found, status, weight, out_weight);
-    found
-}
 
 // The weight column, where a crossing weight was found.
 fn write_found(found: Weight, status: &[u8], weight: &[Weight], out: &mut [i32])
@@ -107,7 +64,6 @@ pub fn crossing(
         (scratchOf (now (numbers .exit)) (now («list_ends» .exit)) (now (status .exit)) (now (weight .exit)) (now (previous .exit)) (now (node .exit)) (now (leaf .exit))) ⌝ }
 {
     let v = c.vertices as usize;
-    let e = c.edges as usize;
     let scratch = scratch_long(
         c.vertices,
         c.edges,
@@ -131,21 +87,23 @@ pub fn crossing(
         scratch,
     );
     if no == 0 {
-        let found = run_crossing(
-            &ends_a[..e],
-            &ends_b[..e],
-            &weights[..e],
-            &boundary[..v],
+        search(
+            c,
+            ends_a,
+            ends_b,
+            weights,
+            boundary,
+            Origin::Left,
             numbers,
-            &mut list_ends[..v],
-            &mut status[..v],
-            &mut weight[..v],
-            &mut previous[..v],
-            &mut node[..v],
-            &mut leaf[..v],
-            out_weight,
-            c.vertices,
+            list_ends,
+            status,
+            weight,
+            previous,
+            node,
+            leaf,
         );
+        let found = nearest_right(&status[..v], &weight[..v], &boundary[..v]);
+        write_found(found, &status[..v], &weight[..v], out_weight);
         return reply(found);
     }
     CrossingReply::Refused(no)

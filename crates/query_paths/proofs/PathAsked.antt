@@ -1,7 +1,7 @@
 -- What a path query that meets the questions before 17 says of its columns. Assumes nothing.
 use mathlib.Core.Path.{_≡_, refl, sym, ap, _∙_}
 use mathlib.Core.Logic.{_≢_}
-use mathlib.Core.Bool.{Bool, true, false, not, _&&_}
+use mathlib.Core.Bool.{Bool, true, false, not, _&&_, false≢true}
 use mathlib.Core.Option.{Option, some, none}
 use Prim.Native.Nat.{ℕ, zero, suc, _+_, _*_, _<_, _≤_}
 use native.Mathlib.Omega.{arith}
@@ -10,16 +10,15 @@ use borrow.Author.Tests.{leb-true, ltb-true, eq-eqb}
 use Rattle.columns.specs.Questions.{ask}
 use Rattle.columns.proofs.Tests.{and-both}
 use Rattle.engine_columns.specs.Records.{Engine}
-use Rattle.engine_columns.specs.Questions.{engineLong, engineSound}
 use Rattle.engine_columns.proofs.Refusals.{Long, Sound, met-of}
 use Rattle.query_questions.specs.Queries.{queryRefusal}
 use Rattle.engine_walks.specs.Answers.{FoundPath}
-use Rattle.query_paths.specs.declared.PathAnswer.{PathAnswer}
-use Rattle.query_paths.specs.declared.PathAnswer.the-variants.{Found, Refused}
-use Rattle.query_questions.specs.Scratch.{ScratchColumns}
-use Rattle.query_paths.specs.GetPath.{pathAsked, pathRefusal, PathSaid, PathScratchKept}
-use Rattle.columns_answers.proofs.Said.{refuses-of, refused-of}
+use Rattle.query_paths.specs.declared.PathAnswer.the-variants.{Refused}
+use Rattle.query_questions.specs.Scratch.{isFree}
+use Rattle.query_paths.specs.GetPath.{pathAsked, pathRefusal, PathSaid}
+use Rattle.columns_answers.proofs.Said.{refuses-of}
 use Rattle.query_search.proofs.Asked.{query-of}
+use Rattle.query_search.proofs.Scratch.{ask-kept, query-kept}
 
 pub record PathAsked (e : Engine) (scratch : Bool) (a b vertices steps : ℕ) : Type 0 where
   pub long : Long 0 e
@@ -33,11 +32,6 @@ pub record PathAsked (e : Engine) (scratch : Bool) (a b vertices steps : ℕ) : 
 
 differ-of : (a b : ℕ) → not (eqb a b) ≡ true → b ≢ a
 differ-of a b h e = let q = sym (ap not (eq-eqb a b (sym e))) ∙ h in let z : _≡_ {A = ℕ} 0 1 = cc in omega arith
-
--- a question with another number, and later ones with other numbers
-ask-other : (b : Bool) (n next k : ℕ) → n ≢ k → next ≢ k → ask b n next ≢ k
-ask-other true n next k f g e = g e
-ask-other false n next k f g e = f e
 
 module _ (e : Engine) (scratch : Bool) (a b vertices steps : ℕ) where
   pub path-asked : pathAsked e scratch a b vertices steps ≡ 0 → PathAsked e scratch a b vertices steps
@@ -65,20 +59,21 @@ module _ (e : Engine) (scratch : Bool) (a b vertices steps : ℕ) where
   path-number p q r s t u v w =
       p ∙ (λ i. queryRefusal e ((q ∙ (λ j. s j && (r ∙ (λ k. t k && u k)) j)) i) (v i) (w i))
 
+  -- a question before 17 leaves scratch as it was
+  pub kept-number : pathAsked e scratch a b vertices steps ≢ 0 → isFree (pathAsked e scratch a b vertices steps) ≡ false
+  kept-number f =
+      let v = e .counts .vertices in
+      query-kept e (leb v vertices && (leb v steps && scratch)) (ltb a v && ltb b v) (ask (not (eqb a b)) 16 0) (λ g. ask-kept (not (eqb a b)) 16 0 refl (λ x. absurd (x refl)) g) f
+
   -- 17 is no number of a question before 17
   pub before-17 : pathAsked e scratch a b vertices steps ≢ 17
-  before-17 =
-      ask-other (engineLong 0 e && (leb (e .counts .vertices) vertices && (leb (e .counts .vertices) steps && scratch))) 6 _ 17 (λ z. omega arith)
-      (ask-other (engineSound e) 7 _ 17 (λ z. omega arith)
-      (ask-other (ltb a (e .counts .vertices) && ltb b (e .counts .vertices)) 13 _ 17 (λ z. omega arith)
-      (ask-other (not (eqb a b)) 16 0 17 (λ z. omega arith) (λ z. omega arith))))
+  before-17 z = false≢true (sym (kept-number (λ x. absurd (omega arith))) ∙ ap isFree z)
+
+-- after success and after 17 scratch is free
+pub free-number : (p : Option FoundPath) → isFree (pathRefusal 0 p) ≡ true
+free-number none = refl
+free-number (some p) = refl
 
 pub reply-no : (n m : ℕ) (o : Option FoundPath) → m ≡ n → (m ≡ 0 → ⊥) → PathSaid n o (Refused m)
 reply-no n zero o e f = absurd (f refl)
 reply-no n (suc m) o e f = refuses-of (ap (λ k. pathRefusal k o) e) f
-
--- scratch is free after the search
-pub scratch-free : (r : PathAnswer) (o : Option FoundPath) (s₀ s : ScratchColumns) → PathSaid 0 o r → PathScratchKept r s₀ s
-scratch-free (Found len total) o s₀ s e = tt
-scratch-free (Refused n) none s₀ s e = λ f. absurd (f (e .number-is))
-scratch-free (Refused n) (some p) s₀ s e = absurd (refused-of e refl)

@@ -1,7 +1,6 @@
 -- What `get_path` answers and leaves in the columns that it writes.
 use Prim.Native.Nat.{ℕ, zero, suc}
 use mathlib.Core.Path.{_≡_}
-use mathlib.Core.Logic.{_≢_}
 use mathlib.Core.Bool.{Bool, true, false, not, cond, _&&_}
 use mathlib.Core.List.{List}
 use mathlib.Core.Option.{Option, some, none}
@@ -11,11 +10,12 @@ use Rattle.columns.specs.Lists.{over}
 use Rattle.columns.specs.Questions.{ask}
 use Rattle.columns_answers.specs.Said.{Said, accepts, refuses, Answered}
 use Rattle.engine_columns.specs.Records.{Engine}
-use Rattle.engine_walks.specs.Answers.{FoundPath, path}
+use Rattle.engine_walks.specs.Settling.{settled}
+use Rattle.engine_walks.specs.Answers.{only, FoundPath, path}
 use Rattle.query_paths.specs.declared.PathAnswer.{PathAnswer}
 use Rattle.query_paths.specs.declared.PathAnswer.the-variants.{Found, Refused}
 use Rattle.query_questions.specs.Queries.{graphIn, weightsIn, queryRefusal}
-use Rattle.query_questions.specs.Scratch.{ScratchColumns}
+use Rattle.query_questions.specs.Scratch.{ScratchColumns, ScratchAfter}
 
 -- document 01's number and values for each case: the path's length and total, both 0 at a refusal
 abbrev pub said : PathAnswer → Said (ℕ × ℕ)
@@ -67,7 +67,6 @@ pub record PathStep (e : Engine) (scratch : Bool) (a b : ℕ) (r : PathAnswer) (
   pub vertices-after : vertices ≡ cond (eqb (pathAsked e scratch a b (length vertices₀) (length steps₀)) 0) (verticesAfter (path (graphIn e) (weightsIn e) a b) vertices₀) vertices₀
   pub steps-after : steps ≡ cond (eqb (pathAsked e scratch a b (length vertices₀) (length steps₀)) 0) (stepsAfter (path (graphIn e) (weightsIn e) a b) steps₀) steps₀
 
--- a refused call leaves scratch as it was, unless its number is 17; after 17 and after success it may hold anything
-abbrev pub PathScratchKept : PathAnswer → ScratchColumns → ScratchColumns → Type 0
-PathScratchKept (Found len total) s₀ s = Unit {0}
-PathScratchKept (Refused n) s₀ s = n ≢ 17 → s ≡ s₀
+-- Engine, Crossing, last sentence: scratch holds after success and after 17 what the search from a with the end b leaves; a call that an earlier question refuses leaves it as it was.
+abbrev pub PathScratch : Engine → (a b : ℕ) → PathAnswer → ScratchColumns → ScratchColumns → Type 0
+PathScratch e a b r s₀ s = ScratchAfter (said r .number) (graphIn e) (settled (graphIn e) (weightsIn e) (only a) (some b)) s₀ s

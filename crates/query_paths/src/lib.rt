@@ -8,8 +8,7 @@ ghost use Rattle.engine_walks.specs.Answers.{path};
 ghost use Rattle.query_relaxing.specs.Ready.{stateOf, graphOf, weighs};
 ghost use Rattle.query_questions.specs.Queries.{scratchLong};
 ghost use Rattle.query_questions.specs.Scratch.{scratchOf};
-ghost use Rattle.query_paths.specs.GetPath.{PathSaid, verticesAfter, stepsAfter, PathStep, PathScratchKept};
-ghost use Rattle.query_search.specs.Search.{Searchable};
+ghost use Rattle.query_paths.specs.GetPath.{PathSaid, verticesAfter, stepsAfter, PathStep, PathScratch};
 ghost use Rattle.query_read_back.specs.Path.{pathOf};
 use columns::VertexIndex;
 use columns::Weight;
@@ -23,6 +22,7 @@ use query_read_back::is_taken;
 use query_read_back::load;
 use query_read_back::path_length;
 use query_read_back::write_path;
+use query_search::Origin;
 use query_search::search;
 
 // The path's length and total, or the number of the question that is not met.
@@ -63,46 +63,6 @@ fn found_path(
     PathAnswer::Refused(17)
 }
 
-// The path of a to b, over columns that hold vertices and edges alone.
-fn run_path(
-    ends_a: &[u32],
-    ends_b: &[u32],
-    weights: &[Weight],
-    numbers: &mut [u32],
-    list_ends: &mut [u32],
-    status: &mut [u8],
-    weight: &mut [Weight],
-    previous: &mut [u32],
-    node: &mut [u64],
-    leaf: &mut [u64],
-    out_vertices: &mut [u32],
-    out_steps: &mut [Weight],
-    a: u32,
-    b: u32,
-) -> PathAnswer
-    requires { ⌜ Searchable (length (now status)) (now «ends_a») (now «ends_b») (now weights) (now numbers) (now «list_ends») (now weight) (now previous) (now node) (now leaf) ⌝ }
-    requires { ⌜ (a < length (now status)) × (b < length (now status)) × (b ≡ a → ⊥) × (length (now status) ≤ length (now «out_vertices»)) × (length (now status) ≤ length (now «out_steps»)) ⌝ }
-    ensures { λ r. ⌜ ((m : List ℕ) → PathSaid 0 (path (graphOf (length (now (status .entry))) (now («ends_a» .entry)) (now («ends_b» .entry)) m) (weighs (now (weights .entry))) a b) r) ⌝ }
-    ensures { λ _. ⌜ ((m : List ℕ) → now («out_vertices» .exit) ≡ verticesAfter (path (graphOf (length (now (status .entry))) (now («ends_a» .entry)) (now («ends_b» .entry)) m) (weighs (now (weights .entry))) a b) (now («out_vertices» .entry))) ⌝ }
-    ensures { λ _. ⌜ ((m : List ℕ) → now («out_steps» .exit) ≡ stepsAfter (path (graphOf (length (now (status .entry))) (now («ends_a» .entry)) (now («ends_b» .entry)) m) (weighs (now (weights .entry))) a b) (now («out_steps» .entry))) ⌝ }
-{
-    query_search::sources::begin_at(status, a);
-    search(
-        ends_a,
-        ends_b,
-        weights,
-        numbers,
-        list_ends,
-        status,
-        weight,
-        previous,
-        node,
-        leaf,
-        b,
-    );
-    found_path(status, weight, previous, a, b, out_vertices, out_steps)
-}
-
 // The path of least weight from a to b: each vertex after a, up to b, with the weight of the step into it.
 // The columns from `numbers` on are scratch.
 pub fn get_path(
@@ -128,12 +88,11 @@ pub fn get_path(
     ensures { λ r. ⌜ PathStep (engine c (now («ends_a» .entry)) (now («ends_b» .entry)) (now (weights .entry)) (now (boundary .entry)) (now («log_edges» .entry)) (now («log_weights» .entry)))
         (scratchLong (c .vertices) (c .edges) (length (now (numbers .entry))) (length (now («list_ends» .entry))) (length (now (status .entry))) (length (now (weight .entry))) (length (now (previous .entry))) (length (now (node .entry))) (length (now (leaf .entry))))
         (a .0) (b .0) r (now («out_vertices» .entry)) (now («out_steps» .entry)) (now («out_vertices» .exit)) (now («out_steps» .exit)) ⌝ }
-    ensures { λ r. ⌜ PathScratchKept r
+    ensures { λ r. ⌜ PathScratch (engine c (now («ends_a» .entry)) (now («ends_b» .entry)) (now (weights .entry)) (now (boundary .entry)) (now («log_edges» .entry)) (now («log_weights» .entry))) (a .0) (b .0) r
         (scratchOf (now (numbers .entry)) (now («list_ends» .entry)) (now (status .entry)) (now (weight .entry)) (now (previous .entry)) (now (node .entry)) (now (leaf .entry)))
         (scratchOf (now (numbers .exit)) (now («list_ends» .exit)) (now (status .exit)) (now (weight .exit)) (now (previous .exit)) (now (node .exit)) (now (leaf .exit))) ⌝ }
 {
     let v = c.vertices as usize;
-    let e = c.edges as usize;
     let scratch = scratch_long(
         c.vertices,
         c.edges,
@@ -163,21 +122,29 @@ pub fn get_path(
         asked(a.0 != b.0, 16, 0),
     );
     if no == 0 {
-        return run_path(
-            &ends_a[..e],
-            &ends_b[..e],
-            &weights[..e],
+        search(
+            c,
+            ends_a,
+            ends_b,
+            weights,
+            boundary,
+            Origin::At(a.0, b.0),
             numbers,
             list_ends,
-            &mut status[..v],
-            &mut weight[..v],
-            &mut previous[..v],
+            status,
+            weight,
+            previous,
             node,
-            &mut leaf[..v],
-            out_vertices,
-            out_steps,
+            leaf,
+        );
+        return found_path(
+            &status[..v],
+            &weight[..v],
+            &previous[..v],
             a.0,
             b.0,
+            out_vertices,
+            out_steps,
         );
     }
     PathAnswer::Refused(no)

@@ -11,8 +11,6 @@ use Rattle.columns_neighbors.specs.Lists.{lists}
 use Rattle.engine_walks.specs.Graph.{Graph, edges}
 use Rattle.engine_walks.specs.Settling.{State, statusAt, weightAt}
 use Rattle.query_relaxing.specs.Ready.{keyOf}
-use Rattle.columns.specs.declared.Done.{Done}
-use Rattle.columns.specs.declared.Done.the-variants.{Accepted, Refused}
 
 -- the scratch columns of a query
 pub record ScratchColumns : Type 0 where
@@ -27,11 +25,6 @@ pub record ScratchColumns : Type 0 where
 abbrev pub scratchOf : (numbers ends status weight previous node leaf : List ℕ) → ScratchColumns
 scratchOf numbers ends status weight previous node leaf =
     record { numbers = numbers; ends = ends; status = status; weight = weight; previous = previous; node = node; leaf = leaf }
-
--- a refused call leaves scratch as it was; an accepted one leaves anything in it
-abbrev pub ScratchKept : Done → ScratchColumns → ScratchColumns → Type 0
-ScratchKept Accepted s₀ s = Unit {0}
-ScratchKept (Refused n) s₀ s = s ≡ s₀
 
 -- Engine, Crossing, last sentence: scratch is free after success and after 17 and 18.
 abbrev pub isFree : (number : ℕ) → Bool

@@ -14,7 +14,7 @@ use Rattle.columns.proofs.Tests.{and-both, within-at}
 use Rattle.columns_neighbors.proofs.Ends.{GraphSound, graph-says}
 use Rattle.engine_columns.specs.Records.{Engine}
 use Rattle.engine_columns.specs.Questions.{engineLong, engineSound}
-use Rattle.engine_columns.proofs.Refusals.{Long, long-of, Sound, sound-of, met-of, next-of}
+use Rattle.engine_columns.proofs.Refusals.{ColumnsLong, Long, long-of, ColumnsSound, Sound, sound-of, met-of, next-of}
 use Rattle.query_questions.specs.Queries.{scratchLong, queryRefusal}
 use Rattle.query_search.specs.Search.{Searchable}
 
@@ -87,32 +87,26 @@ cut-graph v e a b s =
       apart = λ j k h l o. s .apart j k h l (rw (ga j (omega arith), gb j (omega arith), ga k l, gb k l) at o);
     }
 
-module _ (e : Engine) (numbers ends status weight previous node leaf : List ℕ) (long : Long 0 e) (ok : Sound e)
-    (s : ScratchLong (e .counts .vertices) (e .counts .edges) (length numbers) (length ends) (length status) (length weight) (length previous) (length node) (length leaf)) where
-  abbrev v : ℕ
-  v = e .counts .vertices
-
-  abbrev E : ℕ
-  E = e .counts .edges
-
+module _ (v E : ℕ) (a b w m numbers ends status weight previous node leaf : List ℕ) (long : ColumnsLong v E a b w m) (ok : ColumnsSound v E a b w m)
+    (s : ScratchLong v E (length numbers) (length ends) (length status) (length weight) (length previous) (length node) (length leaf)) where
   pub cut-length : length (take v status) ≡ v
   cut-length = length-take-le v status (s .status-long)
 
-  pub searchable : Searchable (length (take v status)) (take E (e .endsA)) (take E (e .endsB)) (take E (e .weights)) numbers ends (take v weight) (take v previous) node (take v leaf)
+  pub searchable : Searchable (length (take v status)) (take E a) (take E b) (take E w) numbers (take v ends) (take v weight) (take v previous) (take v node) (take v leaf)
   searchable =
-      let la : length (take E (e .endsA)) ≡ E = length-take-le E (e .endsA) (long .columns .endsA) in
-      let lb : length (take E (e .endsB)) ≡ E = length-take-le E (e .endsB) (long .columns .endsB) in
-      let lw : length (take E (e .weights)) ≡ E = length-take-le E (e .weights) (long .columns .weights) in
+      let la : length (take E a) ≡ E = length-take-le E a (long .endsA) in
+      let lb : length (take E b) ≡ E = length-take-le E b (long .endsB) in
+      let lw : length (take E w) ≡ E = length-take-le E w (long .weights) in
       record {
-        graph = subst (λ n. GraphSound n (length (take E (e .endsA))) (take E (e .endsA)) (take E (e .endsB))) (sym cut-length)
-            (subst (λ k. GraphSound v k (take E (e .endsA)) (take E (e .endsB))) (sym la) (cut-graph v E (e .endsA) (e .endsB) (graph-says v E (e .endsA) (e .endsB) (ok .columns .graph))));
+        graph = subst (λ n. GraphSound n (length (take E a)) (take E a) (take E b)) (sym cut-length)
+            (subst (λ k. GraphSound v k (take E a) (take E b)) (sym la) (cut-graph v E a b (graph-says v E a b (ok .graph))));
         same-b = lb ∙ sym la;
         same-w = lw ∙ sym la;
-        light = λ k h. within-at weightLimit (take E (e .weights)) (ok .columns .weights) k h;
+        light = λ k h. within-at weightLimit (take E w) (ok .weights) k h;
         numbers-fit = omega (arith, s .numbers-long);
-        ends-fit = omega (arith, s .ends-long, cut-length);
+        ends-fit = omega (arith, length-take-le v ends (s .ends-long), cut-length);
         weight-fits = length-take-le v weight (s .weight-long) ∙ sym cut-length;
         previous-fits = length-take-le v previous (s .previous-long) ∙ sym cut-length;
-        node-fits = omega (arith, s .node-long, cut-length);
+        node-fits = omega (arith, length-take-le v node (s .node-long), cut-length);
         leaf-fits = length-take-le v leaf (s .leaf-long) ∙ sym cut-length;
       }

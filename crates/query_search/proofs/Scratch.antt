@@ -1,12 +1,13 @@
 -- What a search leaves in scratch, from what it leaves in columns cut to their counts: a cut column, with the places past it, is the whole one. Assumes nothing.
-use mathlib.Core.Path.{_≡_, refl, sym, ap, _∙_}
-use mathlib.Core.Bool.{true, false}
+use mathlib.Core.Path.{_≡_, refl, sym, ap, _∙_, subst}
+use mathlib.Core.Logic.{_≢_}
+use mathlib.Core.Bool.{Bool, true, false, _&&_}
 use mathlib.Core.List.{List, _++_}
 use Prim.Native.Nat.{ℕ, _+_, _*_, _-_, _<_, _≤_, min}
 use native.Mathlib.Decide.{decLt}
 use native.Mathlib.Omega.{arith}
-use lib.ListN.{length, getD, take, drop, List·getD-append}
-use lib.Seq.{ext-getD, length-take-le, drop-at}
+use lib.ListN.{length, getD, drop, List·getD-append}
+use lib.Seq.{ext-getD, drop-at}
 use borrow.Author.Tests.{lt-ltb, le-ltb}
 use Rattle.columns.specs.Lists.{each, over}
 use Rattle.columns.proofs.Counting.{length-each, getD-each}
@@ -14,25 +15,21 @@ use Rattle.query_queue.specs.Tree.{Tree, placeOf}
 use Rattle.columns_neighbors.specs.Lists.{lists}
 use Rattle.engine_walks.specs.Graph.{Graph, edges}
 use Rattle.engine_walks.specs.Settling.{State, statusAt, weightAt}
-use Rattle.query_relaxing.specs.Ready.{keyOf}
+use Rattle.query_relaxing.specs.Ready.{graphOf, keyOf}
+use Rattle.query_search.specs.declared.Origin.{Origin}
+use Rattle.columns.specs.Questions.{ask}
+use Rattle.engine_columns.specs.Records.{Engine}
+use Rattle.engine_columns.specs.Questions.{engineLong, engineSound}
+use Rattle.query_questions.specs.Queries.{queryRefusal}
 use Rattle.query_questions.specs.Scratch.{ScratchColumns, scratchOf, isFree, SearchLeft, ScratchAfter}
-use Rattle.query_search.specs.Search.{Searchable, Searched}
+use Rattle.query_search.specs.Search.{Searched, stateFrom}
 
--- where the ends of lists and the tree's inner places are cut too
-pub searchable-cut : {n v : ℕ} {a b w numbers ends weight previous node leaf : List ℕ} → v ≤ length ends → v ≤ length node → n ≡ v
-    → Searchable n a b w numbers ends weight previous node leaf → Searchable n a b w numbers (take v ends) weight previous (take v node) leaf
-searchable-cut {v = v} {ends = ends} {node = node} p q e s = record {
-  graph = s .graph;
-  same-b = s .same-b;
-  same-w = s .same-w;
-  light = s .light;
-  numbers-fit = s .numbers-fit;
-  ends-fit = omega (arith, length-take-le v ends p);
-  weight-fits = s .weight-fits;
-  previous-fits = s .previous-fits;
-  node-fits = omega (arith, length-take-le v node q);
-  leaf-fits = s .leaf-fits;
-}
+-- the same number of vertices by another name
+pub searched-as : {n n′ : ℕ} {a b m numbers₀ numbers ends status weight previous node leaf : List ℕ} (o : Origin) (w : ℕ → ℕ) → n ≡ n′
+    → Searched (graphOf n a b m) (stateFrom o (graphOf n a b m) w) numbers₀ numbers ends status weight previous node leaf
+    → Searched (graphOf n′ a b m) (stateFrom o (graphOf n′ a b m) w) numbers₀ numbers ends status weight previous node leaf
+searched-as {a = a} {b} {m} {numbers₀} {numbers} {ends} {status} {weight} {previous} {node} {leaf} o w e h =
+    subst (λ k. Searched (graphOf k a b m) (stateFrom o (graphOf k a b m) w) numbers₀ numbers ends status weight previous node leaf) e h
 
 -- a column from its values
 column-is : (column : List ℕ) (n : ℕ) (f : ℕ → ℕ) → length column ≡ n → ((v : ℕ) → v < n → getD column v 0 ≡ f v) → column ≡ each n f
@@ -80,3 +77,11 @@ scratch-free number g s scratch₀ scratch e h = record { free = λ z. h; kept =
 
 pub scratch-kept : (number : ℕ) (g : Graph) (s : State) (scratch : ScratchColumns) → isFree number ≡ false → ScratchAfter number g s scratch scratch
 scratch-kept number g s scratch e = record { free = λ z. absurd (let q : _≡_ {A = ℕ} 0 1 = cc in omega arith); kept = λ z. refl }
+
+-- a number of a question before 17 leaves it as it was
+pub ask-kept : (b : Bool) (number next : ℕ) → isFree number ≡ false → (next ≢ 0 → isFree next ≡ false) → ask b number next ≢ 0 → isFree (ask b number next) ≡ false
+ask-kept true number next p q f = q f
+ask-kept false number next p q f = p
+
+pub query-kept : (e : Engine) (fits inRange : Bool) (next : ℕ) → (next ≢ 0 → isFree next ≡ false) → queryRefusal e fits inRange next ≢ 0 → isFree (queryRefusal e fits inRange next) ≡ false
+query-kept e fits inRange next q = ask-kept (engineLong 0 e && fits) 6 _ refl (ask-kept (engineSound e) 7 _ refl (ask-kept inRange 13 next refl q))

@@ -2,13 +2,17 @@
 use Prim.Native.Nat.{ℕ, _+_, _*_, _<_, _≤_}
 use mathlib.Core.Path.{_≡_}
 use mathlib.Core.List.{List}
-use lib.ListN.{length, getD}
-use Rattle.columns.specs.Lists.{over}
+use lib.ListN.{length, getD, set, replicate}
+use Rattle.columns.specs.Lists.{each, over}
 use Rattle.columns_neighbors.specs.Lists.{lists}
 use Rattle.columns_neighbors.proofs.Ends.{GraphSound}
 use Rattle.engine_walks.specs.Graph.{Graph}
-use Rattle.engine_walks.specs.Settling.{State}
-use Rattle.query_relaxing.specs.Ready.{stateOf, Ready}
+use Rattle.engine_walks.specs.Lists.{delta}
+use Rattle.engine_walks.specs.Settling.{State, weightAt, settled}
+use Rattle.engine_walks.specs.Answers.{only, fromLeft}
+use Rattle.query_relaxing.specs.Ready.{stateOf, Ready, endOf, sumLimit}
+use Rattle.query_search.specs.declared.Origin.{Origin}
+use Rattle.query_search.specs.declared.Origin.the-variants.{At, Left}
 
 -- columns cut to their counts, ready for a search
 pub record Searchable (n : ℕ) (a b w numbers ends weight previous node leaf : List ℕ) : Type 0 where
@@ -33,6 +37,34 @@ pub record Waiting (n : ℕ) (status : List ℕ) (stop : ℕ) : Type 0 where
 pub record ListsBuilt (n : ℕ) (a b numbers₀ numbers ends : List ℕ) : Type 0 where
   pub numbers-are : numbers ≡ over (lists a b (length a) n) numbers₀
   pub ends-are : (v : ℕ) → v < n → getD ends v 0 ≡ length (lists a b (length a) (v + 1))
+
+-- where a search begins: a vertex that is not the one after which it stops
+abbrev pub Starts : Origin → ℕ → Type 0
+Starts (At a stop) n = (a < n) × (stop ≡ a → ⊥)
+Starts Left n = Unit {0}
+
+-- Engine, Settling, sentence 3, and Crossing, sentence 1: the status bytes before the first turn; the sources wait.
+abbrev pub firstStatus : Origin → (boundary : List ℕ) (n : ℕ) → List ℕ
+firstStatus (At a stop) boundary n = set (replicate n 0) a 1
+firstStatus Left boundary n = each n (λ v. delta (getD boundary v 0) 1)
+
+-- the number after which the search stops; n is that of no vertex
+abbrev pub stopIn : Origin → (n : ℕ) → ℕ
+stopIn (At a stop) n = stop
+stopIn Left n = n
+
+-- Engine, Settling, sentence 3, and Crossing, sentence 1: the state that the search leaves.
+abbrev pub stateFrom : Origin → Graph → (ℕ → ℕ) → State
+stateFrom (At a stop) g w = settled g w (only a) (endOf (g .vertices) stop)
+stateFrom Left g w = fromLeft g w
+
+-- Records, last sentence: a state of n vertices, few enough, whose weights fit.
+pub record Settles (n : ℕ) (s : State) : Type 0 where
+  pub few : n ≤ 4096
+  pub status-fits : length (s .status) ≡ n
+  pub weight-fits : length (s .weight) ≡ n
+  pub previous-fits : length (s .previous) ≡ n
+  pub light : (v : ℕ) → v < n → weightAt s v < sumLimit
 
 -- columns cut to their counts, after a search of the graph g that settled in the state s
 pub record Searched (g : Graph) (s : State) (numbers₀ numbers ends status weight previous node leaf : List ℕ) : Type 0 where

@@ -2,25 +2,39 @@
 pub mod sources;
 
 ghost use mathlib.Core.Path.{_≡_};
-ghost use mathlib.Core.Bool.{cond};
-ghost use mathlib.Core.List.{List};
+ghost use mathlib.Core.Bool.{true, cond};
+ghost use mathlib.Core.List.{List, []};
 ghost use Prim.Native.Nat.{ℕ, _<_, _≤_};
 ghost use lib.ListN.{length, getD};
 ghost use lib.Seq.{sets};
 ghost use lib.Dec.{eqb};
 ghost use lib.IntN.{pos, negsuc};
 ghost use Rattle.columns.specs.Lists.{each};
-ghost use Rattle.engine_walks.specs.Settling.{settled};
 ghost use Rattle.engine_walks.specs.Answers.{tableWeight, tablePrevious};
-ghost use Rattle.query_relaxing.specs.Ready.{graphOf, weighs, stateOf, Ready, sources, endOf, sumLimit};
-ghost use Rattle.query_search.specs.Search.{Searchable, Waiting, ListsBuilt};
+ghost use Rattle.query_relaxing.specs.Ready.{graphOf, weighs, stateOf, sumLimit};
+ghost use Rattle.engine_columns.specs.Records.{engine};
+ghost use Rattle.engine_columns.specs.Questions.{columnsLong, columnsSound};
+ghost use Rattle.query_questions.specs.Queries.{graphIn, weightsIn, scratchLong};
+ghost use Rattle.query_questions.specs.Scratch.{scratchOf, SearchLeft};
+ghost use Rattle.query_search.specs.Search.{Searchable, Searched, Starts, stateFrom, Settles};
 use columns::Weight;
+use engine_columns::EngineCounts;
 
-// Builds the neighbour lists and settles from the vertices that wait.
-pub fn search(
+// Where a search begins, and after which vertex it stops: at a vertex, with the number after which it stops, one that no vertex has for none; or at every
+// left vertex, with none.
+pub enum Origin {
+    At(u32, u32),
+    Left,
+}
+
+// The search over columns that hold vertices and edges alone: the first status bytes, the neighbour lists, and the turns of settling.
+fn search_cut(
     ends_a: &[u32],
     ends_b: &[u32],
     weights: &[Weight],
+    boundary: &[u8],
+    origin: Origin,
+    vertices: u32,
     numbers: &mut [u32],
     list_ends: &mut [u32],
     status: &mut [u8],
@@ -28,14 +42,14 @@ pub fn search(
     previous: &mut [u32],
     node: &mut [u64],
     leaf: &mut [u64],
-    stop: u32,
 )
     requires { ⌜ Searchable (length (now status)) (now «ends_a») (now «ends_b») (now weights) (now numbers) (now «list_ends») (now weight) (now previous) (now node) (now leaf) ⌝ }
-    requires { ⌜ Waiting (length (now status)) (now status) stop ⌝ }
-    ensures { λ _. ⌜ ((m : List ℕ) → stateOf (now (status .exit)) (now (weight .exit)) (now (previous .exit)) ≡ settled (graphOf (length (now (status .entry))) (now («ends_a» .entry)) (now («ends_b» .entry)) m) (weighs (now (weights .entry))) (sources (now (status .entry))) (endOf (length (now (status .entry))) stop)) ⌝ }
-    ensures { λ _. ⌜ Ready (length (now (status .entry))) (stateOf (now (status .exit)) (now (weight .exit)) (now (previous .exit))) (now (node .exit)) (now (leaf .exit)) ⌝ }
-    ensures { λ _. ⌜ ListsBuilt (length (now (status .entry))) (now («ends_a» .entry)) (now («ends_b» .entry)) (now (numbers .entry)) (now (numbers .exit)) (now («list_ends» .exit)) ⌝ }
+    requires { ⌜ (length (now boundary) ≡ length (now status)) × (vertices ≡ length (now status)) × Starts origin (length (now status)) ⌝ }
+    ensures { λ _. ⌜ Searched (graphOf (length (now (status .entry))) (now («ends_a» .entry)) (now («ends_b» .entry)) (now (boundary .entry)))
+        (stateFrom origin (graphOf (length (now (status .entry))) (now («ends_a» .entry)) (now («ends_b» .entry)) (now (boundary .entry))) (weighs (now (weights .entry))))
+        (now (numbers .entry)) (now (numbers .exit)) (now («list_ends» .exit)) (now (status .exit)) (now (weight .exit)) (now (previous .exit)) (now (node .exit)) (now (leaf .exit)) ⌝ }
 {
+    sources::begin_status(origin, status, boundary);
     columns_neighbors::lists::fill_lists(
         ends_a,
         ends_b,
@@ -57,7 +71,50 @@ pub fn search(
         previous,
         node,
         leaf,
-        stop,
+        sources::stop_in(origin, vertices),
+    );
+}
+
+// The search of an engine graph: scratch then holds the neighbour lists and the settled state, in its first places.
+pub fn search(
+    c: EngineCounts,
+    ends_a: &[u32],
+    ends_b: &[u32],
+    weights: &[Weight],
+    boundary: &[u8],
+    origin: Origin,
+    numbers: &mut [u32],
+    list_ends: &mut [u32],
+    status: &mut [u8],
+    weight: &mut [Weight],
+    previous: &mut [u32],
+    node: &mut [u64],
+    leaf: &mut [u64],
+)
+    requires { ⌜ (columnsLong (c .vertices) (c .edges) (now «ends_a») (now «ends_b») (now weights) (now boundary) ≡ true) × (columnsSound (c .vertices) (c .edges) (now «ends_a») (now «ends_b») (now weights) (now boundary) ≡ true) ⌝ }
+    requires { ⌜ (scratchLong (c .vertices) (c .edges) (length (now numbers)) (length (now «list_ends»)) (length (now status)) (length (now weight)) (length (now previous)) (length (now node)) (length (now leaf)) ≡ true) × Starts origin (c .vertices) ⌝ }
+    ensures { λ _. ⌜ SearchLeft (graphIn (engine c (now («ends_a» .entry)) (now («ends_b» .entry)) (now (weights .entry)) (now (boundary .entry)) [] []))
+        (stateFrom origin (graphIn (engine c (now («ends_a» .entry)) (now («ends_b» .entry)) (now (weights .entry)) (now (boundary .entry)) [] [])) (weightsIn (engine c (now («ends_a» .entry)) (now («ends_b» .entry)) (now (weights .entry)) (now (boundary .entry)) [] [])))
+        (scratchOf (now (numbers .entry)) (now («list_ends» .entry)) (now (status .entry)) (now (weight .entry)) (now (previous .entry)) (now (node .entry)) (now (leaf .entry)))
+        (scratchOf (now (numbers .exit)) (now («list_ends» .exit)) (now (status .exit)) (now (weight .exit)) (now (previous .exit)) (now (node .exit)) (now (leaf .exit))) ⌝ }
+    ensures { λ _. ⌜ Settles (c .vertices) (stateFrom origin (graphIn (engine c (now («ends_a» .entry)) (now («ends_b» .entry)) (now (weights .entry)) (now (boundary .entry)) [] [])) (weightsIn (engine c (now («ends_a» .entry)) (now («ends_b» .entry)) (now (weights .entry)) (now (boundary .entry)) [] []))) ⌝ }
+{
+    let v = c.vertices as usize;
+    let e = c.edges as usize;
+    search_cut(
+        &ends_a[..e],
+        &ends_b[..e],
+        &weights[..e],
+        &boundary[..v],
+        origin,
+        c.vertices,
+        numbers,
+        &mut list_ends[..v],
+        &mut status[..v],
+        &mut weight[..v],
+        &mut previous[..v],
+        &mut node[..v],
+        &mut leaf[..v],
     );
 }
 

@@ -8,10 +8,12 @@ ghost use Rattle.engine_walks.specs.Lists.{delta};
 ghost use lib.Dec.{eqb};
 ghost use Rattle.columns.specs.Lists.{each};
 ghost use Rattle.query_relaxing.specs.Ready.{stateOf, Ready, Keyed};
+ghost use Rattle.query_search.specs.Search.{firstStatus, stopIn};
+use super::Origin;
 use columns::Weight;
 
 // Every vertex is absent but a, which waits.
-pub fn begin_at(status: &mut [u8], a: u32)
+fn begin_at(status: &mut [u8], a: u32)
     ensures { λ _. ⌜ now (status .exit) ≡ set (replicate (length (now (status .entry))) 0) a 1 ⌝ }
 {
     let n = status.len();
@@ -30,7 +32,7 @@ fn left_mark(boundary: u8) -> u8
 }
 
 // Every left vertex waits, every other is absent.
-pub fn begin_left(status: &mut [u8], boundary: &[u8])
+fn begin_left(status: &mut [u8], boundary: &[u8])
     requires { ⌜ length (now status) ≡ length (now boundary) ⌝ }
     ensures { λ _. ⌜ now (status .exit) ≡ each (length (now (status .entry))) (λ v. delta (getD (now (boundary .entry)) v 0) 1) ⌝ }
 {
@@ -38,6 +40,27 @@ pub fn begin_left(status: &mut [u8], boundary: &[u8])
     while v < status.len() {
         status[v] = left_mark(boundary[v]);
         v += 1;
+    }
+}
+
+// The status bytes before the first turn.
+pub fn begin_status(origin: Origin, status: &mut [u8], boundary: &[u8])
+    requires { ⌜ length (now status) ≡ length (now boundary) ⌝ }
+    ensures { λ _. ⌜ now (status .exit) ≡ firstStatus origin (now (boundary .entry)) (length (now (status .entry))) ⌝ }
+{
+    match origin {
+        Origin::At(a, stop) => begin_at(status, a),
+        Origin::Left => begin_left(status, boundary),
+    }
+}
+
+// The number after which the search stops: that of no vertex where it begins at the left.
+pub fn stop_in(origin: Origin, vertices: u32) -> u32
+    ensures { λ r. ⌜ r ≡ stopIn origin vertices ⌝ }
+{
+    match origin {
+        Origin::At(a, stop) => stop,
+        Origin::Left => vertices,
     }
 }
 

@@ -1,6 +1,7 @@
 -- What an accepted table query says of its columns. Assumes nothing.
-use mathlib.Core.Path.{_≡_, _∙_}
-use mathlib.Core.Bool.{Bool, true, _&&_}
+use mathlib.Core.Path.{_≡_, refl, _∙_}
+use mathlib.Core.Logic.{_≢_}
+use mathlib.Core.Bool.{Bool, true, false, _&&_}
 use Prim.Native.Nat.{ℕ, _<_, _≤_}
 use lib.Dec.{leb, ltb}
 use borrow.Author.Tests.{leb-true, ltb-true}
@@ -8,7 +9,9 @@ use Rattle.columns.proofs.Tests.{and-both}
 use Rattle.engine_columns.specs.Records.{Engine}
 use Rattle.engine_columns.proofs.Refusals.{Long, Sound}
 use Rattle.query_questions.specs.Queries.{queryRefusal}
+use Rattle.query_questions.specs.Scratch.{isFree}
 use Rattle.query_search.proofs.Asked.{query-of}
+use Rattle.query_search.proofs.Scratch.{query-kept}
 use Rattle.query_tables.specs.declared.End.{End}
 use Rattle.query_tables.specs.Ends.{endInRange}
 use Rattle.query_tables.specs.Steps.{tableRefusal}
@@ -46,3 +49,9 @@ module _ (e : Engine) (scratch : Bool) (source : ℕ) (end : End) (weights previ
       → er ≡ endInRange end (e .counts .vertices) → no ≡ tableRefusal e scratch source end weights previous
   table-number p q r s t u v w =
       p ∙ (λ i. queryRefusal e ((q ∙ (λ j. s j && (r ∙ (λ k. t k && u k)) j)) i) ((v ∙ (λ j. ltb source (e .counts .vertices) && w j)) i) 0)
+
+  -- a refused query leaves scratch as it was
+  pub kept-number : tableRefusal e scratch source end weights previous ≢ 0 → isFree (tableRefusal e scratch source end weights previous) ≡ false
+  kept-number f =
+      let v = e .counts .vertices in
+      query-kept e (leb v weights && (leb v previous && scratch)) (ltb source v && endInRange end v) 0 (λ x. absurd (x refl)) f

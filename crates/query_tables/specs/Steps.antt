@@ -3,6 +3,7 @@ use Prim.Native.Nat.{ℕ}
 use mathlib.Core.Path.{_≡_}
 use mathlib.Core.Bool.{Bool, _&&_}
 use mathlib.Core.List.{List}
+use mathlib.Core.Option.{none}
 use lib.ListN.{length}
 use lib.Dec.{leb, ltb}
 use lib.IntN.{ℤ}
@@ -11,9 +12,11 @@ use Rattle.columns_answers.specs.Said.{Answered}
 use Rattle.columns_answers.specs.Done.{said}
 use Rattle.columns.specs.declared.Done.{Done}
 use Rattle.engine_columns.specs.Records.{Engine}
-use Rattle.engine_walks.specs.Answers.{table}
+use Rattle.engine_walks.specs.Settling.{settled}
+use Rattle.engine_walks.specs.Answers.{only, table}
 use Rattle.query_tables.specs.declared.End.{End}
 use Rattle.query_questions.specs.Queries.{graphIn, weightsIn, queryRefusal}
+use Rattle.query_questions.specs.Scratch.{ScratchColumns, ScratchAfter}
 use Rattle.query_tables.specs.Ends.{endIn, endInRange}
 
 -- the number of the first question of a table query that is not met, or 0; `scratch` says whether scratch is long enough
@@ -26,3 +29,14 @@ pub record TableStep (e : Engine) (scratch : Bool) (source : ℕ) (end : End) (r
   pub answer : Answered (said r) (tableRefusal e scratch source end (length weights₀) (length previous₀)) tt tt
   pub weights-after : weights ≡ after (tableRefusal e scratch source end (length weights₀) (length previous₀)) (table (graphIn e) (weightsIn e) source (endIn end) .weights) weights₀
   pub previous-after : previous ≡ after (tableRefusal e scratch source end (length weights₀) (length previous₀)) (table (graphIn e) (weightsIn e) source (endIn end) .previous) previous₀
+
+-- Engine, Crossing, last sentence: scratch holds after success what the search from the source leaves; a refused call leaves it as it was.
+abbrev pub TableScratch : Engine → (source : ℕ) → End → Done → ScratchColumns → ScratchColumns → Type 0
+TableScratch e source end r s₀ s = ScratchAfter (said r .number) (graphIn e) (settled (graphIn e) (weightsIn e) (only source) (endIn end)) s₀ s
+
+-- Engine, Table, and Crossing, last sentence: what a table from v with no end leaves where it serves another call: the two columns of the table and scratch, by the number of that
+-- call's answer. A refused call leaves them as they were.
+pub record TableInside (number : ℕ) (e : Engine) (v : ℕ) (least₀ : List ℤ) (before₀ : List ℕ) (s₀ : ScratchColumns) (least : List ℤ) (before : List ℕ) (s : ScratchColumns) : Type 0 where
+  pub least-after : least ≡ after number (table (graphIn e) (weightsIn e) v none .weights) least₀
+  pub before-after : before ≡ after number (table (graphIn e) (weightsIn e) v none .previous) before₀
+  pub scratch-after : ScratchAfter number (graphIn e) (settled (graphIn e) (weightsIn e) (only v) none) s₀ s

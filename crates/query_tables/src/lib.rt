@@ -9,8 +9,8 @@ ghost use Rattle.engine_walks.specs.Answers.{table};
 ghost use Rattle.query_relaxing.specs.Ready.{graphOf, weighs, endOf};
 ghost use Rattle.query_questions.specs.Queries.{scratchLong};
 ghost use Rattle.query_tables.specs.Ends.{endInRange, stopOf};
-ghost use Rattle.query_tables.specs.Steps.{TableStep};
-ghost use Rattle.query_questions.specs.Scratch.{ScratchKept, scratchOf};
+ghost use Rattle.query_tables.specs.Steps.{TableStep, TableScratch};
+ghost use Rattle.query_questions.specs.Scratch.{scratchOf};
 ghost use Rattle.query_search.specs.Search.{Searchable};
 use columns::Done;
 use columns::VertexIndex;
@@ -21,6 +21,7 @@ use engine_columns::EngineCounts;
 use query_questions::named_stop;
 use query_questions::query_refusal;
 use query_questions::scratch_long;
+use query_search::Origin;
 use query_search::search;
 use query_search::write_previous;
 use query_search::write_weights;
@@ -51,46 +52,6 @@ fn stop_of(end: End, source: u32, vertices: u32) -> u32
     }
 }
 
-// The table from a source, over columns that hold vertices and edges alone.
-fn run_table(
-    ends_a: &[u32],
-    ends_b: &[u32],
-    weights: &[Weight],
-    numbers: &mut [u32],
-    list_ends: &mut [u32],
-    status: &mut [u8],
-    weight: &mut [Weight],
-    previous: &mut [u32],
-    node: &mut [u64],
-    leaf: &mut [u64],
-    out_weight: &mut [i32],
-    out_previous: &mut [u32],
-    source: u32,
-    stop: u32,
-)
-    requires { ⌜ Searchable (length (now status)) (now «ends_a») (now «ends_b») (now weights) (now numbers) (now «list_ends») (now weight) (now previous) (now node) (now leaf) ⌝ }
-    requires { ⌜ (source < length (now status)) × (stop ≡ source → ⊥) × (length (now status) ≤ length (now «out_weight»)) × (length (now status) ≤ length (now «out_previous»)) ⌝ }
-    ensures { λ _. ⌜ ((m : List ℕ) → now («out_weight» .exit) ≡ sets (now («out_weight» .entry)) 0 (table (graphOf (length (now (status .entry))) (now («ends_a» .entry)) (now («ends_b» .entry)) m) (weighs (now (weights .entry))) source (endOf (length (now (status .entry))) stop) .weights)) ⌝ }
-    ensures { λ _. ⌜ ((m : List ℕ) → now («out_previous» .exit) ≡ sets (now («out_previous» .entry)) 0 (table (graphOf (length (now (status .entry))) (now («ends_a» .entry)) (now («ends_b» .entry)) m) (weighs (now (weights .entry))) source (endOf (length (now (status .entry))) stop) .previous)) ⌝ }
-{
-    query_search::sources::begin_at(status, source);
-    search(
-        ends_a,
-        ends_b,
-        weights,
-        numbers,
-        list_ends,
-        status,
-        weight,
-        previous,
-        node,
-        leaf,
-        stop,
-    );
-    write_weights(status, weight, out_weight);
-    write_previous(status, previous, out_previous);
-}
-
 // The least weight from the source and the previous vertex of every vertex, up to the named end: -1 and 0 where a vertex was not taken.
 // The columns from `numbers` on are scratch.
 pub fn all_edges_with_terminate(
@@ -116,12 +77,11 @@ pub fn all_edges_with_terminate(
     ensures { λ r. ⌜ TableStep (engine c (now («ends_a» .entry)) (now («ends_b» .entry)) (now (weights .entry)) (now (boundary .entry)) (now («log_edges» .entry)) (now («log_weights» .entry)))
         (scratchLong (c .vertices) (c .edges) (length (now (numbers .entry))) (length (now («list_ends» .entry))) (length (now (status .entry))) (length (now (weight .entry))) (length (now (previous .entry))) (length (now (node .entry))) (length (now (leaf .entry))))
         (source .0) end r (now («out_weight» .entry)) (now («out_previous» .entry)) (now («out_weight» .exit)) (now («out_previous» .exit)) ⌝ }
-    ensures { λ r. ⌜ ScratchKept r
+    ensures { λ r. ⌜ TableScratch (engine c (now («ends_a» .entry)) (now («ends_b» .entry)) (now (weights .entry)) (now (boundary .entry)) (now («log_edges» .entry)) (now («log_weights» .entry))) (source .0) end r
         (scratchOf (now (numbers .entry)) (now («list_ends» .entry)) (now (status .entry)) (now (weight .entry)) (now (previous .entry)) (now (node .entry)) (now (leaf .entry)))
         (scratchOf (now (numbers .exit)) (now («list_ends» .exit)) (now (status .exit)) (now (weight .exit)) (now (previous .exit)) (now (node .exit)) (now (leaf .exit))) ⌝ }
 {
     let v = c.vertices as usize;
-    let e = c.edges as usize;
     let scratch = scratch_long(
         c.vertices,
         c.edges,
@@ -152,22 +112,23 @@ pub fn all_edges_with_terminate(
     );
     if no == 0 {
         let stop = stop_of(end, source.0, c.vertices);
-        run_table(
-            &ends_a[..e],
-            &ends_b[..e],
-            &weights[..e],
+        search(
+            c,
+            ends_a,
+            ends_b,
+            weights,
+            boundary,
+            Origin::At(source.0, stop),
             numbers,
             list_ends,
-            &mut status[..v],
-            &mut weight[..v],
-            &mut previous[..v],
+            status,
+            weight,
+            previous,
             node,
-            &mut leaf[..v],
-            out_weight,
-            out_previous,
-            source.0,
-            stop,
+            leaf,
         );
+        write_weights(&status[..v], &weight[..v], out_weight);
+        write_previous(&status[..v], &previous[..v], out_previous);
         return Done::Accepted;
     }
     Done::Refused(no)
@@ -196,7 +157,7 @@ pub fn all_edges(
     ensures { λ r. ⌜ TableStep (engine c (now («ends_a» .entry)) (now («ends_b» .entry)) (now (weights .entry)) (now (boundary .entry)) (now («log_edges» .entry)) (now («log_weights» .entry)))
         (scratchLong (c .vertices) (c .edges) (length (now (numbers .entry))) (length (now («list_ends» .entry))) (length (now (status .entry))) (length (now (weight .entry))) (length (now (previous .entry))) (length (now (node .entry))) (length (now (leaf .entry))))
         (source .0) End.None r (now («out_weight» .entry)) (now («out_previous» .entry)) (now («out_weight» .exit)) (now («out_previous» .exit)) ⌝ }
-    ensures { λ r. ⌜ ScratchKept r
+    ensures { λ r. ⌜ TableScratch (engine c (now («ends_a» .entry)) (now («ends_b» .entry)) (now (weights .entry)) (now (boundary .entry)) (now («log_edges» .entry)) (now («log_weights» .entry))) (source .0) End.None r
         (scratchOf (now (numbers .entry)) (now («list_ends» .entry)) (now (status .entry)) (now (weight .entry)) (now (previous .entry)) (now (node .entry)) (now (leaf .entry)))
         (scratchOf (now (numbers .exit)) (now («list_ends» .exit)) (now (status .exit)) (now (weight .exit)) (now (previous .exit)) (now (node .exit)) (now (leaf .exit))) ⌝ }
 {

@@ -10,15 +10,19 @@ use lib.Seq.{sets, length-take-le}
 use Rattle.columns.specs.Lists.{each}
 use Rattle.columns.proofs.Columns.{length-over, after-accepted, after-refused}
 use Rattle.engine_columns.specs.Records.{Engine, engine}
-use Rattle.engine_walks.specs.Answers.{table}
+use Rattle.engine_walks.specs.Settling.{settled}
+use Rattle.engine_walks.specs.Answers.{only, table}
 use Rattle.query_tables.specs.declared.End.the-variants.{None}
 use Rattle.query_questions.specs.Queries.{graphIn, weightsIn, scratchLong}
+use Rattle.query_questions.specs.Scratch.{scratchOf, isFree}
+use Rattle.query_search.proofs.Scratch.{scratch-kept}
 use Rattle.query_tables.specs.Steps.{tableRefusal}
 use Rattle.columns_answers.proofs.Said.{accepts-of, refuses-of}
 use Rattle.query_tables.proofs.Sources.{table-weights-length}
 use Rattle.prebuilt_calls.specs.Rows.{row, rowRefusal}
 use Rattle.prebuilt_entries.specs.Entries.{rowEntry}
-use Rattle.prebuilt_calls.proofs.Entries.{RowAsked, row-asked, table-met, row-number, row-over}
+use Rattle.prebuilt_calls.proofs.Entries.{RowAsked, row-asked, table-met, row-kept, row-number, row-over}
+use Rattle.prebuilt_calls.proofs.Replies.{inside-of}
 use borrow.Author.Needs.{needs}
 use Rattle.prebuilt_calls.proofs.fill_row.Statement.{statement}
 use Rattle.prebuilt_calls.proofs.fill_row.Tie as tie
@@ -99,6 +103,7 @@ returns c =
     let w = c .before .before .before .before .before .before .before .before .before .before .before .before .before .before .before .before .before .before .before .before .before .all-edges .ensures .0 .weights-after ∙ after-accepted (tableRefusal (engine-of s) (scratch-at s) (s .args .vertex .0) None (length (s .args .out .now)) (length (s .args .before .now))) (table (graphIn (engine-of s)) (weightsIn (engine-of s)) (s .args .vertex .0) none .weights) (s .args .out .now) (table-met (engine-of s) (scratch-at s) (s .args .vertex .0) _ _ _ k) in
     let lt = table-weights-length (graphIn (engine-of s)) (weightsIn (engine-of s)) (s .args .vertex .0) none in
     let lb = length-take-le (s .args .c .vertices) (s .args .boundary .now) (k .long .columns .boundary) in
+    let inside = inside-of 0 (c .before .before .before .before .before .before .before .before .before .before .before .before .before .before .before .before .before .before .before .before .before .all-edges .ensures .0) (c .before .before .before .before .before .before .before .before .before .before .before .before .before .before .before .before .before .before .before .before .before .all-edges .ensures .1) (c .before .before .before .before .before .before .before .before .before .before .before .before .before .before .before .before .before .before .before .before .before .all-edges .ensures .0 .answer .number-is ∙ table-met (engine-of s) (scratch-at s) (s .args .vertex .0) _ _ _ k) in
     let bytes : List ℕ = take (s .args .c .vertices) (s .args .boundary .now) in (
       record {
         answer = accepts-of z;
@@ -106,7 +111,7 @@ returns c =
             ∙ row-over bytes (s .args .nearest .now) (s .args .vertex .0) (table (graphIn (engine-of s)) (weightsIn (engine-of s)) (s .args .vertex .0) none .weights) (s .args .out .now) (s .args .c .vertices) lt (k .out-long)
             ∙ sym (after-accepted (number-at s) (row (graphIn (engine-of s)) (weightsIn (engine-of s)) (s .args .nearest .now) (s .args .vertex .0)) (s .args .out .now) z);
       },
-      (tt, tt),
+      record { before-after = inside .before-after; scratch-after = inside .scratch-after },
     )
 
 returns-2 : tie.Need-returns-2
@@ -119,7 +124,11 @@ returns-2 c =
         answer = refuses-of d (c .if1 .left);
         out-after = sym (after-refused (number-at s) (row (graphIn (engine-of s)) (weightsIn (engine-of s)) (s .args .nearest .now) (s .args .vertex .0)) (s .args .out .now) f);
       },
-      (refl, refl),
+      record {
+        before-after = sym (after-refused (c .before .query-refusal .result) (table (graphIn (engine-of s)) (weightsIn (engine-of s)) (s .args .vertex .0) none .previous) (s .args .before .now) (c .if1 .left));
+        scratch-after = scratch-kept _ (graphIn (engine-of s)) (settled (graphIn (engine-of s)) (weightsIn (engine-of s)) (only (s .args .vertex .0)) none)
+            (scratchOf (s .args .numbers .now) (s .args .list-ends .now) (s .args .status .now) (s .args .weight .now) (s .args .previous .now) (s .args .node .now) (s .args .leaf .now)) (ap isFree d ∙ row-kept (engine-of s) (scratch-at s) (s .args .vertex .0) _ _ _ f);
+      },
     )
 
 pub fill-row-spec : {M : Type 1} → statement M

@@ -1,5 +1,5 @@
 -- `query_crossings::crossing` meets its contract. Assumes nothing.
-use mathlib.Core.Path.{_≡_, sym, ap, _∙_, subst}
+use mathlib.Core.Path.{_≡_, refl, sym, ap, _∙_}
 use Prim.Native.Nat.{ℕ, _<_, _≤_}
 use native.Mathlib.Omega.{arith}
 use mathlib.Core.Bool.{Bool}
@@ -11,15 +11,19 @@ use Rattle.columns.proofs.Columns.{after-refused}
 use Rattle.columns_answers.specs.Said.{Answered}
 use Rattle.columns_answers.proofs.Said.{refuses-of}
 use Rattle.engine_columns.specs.Records.{Engine, engine}
+use Rattle.engine_columns.proofs.Refusals.{columns-long-from, columns-sound-from}
+use Rattle.engine_walks.specs.Settling.{State}
 use Rattle.engine_walks.specs.Answers.{crossing, fromLeft, leastFromLeft}
-use Rattle.query_relaxing.specs.Ready.{graphOf}
+use Rattle.query_relaxing.specs.Ready.{stateOf}
 use Rattle.query_questions.specs.Queries.{graphIn, weightsIn, scratchLong}
-use Rattle.query_questions.specs.Scratch.{scratchOf, isFree}
+use Rattle.query_questions.specs.Scratch.{ScratchColumns, scratchOf, isFree, SearchLeft}
 use Rattle.query_crossing_answer.specs.Crossing.{isJoined, weightFound, said, crossingAsked}
-use Rattle.query_crossing_answer.specs.Codes.{Coded, wherever}
-use Rattle.query_search.proofs.Asked.{ScratchLong, scratch-of, searchable}
-use Rattle.query_search.proofs.Scratch.{searchable-cut, search-left, scratch-free, scratch-kept}
-use Rattle.query_crossings.proofs.Crossings.{CrossingAsked, crossing-of, refusal-passed, refusal-refused, reply-of, column-after, left-length, searched-as, free-number, kept-number}
+use Rattle.query_crossing_answer.specs.Codes.{Coded}
+use Rattle.query_search.specs.Search.{Settles}
+use Rattle.query_search.proofs.Asked.{ScratchLong, scratch-of}
+use Rattle.query_search.proofs.Scratch.{scratch-free, scratch-kept}
+use Rattle.query_search.proofs.Reading.{state-read, status-length, weight-length, light-read}
+use Rattle.query_crossings.proofs.Crossings.{CrossingAsked, crossing-of, refusal-passed, refusal-refused, reply-of, found-is, column-is, column-after, left-length, free-number, kept-number}
 use borrow.Author.Needs.{needs}
 use Rattle.query_crossings.proofs.crossing.Statement.{statement}
 use Rattle.query_crossings.proofs.crossing.Tie as tie
@@ -38,180 +42,137 @@ asked-at : (s : tie.Start) → number-at s ≡ 0 → CrossingAsked (engine-of s)
 unfolding number-at
 asked-at s z = crossing-of (engine-of s) (scratch-at s) _ z
 
-scratch-long-at : (s : tie.Start) → number-at s ≡ 0 → ScratchLong (s .args .c .vertices) (s .args .c .edges) (length (s .args .numbers .now)) (length (s .args .list-ends .now)) (length (s .args .status .now)) (length (s .args .weight .now)) (length (s .args .previous .now)) (length (s .args .node .now)) (length (s .args .leaf .now))
+fits : (s : tie.Start) → number-at s ≡ 0 → ScratchLong (s .args .c .vertices) (s .args .c .edges) (length (s .args .numbers .now)) (length (s .args .list-ends .now)) (length (s .args .status .now)) (length (s .args .weight .now)) (length (s .args .previous .now)) (length (s .args .node .now)) (length (s .args .leaf .now))
 unfolding scratch-at
-scratch-long-at s z = scratch-of _ _ _ _ _ _ _ _ _ (asked-at s z .scratch-is)
+fits s z = scratch-of _ _ _ _ _ _ _ _ _ (asked-at s z .scratch-is)
 
-number-then : (t : tie.Then1) → number-at (t .before .before .before .before .before .before .before .before .before .before .before .before .before .before .before .before .before .before) ≡ 0
+number-is : (c : tie.After-crossing-asked) → c .crossing-asked .result ≡ number-at (c .before .before .before .before .before .before .before .before .before .before .before .before .before .before .before .before)
 unfolding number-at engine-of scratch-at
-number-then t = sym (t .before .crossing-asked .ensures ∙ ap (λ b. crossingAsked (engine-of (t .before .before .before .before .before .before .before .before .before .before .before .before .before .before .before .before .before .before)) b (length (t .before .before .before .before .before .before .before .before .before .before .before .before .before .before .before .before .before .before .args .out-weight .now)) 0) (t .before .before .scratch-long .ensures)) ∙ t .if1 .taken
+number-is c = let s = c .before .before .before .before .before .before .before .before .before .before .before .before .before .before .before .before in c .crossing-asked .ensures ∙ ap (λ b. crossingAsked (engine-of s) b (length (s .args .out-weight .now)) 0) (c .before .scratch-long .ensures)
 
-slice-aggregate-run-crossing : tie.Need-slice-aggregate-run-crossing
+number-then : (t : tie.Then1) → number-at (t .before .before .before .before .before .before .before .before .before .before .before .before .before .before .before .before .before) ≡ 0
+number-then t = sym (number-is (t .before)) ∙ t .if1 .taken
+
+-- ---- what the search leaves
+
+state-at : tie.Start → State
+unfolding engine-of
+state-at s = fromLeft (graphIn (engine-of s)) (weightsIn (engine-of s))
+
+before-it : tie.Start → ScratchColumns
+before-it s = scratchOf (s .args .numbers .now) (s .args .list-ends .now) (s .args .status .now) (s .args .weight .now) (s .args .previous .now) (s .args .node .now) (s .args .leaf .now)
+
+after-it : tie.After-search → ScratchColumns
+after-it c = let l = c .search .last .1 .1 .1 .1 .1 .1 in scratchOf (l .0) (l .1 .0) (l .1 .1 .0) (l .1 .1 .1 .0) (l .1 .1 .1 .1 .0) (l .1 .1 .1 .1 .1 .0) (l .1 .1 .1 .1 .1 .1 .0)
+
+left : (c : tie.After-search) → SearchLeft (graphIn (engine-of (c .before .before .before .before .before .before .before .before .before .before .before .before .before .before .before .before .before .before .before .before .before .before .before .before .before))) (state-at (c .before .before .before .before .before .before .before .before .before .before .before .before .before .before .before .before .before .before .before .before .before .before .before .before .before)) (before-it (c .before .before .before .before .before .before .before .before .before .before .before .before .before .before .before .before .before .before .before .before .before .before .before .before .before)) (after-it c)
+unfolding engine-of state-at before-it after-it
+left c = c .search .ensures .0
+
+settles : (c : tie.After-search) → Settles (c .before .before .before .before .before .before .before .before .before .before .before .before .before .before .before .before .before .before .before .before .before .before .before .before .before .args .c .vertices) (state-at (c .before .before .before .before .before .before .before .before .before .before .before .before .before .before .before .before .before .before .before .before .before .before .before .before .before))
+unfolding engine-of state-at
+settles c = c .search .ensures .1
+
+search-requires : tie.Need-search-requires
 unfolding number-at engine-of scratch-at
-slice-aggregate-run-crossing c = let t : tie.Then1 = c .before in
-    let s : tie.Start = t .before .before .before .before .before .before .before .before .before .before .before .before .before .before .before .before .before .before in
-    let z = number-then t in
-    sym (length-take-le (s .args .c .edges) (s .args .ends-a .now) (asked-at s z .long .columns .endsA))
+search-requires c κs =
+    let k = asked-at (c .before .before .before .before .before .before .before .before .before .before .before .before .before .before .before .before .before .before .before .before .before .before .before .before) (number-then (c .before .before .before .before .before .before .before)) in
+    ((columns-long-from _ _ _ _ _ _ (k .long .columns), columns-sound-from _ _ _ _ _ _ (k .sound .columns)), (k .scratch-is, tt))
 
-slice-aggregate-run-crossing-2 : tie.Need-slice-aggregate-run-crossing-2
-unfolding number-at engine-of scratch-at
-slice-aggregate-run-crossing-2 c = let t : tie.Then1 = c .before .before in
-    let s : tie.Start = t .before .before .before .before .before .before .before .before .before .before .before .before .before .before .before .before .before .before in
-    let z = number-then t in
-    sym (length-take-le (s .args .c .edges) (s .args .ends-b .now) (asked-at s z .long .columns .endsB))
+-- ---- the columns read
 
-slice-aggregate-run-crossing-3 : tie.Need-slice-aggregate-run-crossing-3
-unfolding number-at engine-of scratch-at
-slice-aggregate-run-crossing-3 c = let t : tie.Then1 = c .before .before .before in
-    let s : tie.Start = t .before .before .before .before .before .before .before .before .before .before .before .before .before .before .before .before .before .before in
-    let z = number-then t in
-    sym (length-take-le (s .args .c .edges) (s .args .weights .now) (asked-at s z .long .columns .weights))
+status-room : (c : tie.After-search) → c .before .before .before .before .before .before .before .before .before .before .before .before .before .before .before .before .before .before .before .before .before .before .before .before .before .args .c .vertices ≤ length (after-it c .status)
+unfolding after-it
+status-room c = omega (arith, c .search .kept .1 .1 .1 .1 .1 .1 .1 .1 .0, fits (c .before .before .before .before .before .before .before .before .before .before .before .before .before .before .before .before .before .before .before .before .before .before .before .before .before) (number-then (c .before .before .before .before .before .before .before .before)) .status-long)
 
-slice-aggregate-run-crossing-4 : tie.Need-slice-aggregate-run-crossing-4
-unfolding number-at engine-of scratch-at
-slice-aggregate-run-crossing-4 c = let t : tie.Then1 = c .before .before .before .before in
-    let s : tie.Start = t .before .before .before .before .before .before .before .before .before .before .before .before .before .before .before .before .before .before in
-    let z = number-then t in
-    sym (length-take-le (s .args .c .vertices) (s .args .boundary .now) (asked-at s z .long .columns .boundary))
+weight-room : (c : tie.After-search) → c .before .before .before .before .before .before .before .before .before .before .before .before .before .before .before .before .before .before .before .before .before .before .before .before .before .args .c .vertices ≤ length (after-it c .weight)
+unfolding after-it
+weight-room c = omega (arith, c .search .kept .1 .1 .1 .1 .1 .1 .1 .1 .1 .0, fits (c .before .before .before .before .before .before .before .before .before .before .before .before .before .before .before .before .before .before .before .before .before .before .before .before .before) (number-then (c .before .before .before .before .before .before .before .before)) .weight-long)
 
-slice-relend-prefix-run-crossing : tie.Need-slice-relend-prefix-run-crossing
-unfolding number-at engine-of scratch-at
-slice-relend-prefix-run-crossing c = let t : tie.Then1 = c .before .before .before .before .before in
-    let s : tie.Start = t .before .before .before .before .before .before .before .before .before .before .before .before .before .before .before .before .before .before in
-    let z = number-then t in
-    scratch-long-at s z .ends-long
+slice-reshare-prefix-nearest-right : tie.Need-slice-reshare-prefix-nearest-right
+unfolding after-it
+slice-reshare-prefix-nearest-right c = status-room (c .before .before .before .before .before .before .before .before .before .before .before .before .before .before)
 
-slice-aggregate-run-crossing-5 : tie.Need-slice-aggregate-run-crossing-5
-unfolding number-at engine-of scratch-at
-slice-aggregate-run-crossing-5 c = let t : tie.Then1 = c .before .before .before .before .before .before in
-    let s : tie.Start = t .before .before .before .before .before .before .before .before .before .before .before .before .before .before .before .before .before .before in
-    let z = number-then t in
-    sym (length-take-le (s .args .c .vertices) (s .args .list-ends .now) (scratch-long-at s z .ends-long))
+slice-aggregate-nearest-right : tie.Need-slice-aggregate-nearest-right
+unfolding after-it
+slice-aggregate-nearest-right c = sym (length-take-le _ _ (status-room (c .before .before .before .before .before .before .before .before .before .before .before .before .before .before .before)))
 
-slice-relend-prefix-run-crossing-2 : tie.Need-slice-relend-prefix-run-crossing-2
-unfolding number-at engine-of scratch-at
-slice-relend-prefix-run-crossing-2 c = let t : tie.Then1 = c .before .before .before .before .before .before in
-    let s : tie.Start = t .before .before .before .before .before .before .before .before .before .before .before .before .before .before .before .before .before .before in
-    let z = number-then t in
-    scratch-long-at s z .status-long
+slice-reshare-prefix-nearest-right-2 : tie.Need-slice-reshare-prefix-nearest-right-2
+unfolding after-it
+slice-reshare-prefix-nearest-right-2 c = weight-room (c .before .before .before .before .before .before .before .before .before .before .before .before .before .before .before)
 
-slice-aggregate-run-crossing-6 : tie.Need-slice-aggregate-run-crossing-6
-unfolding number-at engine-of scratch-at
-slice-aggregate-run-crossing-6 c = let t : tie.Then1 = c .before .before .before .before .before .before .before in
-    let s : tie.Start = t .before .before .before .before .before .before .before .before .before .before .before .before .before .before .before .before .before .before in
-    let z = number-then t in
-    sym (length-take-le (s .args .c .vertices) (s .args .status .now) (scratch-long-at s z .status-long))
+slice-aggregate-nearest-right-2 : tie.Need-slice-aggregate-nearest-right-2
+unfolding after-it
+slice-aggregate-nearest-right-2 c = sym (length-take-le _ _ (weight-room (c .before .before .before .before .before .before .before .before .before .before .before .before .before .before .before .before)))
 
-slice-relend-prefix-run-crossing-3 : tie.Need-slice-relend-prefix-run-crossing-3
-unfolding number-at engine-of scratch-at
-slice-relend-prefix-run-crossing-3 c = let t : tie.Then1 = c .before .before .before .before .before .before .before in
-    let s : tie.Start = t .before .before .before .before .before .before .before .before .before .before .before .before .before .before .before .before .before .before in
-    let z = number-then t in
-    scratch-long-at s z .weight-long
+slice-aggregate-nearest-right-3 : tie.Need-slice-aggregate-nearest-right-3
+unfolding number-at engine-of
+slice-aggregate-nearest-right-3 c = let s : tie.Start = c .before .before .before .before .before .before .before .before .before .before .before .before .before .before .before .before .before .before .before .before .before .before .before .before .before .before .before .before .before .before .before .before .before .before .before .before .before .before .before .before .before .before in sym (length-take-le (s .args .c .vertices) (s .args .boundary .now) (asked-at s (number-then (c .before .before .before .before .before .before .before .before .before .before .before .before .before .before .before .before .before .before .before .before .before .before .before .before .before)) .long .columns .boundary))
 
-slice-aggregate-run-crossing-7 : tie.Need-slice-aggregate-run-crossing-7
-unfolding number-at engine-of scratch-at
-slice-aggregate-run-crossing-7 c = let t : tie.Then1 = c .before .before .before .before .before .before .before .before in
-    let s : tie.Start = t .before .before .before .before .before .before .before .before .before .before .before .before .before .before .before .before .before .before in
-    let z = number-then t in
-    sym (length-take-le (s .args .c .vertices) (s .args .weight .now) (scratch-long-at s z .weight-long))
+nearest-right-requires : tie.Need-nearest-right-requires
+unfolding after-it number-at engine-of
+nearest-right-requires c κs =
+    let s : tie.Start = c .before .before .before .before .before .before .before .before .before .before .before .before .before .before .before .before .before .before .before .before .before .before .before .before .before .before .before .before .before .before .before .before .before .before .before .before .before .before .before .before .before .before in
+    let k = asked-at s (number-then (c .before .before .before .before .before .before .before .before .before .before .before .before .before .before .before .before .before .before .before .before .before .before .before .before .before)) in
+    let l = left (c .before .before .before .before .before .before .before .before .before .before .before .before .before .before .before .before .before) in
+    let o = settles (c .before .before .before .before .before .before .before .before .before .before .before .before .before .before .before .before .before) in
+    (weight-length l o ∙ sym (status-length l o), length-take-le (s .args .c .vertices) (s .args .boundary .now) (k .long .columns .boundary) ∙ sym (status-length l o), light-read l o)
 
-slice-relend-prefix-run-crossing-4 : tie.Need-slice-relend-prefix-run-crossing-4
-unfolding number-at engine-of scratch-at
-slice-relend-prefix-run-crossing-4 c = let t : tie.Then1 = c .before .before .before .before .before .before .before .before in
-    let s : tie.Start = t .before .before .before .before .before .before .before .before .before .before .before .before .before .before .before .before .before .before in
-    let z = number-then t in
-    scratch-long-at s z .previous-long
+slice-reshare-prefix-write-found : tie.Need-slice-reshare-prefix-write-found
+unfolding after-it
+slice-reshare-prefix-write-found c = status-room (c .before .before .before .before .before .before .before .before .before .before .before .before .before .before .before .before .before .before)
 
-slice-aggregate-run-crossing-8 : tie.Need-slice-aggregate-run-crossing-8
-unfolding number-at engine-of scratch-at
-slice-aggregate-run-crossing-8 c = let t : tie.Then1 = c .before .before .before .before .before .before .before .before .before in
-    let s : tie.Start = t .before .before .before .before .before .before .before .before .before .before .before .before .before .before .before .before .before .before in
-    let z = number-then t in
-    sym (length-take-le (s .args .c .vertices) (s .args .previous .now) (scratch-long-at s z .previous-long))
+slice-aggregate-write-found : tie.Need-slice-aggregate-write-found
+unfolding after-it
+slice-aggregate-write-found c = sym (length-take-le _ _ (status-room (c .before .before .before .before .before .before .before .before .before .before .before .before .before .before .before .before .before .before .before)))
 
-slice-relend-prefix-run-crossing-5 : tie.Need-slice-relend-prefix-run-crossing-5
-unfolding number-at engine-of scratch-at
-slice-relend-prefix-run-crossing-5 c = let t : tie.Then1 = c .before .before .before .before .before .before .before .before .before in
-    let s : tie.Start = t .before .before .before .before .before .before .before .before .before .before .before .before .before .before .before .before .before .before in
-    let z = number-then t in
-    scratch-long-at s z .node-long
+slice-reshare-prefix-write-found-2 : tie.Need-slice-reshare-prefix-write-found-2
+unfolding after-it
+slice-reshare-prefix-write-found-2 c = weight-room (c .before .before .before .before .before .before .before .before .before .before .before .before .before .before .before .before .before .before .before)
 
-slice-aggregate-run-crossing-9 : tie.Need-slice-aggregate-run-crossing-9
-unfolding number-at engine-of scratch-at
-slice-aggregate-run-crossing-9 c = let t : tie.Then1 = c .before .before .before .before .before .before .before .before .before .before in
-    let s : tie.Start = t .before .before .before .before .before .before .before .before .before .before .before .before .before .before .before .before .before .before in
-    let z = number-then t in
-    sym (length-take-le (s .args .c .vertices) (s .args .node .now) (scratch-long-at s z .node-long))
+slice-aggregate-write-found-2 : tie.Need-slice-aggregate-write-found-2
+unfolding after-it
+slice-aggregate-write-found-2 c = sym (length-take-le _ _ (weight-room (c .before .before .before .before .before .before .before .before .before .before .before .before .before .before .before .before .before .before .before .before)))
 
-slice-relend-prefix-run-crossing-6 : tie.Need-slice-relend-prefix-run-crossing-6
-unfolding number-at engine-of scratch-at
-slice-relend-prefix-run-crossing-6 c = let t : tie.Then1 = c .before .before .before .before .before .before .before .before .before .before in
-    let s : tie.Start = t .before .before .before .before .before .before .before .before .before .before .before .before .before .before .before .before .before .before in
-    let z = number-then t in
-    scratch-long-at s z .leaf-long
-
-slice-aggregate-run-crossing-10 : tie.Need-slice-aggregate-run-crossing-10
-unfolding number-at engine-of scratch-at
-slice-aggregate-run-crossing-10 c = let t : tie.Then1 = c .before .before .before .before .before .before .before .before .before .before .before in
-    let s : tie.Start = t .before .before .before .before .before .before .before .before .before .before .before .before .before .before .before .before .before .before in
-    let z = number-then t in
-    sym (length-take-le (s .args .c .vertices) (s .args .leaf .now) (scratch-long-at s z .leaf-long))
-
-run-crossing-requires : tie.Need-run-crossing-requires
-unfolding number-at engine-of scratch-at
-run-crossing-requires c κs = let t : tie.Then1 = c .before .before .before .before .before .before .before .before .before .before .before .before in
-    let s : tie.Start = t .before .before .before .before .before .before .before .before .before .before .before .before .before .before .before .before .before .before in
-    let z = number-then t in
-    let k = asked-at s z in
-    let q = scratch-long-at s z in
-    let len = length-take-le (s .args .c .vertices) (s .args .status .now) (q .status-long) in (
-      searchable-cut (q .ends-long) (q .node-long) len
-          (searchable (engine-of s) (s .args .numbers .now) (s .args .list-ends .now) (s .args .status .now) (s .args .weight .now) (s .args .previous .now) (s .args .node .now) (s .args .leaf .now) (k .long) (k .sound) q),
-      (length-take-le (s .args .c .vertices) (s .args .boundary .now) (k .long .columns .boundary) ∙ sym len, sym len, omega (arith, k .weights-long, len)),
-    )
-
-same-length : tie.Need-same-length
-same-length c = c .before .out-weight .given
-
-same-length-2 : tie.Need-same-length-2
-same-length-2 c = c .before .before .before .before .before .before .before .before .before .before .before .before .before .before .before .numbers .given
+write-found-requires : tie.Need-write-found-requires
+unfolding after-it number-at engine-of
+write-found-requires c κs =
+    let k = asked-at (c .before .before .before .before .before .before .before .before .before .before .before .before .before .before .before .before .before .before .before .before .before .before .before .before .before .before .before .before .before .before .before .before .before .before .before .before .before .before .before .before .before .before .before .before .before .before) (number-then (c .before .before .before .before .before .before .before .before .before .before .before .before .before .before .before .before .before .before .before .before .before .before .before .before .before .before .before .before .before)) in
+    let l = left (c .before .before .before .before .before .before .before .before .before .before .before .before .before .before .before .before .before .before .before .before .before) in
+    let o = settles (c .before .before .before .before .before .before .before .before .before .before .before .before .before .before .before .before .before .before .before .before .before) in
+    (weight-length l o ∙ sym (status-length l o), omega (arith, k .weights-long, status-length l o), light-read l o)
 
 returns : tie.Need-returns
-unfolding number-at engine-of scratch-at
-returns c = let t : tie.Then1 = c .before .before .before .before .before .before .before .before .before .before .before .before .before .before .before .before .before .before .before .before .before .before .before .before .before .before .before .before .before in
-    let s : tie.Start = t .before .before .before .before .before .before .before .before .before .before .before .before .before .before .before .before .before .before in
-    let z = number-then t in
+unfolding number-at engine-of scratch-at state-at before-it after-it
+returns c =
+    let s : tie.Start = c .before .before .before .before .before .before .before .before .before .before .before .before .before .before .before .before .before .before .before .before .before .before .before .before .before .before .before .before .before .before .before .before .before .before .before .before .before .before .before .before .before .before .before .before .before .before .before .before .before in
+    let z = number-then (c .before .before .before .before .before .before .before .before .before .before .before .before .before .before .before .before .before .before .before .before .before .before .before .before .before .before .before .before .before .before .before .before) in
     let k = asked-at s z in
-    let q = scratch-long-at s z in
-    let len = length-take-le (s .args .c .vertices) (s .args .status .now) (q .status-long) in
-    let A = take (s .args .c .edges) (s .args .ends-a .now) in
-    let B = take (s .args .c .edges) (s .args .ends-b .now) in
-    let M = take (s .args .c .vertices) (s .args .boundary .now) in
+    let l = left (c .before .before .before .before .before .before .before .before .before .before .before .before .before .before .before .before .before .before .before .before .before .before .before .before) in
+    let o = settles (c .before .before .before .before .before .before .before .before .before .before .before .before .before .before .before .before .before .before .before .before .before .before .before .before) in
+    let v = s .args .c .vertices in
     let g = graphIn (engine-of s) in
     let w = weightsIn (engine-of s) in
     let out₀ = s .args .out-weight .now in
-    let o = c .before .before .before .before .before .before .before .before .before .before .before .before .before .before .before .before .run-crossing .ensures in
-    let f = c .before .before .before .before .before .before .before .before .before .before .before .before .before .before .before .before .run-crossing .result in
-    let coded : Coded f (crossing g w) = subst (λ n. Coded f (crossing (graphOf n A B M) w)) len (o .0) in
-    let replied : Answered (said (c .reply .result)) (ask (isJoined (crossing g w)) 18 0) (weightFound (crossing g w)) 0 = rw (c .reply .ensures) (reply-of f (crossing g w) coded) in
-    let scratch₀ = scratchOf (s .args .numbers .now) (s .args .list-ends .now) (s .args .status .now) (s .args .weight .now) (s .args .previous .now) (s .args .node .now) (s .args .leaf .now) in
-    let ends-length = c .before .before .before .before .before .before .before .before .before .before .before .before .before .before .before .before .run-crossing .kept .1 .1 .1 .1 .1 .0 ∙ length-take-le (s .args .c .vertices) (s .args .list-ends .now) (q .ends-long) in
-    let node-length = c .before .before .before .before .before .before .before .before .before .before .before .before .before .before .before .before .run-crossing .kept .1 .1 .1 .1 .1 .1 .1 .1 .1 .0 ∙ length-take-le (s .args .c .vertices) (s .args .node .now) (q .node-long) in
+    let back = take v (after-it (c .before .before .before .before .before .before .before .before .before .before .before .before .before .before .before .before .before .before .before .before .before .before .before .before) .previous) in
+    let last : State = stateOf (take v (after-it (c .before .before .before .before .before .before .before .before .before .before .before .before .before .before .before .before .before .before .before .before .before .before .before .before) .status)) (take v (after-it (c .before .before .before .before .before .before .before .before .before .before .before .before .before .before .before .before .before .before .before .before .before .before .before .before) .weight)) back in
+    let r = c .before .before .before .before .before .before .nearest-right .result in
+    let coded : Coded r (crossing g w) = found-is g w last (state-read l o) r _ (status-length l o) (weight-length l o) (λ u h. light-read l o u (omega (arith, status-length l o, h))) (c .before .before .before .before .before .before .nearest-right .ensures back) in
+    let replied : Answered (said (c .reply .result)) (ask (isJoined (crossing g w)) 18 0) (weightFound (crossing g w)) 0 = rw (c .reply .ensures) (reply-of r (crossing g w) coded) in
     let next = refusal-passed (engine-of s) (scratch-at s) (length out₀) (ask (isJoined (crossing g w)) 18 0) z in (
       record {
         answer = rw next replied;
-        weights-after = o .1 .0 ∙ (λ i. wherever (crossing (graphOf (len i) A B M) w) (leastFromLeft (graphOf (len i) A B M) w) out₀)
+        weights-after = column-is g w last (state-read l o) r _ out₀ _ (status-length l o) coded (c .before .before .write-found .ensures back)
             ∙ column-after (crossing g w) (leastFromLeft g w) out₀ (omega (arith, left-length g w, k .weights-long)) ∙ ap (λ n. after n (leastFromLeft g w) out₀) (sym next);
       },
-      scratch-free _ g (fromLeft g w) scratch₀ _ (ap isFree (replied .number-is) ∙ free-number (crossing g w))
-          (search-left g (fromLeft g w) scratch₀ ends-length node-length (searched-as w len (o .1 .1))),
+      scratch-free _ g (fromLeft g w) (before-it s) _ (ap isFree (replied .number-is) ∙ free-number (crossing g w)) l,
     )
 
 returns-2 : tie.Need-returns-2
-unfolding number-at engine-of scratch-at
-returns-2 c = let s : tie.Start = c .before .before .before .before .before .before .before .before .before .before .before .before .before .before .before .before .before .before in
-    let d : c .before .crossing-asked .result ≡ number-at s = c .before .crossing-asked .ensures ∙ ap (λ b. crossingAsked (engine-of s) b (length (s .args .out-weight .now)) 0) (c .before .before .scratch-long .ensures) in
+unfolding number-at engine-of scratch-at before-it
+returns-2 c =
+    let s : tie.Start = c .before .before .before .before .before .before .before .before .before .before .before .before .before .before .before .before .before in
+    let d : c .before .crossing-asked .result ≡ number-at s = number-is (c .before) in
     let f : number-at s ≡ 0 → ⊥ = λ e. c .if1 .left (d ∙ e) in
     let g = graphIn (engine-of s) in
     let w = weightsIn (engine-of s) in
@@ -220,10 +181,8 @@ returns-2 c = let s : tie.Start = c .before .before .before .before .before .bef
         answer = refuses-of (d ∙ sym next) (c .if1 .left);
         weights-after = sym (after-refused _ (leastFromLeft g w) (s .args .out-weight .now) (λ e. f (sym next ∙ e)));
       },
-      scratch-kept _ g (fromLeft g w)
-          (scratchOf (s .args .numbers .now) (s .args .list-ends .now) (s .args .status .now) (s .args .weight .now) (s .args .previous .now) (s .args .node .now) (s .args .leaf .now))
-          (ap isFree d ∙ kept-number (engine-of s) (scratch-at s) (length (s .args .out-weight .now)) f),
+      scratch-kept _ g (fromLeft g w) (before-it s) (ap isFree d ∙ kept-number (engine-of s) (scratch-at s) (length (s .args .out-weight .now)) f),
     )
 
 pub crossing-spec : {M : Type 1} → statement M
-crossing-spec = tie.close (tie.spec (λ c. search needs) (λ c. search needs) (λ c κs. tt) (λ c κs. tt) slice-aggregate-run-crossing slice-aggregate-run-crossing-2 slice-aggregate-run-crossing-3 slice-aggregate-run-crossing-4 slice-relend-prefix-run-crossing slice-aggregate-run-crossing-5 slice-relend-prefix-run-crossing-2 slice-aggregate-run-crossing-6 slice-relend-prefix-run-crossing-3 slice-aggregate-run-crossing-7 slice-relend-prefix-run-crossing-4 slice-aggregate-run-crossing-8 slice-relend-prefix-run-crossing-5 slice-aggregate-run-crossing-9 slice-relend-prefix-run-crossing-6 slice-aggregate-run-crossing-10 run-crossing-requires (λ c κs. tt) same-length same-length-2 (λ c. search needs) (λ c. search needs) (λ c. search needs) (λ c. search needs) (λ c. search needs) (λ c. search needs) returns returns-2)
+crossing-spec = tie.close (tie.spec (λ c. search needs) (λ c κs. tt) (λ c κs. tt) search-requires slice-reshare-prefix-nearest-right slice-aggregate-nearest-right slice-reshare-prefix-nearest-right-2 slice-aggregate-nearest-right-2 slice-aggregate-nearest-right-3 nearest-right-requires slice-reshare-prefix-write-found slice-aggregate-write-found slice-reshare-prefix-write-found-2 slice-aggregate-write-found-2 write-found-requires (λ c κs. tt) (λ c. search needs) (λ c. search needs) (λ c. search needs) (λ c. search needs) (λ c. search needs) (λ c. search needs) (λ c. search needs) (λ c. search needs) returns returns-2)

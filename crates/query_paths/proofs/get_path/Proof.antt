@@ -1,19 +1,28 @@
 -- `query_paths::get_path` meets its contract. Assumes nothing.
 use mathlib.Core.Path.{_≡_, refl, sym, ap, _∙_, subst}
-use Prim.Native.Nat.{ℕ, zero, suc, _+_, _*_, _-_, _<_, _≤_}
+use Prim.Native.Nat.{ℕ, zero, suc, _+_, _*_, _<_, _≤_}
 use native.Mathlib.Omega.{arith}
 use mathlib.Core.Bool.{Bool, cond}
+use mathlib.Core.Option.{some, none}
 use lib.ListN.{length, take}
 use lib.Seq.{length-take-le}
 use lib.Dec.{eqb}
-use borrow.Author.Tests.{ne-eqb}
+use borrow.Author.Tests.{ne-eqb, lt-ltb}
 use Rattle.engine_columns.specs.Records.{Engine, engine}
-use Rattle.engine_walks.specs.Answers.{path}
-use Rattle.query_relaxing.specs.Ready.{graphOf}
+use Rattle.engine_columns.proofs.Refusals.{columns-long-from, columns-sound-from}
+use Rattle.engine_walks.specs.Settling.{State, settled}
+use Rattle.engine_walks.specs.Answers.{only, path}
+use Rattle.query_relaxing.specs.Ready.{stateOf}
 use Rattle.query_questions.specs.Queries.{graphIn, weightsIn, scratchLong}
+use Rattle.query_questions.specs.Scratch.{ScratchColumns, scratchOf, isFree, SearchLeft}
+use Rattle.query_search.specs.Search.{Settles}
+use Rattle.query_search.proofs.Asked.{ScratchLong, scratch-of}
+use Rattle.query_search.proofs.Scratch.{scratch-free, scratch-kept}
+use Rattle.query_search.proofs.Reading.{state-read, status-length}
+use Rattle.query_read_back.specs.Path.{pathOf}
+use Rattle.query_read_back.proofs.Back.{path-of}
 use Rattle.query_paths.specs.GetPath.{pathAsked, PathSaid, verticesAfter, stepsAfter}
-use Rattle.query_search.proofs.Asked.{ScratchLong, scratch-of, searchable}
-use Rattle.query_paths.proofs.PathAsked.{PathAsked, path-asked, path-number, reply-no, scratch-free}
+use Rattle.query_paths.proofs.PathAsked.{PathAsked, path-asked, path-number, kept-number, free-number, reply-no}
 use borrow.Author.Needs.{needs}
 use Rattle.query_paths.proofs.get_path.Statement.{statement}
 use Rattle.query_paths.proofs.get_path.Tie as tie
@@ -32,166 +41,139 @@ asked-at : (s : tie.Start) → number-at s ≡ 0 → PathAsked (engine-of s) (sc
 unfolding number-at
 asked-at s z = path-asked (engine-of s) (scratch-at s) (s .args .a .0) (s .args .b .0) _ _ z
 
-scratch-long-at : (s : tie.Start) → number-at s ≡ 0 → ScratchLong (s .args .c .vertices) (s .args .c .edges) (length (s .args .numbers .now)) (length (s .args .list-ends .now)) (length (s .args .status .now)) (length (s .args .weight .now)) (length (s .args .previous .now)) (length (s .args .node .now)) (length (s .args .leaf .now))
+fits : (s : tie.Start) → number-at s ≡ 0 → ScratchLong (s .args .c .vertices) (s .args .c .edges) (length (s .args .numbers .now)) (length (s .args .list-ends .now)) (length (s .args .status .now)) (length (s .args .weight .now)) (length (s .args .previous .now)) (length (s .args .node .now)) (length (s .args .leaf .now))
 unfolding scratch-at
-scratch-long-at s z = scratch-of _ _ _ _ _ _ _ _ _ (asked-at s z .scratch-is)
+fits s z = scratch-of _ _ _ _ _ _ _ _ _ (asked-at s z .scratch-is)
 
-number-then : (c : tie.Then1) → number-at (c .before .before .before .before .before .before .before .before .before .before .before .before .before .before .before .before .before .before .before .before .before .before .before .before .before .before .before .before .before .before .before .before) ≡ 0
+number-is : (c : tie.After-query-refusal) → c .query-refusal .result ≡ number-at (c .before .before .before .before .before .before .before .before .before .before .before .before .before .before .before .before .before .before .before .before .before .before .before .before .before .before .before .before .before .before)
 unfolding number-at engine-of scratch-at
-number-then c =
-    let s : tie.Start = c .before .before .before .before .before .before .before .before .before .before .before .before .before .before .before .before .before .before .before .before .before .before .before .before .before .before .before .before .before .before .before .before in
-    sym (path-number (engine-of s) (scratch-at s) (s .args .a .0) (s .args .b .0) _ _ (c .before .query-refusal .ensures) (c .before .before .before .before .before .before .before .before .before .before .both2 .ensures) (c .before .before .before .before .before .before .before .before .before .before .before .both .ensures) (c .before .before .before .before .before .before .before .before .before .before .before .before .before .at-most .ensures) (c .before .before .before .before .before .before .before .before .before .before .before .before .at-most2 .ensures) (c .before .before .before .before .before .before .before .before .before .before .before .before .before .before .scratch-long .ensures) (c .before .before .before .before .before .both3 .ensures) (c .before .before .asked .ensures)) ∙ c .if1 .taken
+number-is c = let s = c .before .before .before .before .before .before .before .before .before .before .before .before .before .before .before .before .before .before .before .before .before .before .before .before .before .before .before .before .before .before in path-number (engine-of s) (scratch-at s) (s .args .a .0) (s .args .b .0) _ _ (c .query-refusal .ensures) (c .before .before .before .before .before .before .before .before .before .both2 .ensures) (c .before .before .before .before .before .before .before .before .before .before .both .ensures) (c .before .before .before .before .before .before .before .before .before .before .before .before .at-most .ensures) (c .before .before .before .before .before .before .before .before .before .before .before .at-most2 .ensures) (c .before .before .before .before .before .before .before .before .before .before .before .before .before .scratch-long .ensures) (c .before .before .before .before .both3 .ensures) (c .before .asked .ensures)
 
-slice-aggregate-run-path : tie.Need-slice-aggregate-run-path
+number-then : (t : tie.Then1) → number-at (t .before .before .before .before .before .before .before .before .before .before .before .before .before .before .before .before .before .before .before .before .before .before .before .before .before .before .before .before .before .before .before) ≡ 0
+number-then t = sym (number-is (t .before)) ∙ t .if1 .taken
+
+-- ---- what the search leaves
+
+state-at : tie.Start → State
+unfolding engine-of
+state-at s = settled (graphIn (engine-of s)) (weightsIn (engine-of s)) (only (s .args .a .0)) (some (s .args .b .0))
+
+before-it : tie.Start → ScratchColumns
+before-it s = scratchOf (s .args .numbers .now) (s .args .list-ends .now) (s .args .status .now) (s .args .weight .now) (s .args .previous .now) (s .args .node .now) (s .args .leaf .now)
+
+after-it : tie.After-search → ScratchColumns
+after-it c = let l = c .search .last .1 .1 .1 .1 .1 .1 in scratchOf (l .0) (l .1 .0) (l .1 .1 .0) (l .1 .1 .1 .0) (l .1 .1 .1 .1 .0) (l .1 .1 .1 .1 .1 .0) (l .1 .1 .1 .1 .1 .1 .0)
+
+left : (c : tie.After-search) → SearchLeft (graphIn (engine-of (c .before .before .before .before .before .before .before .before .before .before .before .before .before .before .before .before .before .before .before .before .before .before .before .before .before .before .before .before .before .before .before .before .before .before .before .before .before .before .before))) (state-at (c .before .before .before .before .before .before .before .before .before .before .before .before .before .before .before .before .before .before .before .before .before .before .before .before .before .before .before .before .before .before .before .before .before .before .before .before .before .before .before)) (before-it (c .before .before .before .before .before .before .before .before .before .before .before .before .before .before .before .before .before .before .before .before .before .before .before .before .before .before .before .before .before .before .before .before .before .before .before .before .before .before .before)) (after-it c)
+unfolding engine-of state-at before-it after-it number-at
+left c =
+    let s = c .before .before .before .before .before .before .before .before .before .before .before .before .before .before .before .before .before .before .before .before .before .before .before .before .before .before .before .before .before .before .before .before .before .before .before .before .before .before .before in
+    let e = engine-of s in
+    subst (λ k. SearchLeft (graphIn e) (settled (graphIn e) (weightsIn e) (only (s .args .a .0)) (cond k (some (s .args .b .0)) none)) (before-it s) (after-it c)) (lt-ltb (s .args .b .0) (s .args .c .vertices) (asked-at s (number-then (c .before .before .before .before .before .before .before .before)) .b-in))
+    (c .search .ensures .0)
+
+settles : (c : tie.After-search) → Settles (c .before .before .before .before .before .before .before .before .before .before .before .before .before .before .before .before .before .before .before .before .before .before .before .before .before .before .before .before .before .before .before .before .before .before .before .before .before .before .before .args .c .vertices) (state-at (c .before .before .before .before .before .before .before .before .before .before .before .before .before .before .before .before .before .before .before .before .before .before .before .before .before .before .before .before .before .before .before .before .before .before .before .before .before .before .before))
+unfolding engine-of state-at number-at
+settles c =
+    let s = c .before .before .before .before .before .before .before .before .before .before .before .before .before .before .before .before .before .before .before .before .before .before .before .before .before .before .before .before .before .before .before .before .before .before .before .before .before .before .before in
+    let e = engine-of s in
+    subst (λ k. Settles (s .args .c .vertices) (settled (graphIn e) (weightsIn e) (only (s .args .a .0)) (cond k (some (s .args .b .0)) none))) (lt-ltb (s .args .b .0) (s .args .c .vertices) (asked-at s (number-then (c .before .before .before .before .before .before .before .before)) .b-in))
+    (c .search .ensures .1)
+
+search-requires : tie.Need-search-requires
 unfolding number-at engine-of scratch-at
-slice-aggregate-run-path c =
-    let t : tie.Then1 = c .before in
-    let s : tie.Start = t .before .before .before .before .before .before .before .before .before .before .before .before .before .before .before .before .before .before .before .before .before .before .before .before .before .before .before .before .before .before .before .before in
-    let z = number-then t in
-    sym (length-take-le (s .args .c .edges) (s .args .ends-a .now) (asked-at s z .long .columns .endsA))
+search-requires c κs =
+    let k = asked-at (c .before .before .before .before .before .before .before .before .before .before .before .before .before .before .before .before .before .before .before .before .before .before .before .before .before .before .before .before .before .before .before .before .before .before .before .before .before .before) (number-then (c .before .before .before .before .before .before .before)) in
+    ((columns-long-from _ _ _ _ _ _ (k .long .columns), columns-sound-from _ _ _ _ _ _ (k .sound .columns)), (k .scratch-is, (k .a-in, k .differ)))
 
-slice-aggregate-run-path-2 : tie.Need-slice-aggregate-run-path-2
-unfolding number-at engine-of scratch-at
-slice-aggregate-run-path-2 c =
-    let t : tie.Then1 = c .before .before in
-    let s : tie.Start = t .before .before .before .before .before .before .before .before .before .before .before .before .before .before .before .before .before .before .before .before .before .before .before .before .before .before .before .before .before .before .before .before in
-    let z = number-then t in
-    sym (length-take-le (s .args .c .edges) (s .args .ends-b .now) (asked-at s z .long .columns .endsB))
+-- ---- the columns read
 
-slice-aggregate-run-path-3 : tie.Need-slice-aggregate-run-path-3
-unfolding number-at engine-of scratch-at
-slice-aggregate-run-path-3 c =
-    let t : tie.Then1 = c .before .before .before in
-    let s : tie.Start = t .before .before .before .before .before .before .before .before .before .before .before .before .before .before .before .before .before .before .before .before .before .before .before .before .before .before .before .before .before .before .before .before in
-    let z = number-then t in
-    sym (length-take-le (s .args .c .edges) (s .args .weights .now) (asked-at s z .long .columns .weights))
+status-room : (c : tie.After-search) → c .before .before .before .before .before .before .before .before .before .before .before .before .before .before .before .before .before .before .before .before .before .before .before .before .before .before .before .before .before .before .before .before .before .before .before .before .before .before .before .args .c .vertices ≤ length (after-it c .status)
+unfolding after-it
+status-room c = omega (arith, c .search .kept .1 .1 .1 .1 .1 .1 .1 .1 .0, fits (c .before .before .before .before .before .before .before .before .before .before .before .before .before .before .before .before .before .before .before .before .before .before .before .before .before .before .before .before .before .before .before .before .before .before .before .before .before .before .before) (number-then (c .before .before .before .before .before .before .before .before)) .status-long)
 
-slice-relend-prefix-run-path : tie.Need-slice-relend-prefix-run-path
-unfolding number-at engine-of scratch-at
-slice-relend-prefix-run-path c =
-    let t : tie.Then1 = c .before .before .before .before .before in
-    let s : tie.Start = t .before .before .before .before .before .before .before .before .before .before .before .before .before .before .before .before .before .before .before .before .before .before .before .before .before .before .before .before .before .before .before .before in
-    let z = number-then t in
-    scratch-long-at s z .status-long
+weight-room : (c : tie.After-search) → c .before .before .before .before .before .before .before .before .before .before .before .before .before .before .before .before .before .before .before .before .before .before .before .before .before .before .before .before .before .before .before .before .before .before .before .before .before .before .before .args .c .vertices ≤ length (after-it c .weight)
+unfolding after-it
+weight-room c = omega (arith, c .search .kept .1 .1 .1 .1 .1 .1 .1 .1 .1 .0, fits (c .before .before .before .before .before .before .before .before .before .before .before .before .before .before .before .before .before .before .before .before .before .before .before .before .before .before .before .before .before .before .before .before .before .before .before .before .before .before .before) (number-then (c .before .before .before .before .before .before .before .before)) .weight-long)
 
-slice-aggregate-run-path-4 : tie.Need-slice-aggregate-run-path-4
-unfolding number-at engine-of scratch-at
-slice-aggregate-run-path-4 c =
-    let t : tie.Then1 = c .before .before .before .before .before .before in
-    let s : tie.Start = t .before .before .before .before .before .before .before .before .before .before .before .before .before .before .before .before .before .before .before .before .before .before .before .before .before .before .before .before .before .before .before .before in
-    let z = number-then t in
-    sym (length-take-le (s .args .c .vertices) (s .args .status .now) (scratch-long-at s z .status-long))
+previous-room : (c : tie.After-search) → c .before .before .before .before .before .before .before .before .before .before .before .before .before .before .before .before .before .before .before .before .before .before .before .before .before .before .before .before .before .before .before .before .before .before .before .before .before .before .before .args .c .vertices ≤ length (after-it c .previous)
+unfolding after-it
+previous-room c = omega (arith, c .search .kept .1 .1 .1 .1 .1 .1 .1 .1 .1 .1 .0, fits (c .before .before .before .before .before .before .before .before .before .before .before .before .before .before .before .before .before .before .before .before .before .before .before .before .before .before .before .before .before .before .before .before .before .before .before .before .before .before .before) (number-then (c .before .before .before .before .before .before .before .before)) .previous-long)
 
-slice-relend-prefix-run-path-2 : tie.Need-slice-relend-prefix-run-path-2
-unfolding number-at engine-of scratch-at
-slice-relend-prefix-run-path-2 c =
-    let t : tie.Then1 = c .before .before .before .before .before .before in
-    let s : tie.Start = t .before .before .before .before .before .before .before .before .before .before .before .before .before .before .before .before .before .before .before .before .before .before .before .before .before .before .before .before .before .before .before .before in
-    let z = number-then t in
-    scratch-long-at s z .weight-long
+slice-reshare-prefix-found-path : tie.Need-slice-reshare-prefix-found-path
+unfolding after-it
+slice-reshare-prefix-found-path c = status-room (c .before .before .before .before .before .before .before .before .before .before .before .before .before .before)
 
-slice-aggregate-run-path-5 : tie.Need-slice-aggregate-run-path-5
-unfolding number-at engine-of scratch-at
-slice-aggregate-run-path-5 c =
-    let t : tie.Then1 = c .before .before .before .before .before .before .before in
-    let s : tie.Start = t .before .before .before .before .before .before .before .before .before .before .before .before .before .before .before .before .before .before .before .before .before .before .before .before .before .before .before .before .before .before .before .before in
-    let z = number-then t in
-    sym (length-take-le (s .args .c .vertices) (s .args .weight .now) (scratch-long-at s z .weight-long))
+slice-aggregate-found-path : tie.Need-slice-aggregate-found-path
+unfolding after-it
+slice-aggregate-found-path c = sym (length-take-le _ _ (status-room (c .before .before .before .before .before .before .before .before .before .before .before .before .before .before .before)))
 
-slice-relend-prefix-run-path-3 : tie.Need-slice-relend-prefix-run-path-3
-unfolding number-at engine-of scratch-at
-slice-relend-prefix-run-path-3 c =
-    let t : tie.Then1 = c .before .before .before .before .before .before .before in
-    let s : tie.Start = t .before .before .before .before .before .before .before .before .before .before .before .before .before .before .before .before .before .before .before .before .before .before .before .before .before .before .before .before .before .before .before .before in
-    let z = number-then t in
-    scratch-long-at s z .previous-long
+slice-reshare-prefix-found-path-2 : tie.Need-slice-reshare-prefix-found-path-2
+unfolding after-it
+slice-reshare-prefix-found-path-2 c = weight-room (c .before .before .before .before .before .before .before .before .before .before .before .before .before .before .before)
 
-slice-aggregate-run-path-6 : tie.Need-slice-aggregate-run-path-6
-unfolding number-at engine-of scratch-at
-slice-aggregate-run-path-6 c =
-    let t : tie.Then1 = c .before .before .before .before .before .before .before .before in
-    let s : tie.Start = t .before .before .before .before .before .before .before .before .before .before .before .before .before .before .before .before .before .before .before .before .before .before .before .before .before .before .before .before .before .before .before .before in
-    let z = number-then t in
-    sym (length-take-le (s .args .c .vertices) (s .args .previous .now) (scratch-long-at s z .previous-long))
+slice-aggregate-found-path-2 : tie.Need-slice-aggregate-found-path-2
+unfolding after-it
+slice-aggregate-found-path-2 c = sym (length-take-le _ _ (weight-room (c .before .before .before .before .before .before .before .before .before .before .before .before .before .before .before .before)))
 
-slice-relend-prefix-run-path-4 : tie.Need-slice-relend-prefix-run-path-4
-unfolding number-at engine-of scratch-at
-slice-relend-prefix-run-path-4 c =
-    let t : tie.Then1 = c .before .before .before .before .before .before .before .before .before in
-    let s : tie.Start = t .before .before .before .before .before .before .before .before .before .before .before .before .before .before .before .before .before .before .before .before .before .before .before .before .before .before .before .before .before .before .before .before in
-    let z = number-then t in
-    scratch-long-at s z .leaf-long
+slice-reshare-prefix-found-path-3 : tie.Need-slice-reshare-prefix-found-path-3
+unfolding after-it
+slice-reshare-prefix-found-path-3 c = previous-room (c .before .before .before .before .before .before .before .before .before .before .before .before .before .before .before .before)
 
-slice-aggregate-run-path-7 : tie.Need-slice-aggregate-run-path-7
-unfolding number-at engine-of scratch-at
-slice-aggregate-run-path-7 c =
-    let t : tie.Then1 = c .before .before .before .before .before .before .before .before .before .before in
-    let s : tie.Start = t .before .before .before .before .before .before .before .before .before .before .before .before .before .before .before .before .before .before .before .before .before .before .before .before .before .before .before .before .before .before .before .before in
-    let z = number-then t in
-    sym (length-take-le (s .args .c .vertices) (s .args .leaf .now) (scratch-long-at s z .leaf-long))
+slice-aggregate-found-path-3 : tie.Need-slice-aggregate-found-path-3
+unfolding after-it
+slice-aggregate-found-path-3 c = sym (length-take-le _ _ (previous-room (c .before .before .before .before .before .before .before .before .before .before .before .before .before .before .before .before .before)))
 
-run-path-requires : tie.Need-run-path-requires
-unfolding number-at engine-of scratch-at
-run-path-requires c κs =
-    let t : tie.Then1 = c .before .before .before .before .before .before .before .before .before .before .before .before in
-    let s : tie.Start = t .before .before .before .before .before .before .before .before .before .before .before .before .before .before .before .before .before .before .before .before .before .before .before .before .before .before .before .before .before .before .before .before in
-    let z = number-then t in
-    let k = asked-at s z in
-    let q = scratch-long-at s z in
-    let len = length-take-le (s .args .c .vertices) (s .args .status .now) (q .status-long) in (
-      searchable (engine-of s) (s .args .numbers .now) (s .args .list-ends .now) (s .args .status .now) (s .args .weight .now) (s .args .previous .now) (s .args .node .now) (s .args .leaf .now) (k .long) (k .sound) q,
-      (omega (arith, k .a-in, len), omega (arith, k .b-in, len), k .differ, omega (arith, k .vertices-long, len), omega (arith, k .steps-long, len)),
-    )
+found-path-requires : tie.Need-found-path-requires
+unfolding after-it number-at engine-of
+found-path-requires c κs =
+    let k = asked-at (c .before .before .before .before .before .before .before .before .before .before .before .before .before .before .before .before .before .before .before .before .before .before .before .before .before .before .before .before .before .before .before .before .before .before .before .before .before .before .before .before .before .before .before .before .before .before .before .before .before .before .before .before .before .before .before .before .before .before) (number-then (c .before .before .before .before .before .before .before .before .before .before .before .before .before .before .before .before .before .before .before .before .before .before .before .before .before .before .before)) in
+    let n = status-length (left (c .before .before .before .before .before .before .before .before .before .before .before .before .before .before .before .before .before .before .before)) (settles (c .before .before .before .before .before .before .before .before .before .before .before .before .before .before .before .before .before .before .before)) in
+    (omega (arith, n, settles (c .before .before .before .before .before .before .before .before .before .before .before .before .before .before .before .before .before .before .before) .few), omega (arith, n, k .vertices-long), omega (arith, n, k .steps-long))
 
-same-length : tie.Need-same-length
-same-length c = c .before .before .before .out-vertices .given
-
-same-length-2 : tie.Need-same-length-2
-same-length-2 c = c .before .out-steps .given
-
-same-length-3 : tie.Need-same-length-3
-same-length-3 c = c .before .before .before .before .before .before .before .before .before .before .before .before .before .before .before .before .before .numbers .given
-
-same-length-4 : tie.Need-same-length-4
-same-length-4 c = c .before .before .before .before .before .before .before .before .before .before .before .before .before .before .before .list-ends .given
-
-same-length-8 : tie.Need-same-length-8
-same-length-8 c = c .before .before .before .before .before .before .before .node .given
+-- the path that is read is the definition's
+path-is : (c : tie.After-search)
+    → let v = c .before .before .before .before .before .before .before .before .before .before .before .before .before .before .before .before .before .before .before .before .before .before .before .before .before .before .before .before .before .before .before .before .before .before .before .before .before .before .before .args .c .vertices in pathOf (stateOf (take v (after-it c .status)) (take v (after-it c .weight)) (take v (after-it c .previous))) (length (take v (after-it c .status))) (c .before .before .before .before .before .before .before .before .before .before .before .before .before .before .before .before .before .before .before .before .before .before .before .before .before .before .before .before .before .before .before .before .before .before .before .before .before .before .before .args .a .0) (c .before .before .before .before .before .before .before .before .before .before .before .before .before .before .before .before .before .before .before .before .before .before .before .before .before .before .before .before .before .before .before .before .before .before .before .before .before .before .before .args .b .0)
+    ≡ path (graphIn (engine-of (c .before .before .before .before .before .before .before .before .before .before .before .before .before .before .before .before .before .before .before .before .before .before .before .before .before .before .before .before .before .before .before .before .before .before .before .before .before .before .before))) (weightsIn (engine-of (c .before .before .before .before .before .before .before .before .before .before .before .before .before .before .before .before .before .before .before .before .before .before .before .before .before .before .before .before .before .before .before .before .before .before .before .before .before .before .before))) (c .before .before .before .before .before .before .before .before .before .before .before .before .before .before .before .before .before .before .before .before .before .before .before .before .before .before .before .before .before .before .before .before .before .before .before .before .before .before .before .args .a .0) (c .before .before .before .before .before .before .before .before .before .before .before .before .before .before .before .before .before .before .before .before .before .before .before .before .before .before .before .before .before .before .before .before .before .before .before .before .before .before .before .args .b .0)
+unfolding engine-of state-at
+path-is c =
+    let s = c .before .before .before .before .before .before .before .before .before .before .before .before .before .before .before .before .before .before .before .before .before .before .before .before .before .before .before .before .before .before .before .before .before .before .before .before .before .before .before in
+    let l = left c in
+    let o = settles c in
+    (λ i. pathOf (state-read l o i) (status-length l o i) (s .args .a .0) (s .args .b .0)) ∙ path-of (graphIn (engine-of s)) (weightsIn (engine-of s)) (s .args .a .0) (s .args .b .0) (state-at s) refl
 
 returns : tie.Need-returns
-unfolding number-at engine-of scratch-at
+unfolding number-at engine-of scratch-at state-at before-it after-it
 returns c =
-    let t : tie.Then1 = c .before .before .before .before .before .before .before .before .before .before .before .before .before .before .before .before .before .before .before .before .before .before .before .before .before .before .before .before .before .before .before in
-    let s : tie.Start = t .before .before .before .before .before .before .before .before .before .before .before .before .before .before .before .before .before .before .before .before .before .before .before .before .before .before .before .before .before .before .before .before in
-    let z = number-then t in
-    let len = length-take-le (s .args .c .vertices) (s .args .status .now) (scratch-long-at s z .status-long) in
-    let m = take (s .args .c .vertices) (s .args .boundary .now) in
-    let o = c .before .before .before .before .before .before .before .before .before .before .before .before .before .before .before .before .before .before .run-path .ensures in
-    let f : PathSaid 0 (path (graphIn (engine-of s)) (weightsIn (engine-of s)) (s .args .a .0) (s .args .b .0)) (c .before .before .before .before .before .before .before .before .before .before .before .before .before .before .before .before .before .before .run-path .result) =
-    subst (λ n. PathSaid 0 (path (graphOf n (take (s .args .c .edges) (s .args .ends-a .now)) (take (s .args .c .edges) (s .args .ends-b .now)) m) (weightsIn (engine-of s)) (s .args .a .0) (s .args .b .0)) (c .before .before .before .before .before .before .before .before .before .before .before .before .before .before .before .before .before .before .run-path .result)) len (o .0 m) in (
+    let s : tie.Start = c .before .before .before .before .before .before .before .before .before .before .before .before .before .before .before .before .before .before .before .before .before .before .before .before .before .before .before .before .before .before .before .before .before .before .before .before .before .before .before .before .before .before .before .before .before .before .before .before .before .before .before .before .before .before .before .before .before .before .before .before .before .before .before in
+    let z = number-then (c .before .before .before .before .before .before .before .before .before .before .before .before .before .before .before .before .before .before .before .before .before .before .before .before .before .before .before .before .before .before .before .before) in
+    let o = c .before .before .before .before .found-path .ensures in
+    let r = c .before .before .before .before .found-path .result in
+    let q = path-is (c .before .before .before .before .before .before .before .before .before .before .before .before .before .before .before .before .before .before .before .before .before .before .before .before) in
+    let p = path (graphIn (engine-of s)) (weightsIn (engine-of s)) (s .args .a .0) (s .args .b .0) in
+    let f : PathSaid 0 p r = subst (λ x. PathSaid 0 x r) q (o .0) in (
       record {
-        answer = subst (λ k. PathSaid k (path (graphIn (engine-of s)) (weightsIn (engine-of s)) (s .args .a .0) (s .args .b .0)) (c .before .before .before .before .before .before .before .before .before .before .before .before .before .before .before .before .before .before .run-path .result)) (sym z) f;
-        vertices-after = o .1 .0 m ∙ (λ i. verticesAfter (path (graphOf (len i) (take (s .args .c .edges) (s .args .ends-a .now)) (take (s .args .c .edges) (s .args .ends-b .now)) m) (weightsIn (engine-of s)) (s .args .a .0) (s .args .b .0)) (s .args .out-vertices .now))
-            ∙ sym (ap (λ k. cond (eqb k 0) (verticesAfter (path (graphIn (engine-of s)) (weightsIn (engine-of s)) (s .args .a .0) (s .args .b .0)) (s .args .out-vertices .now)) (s .args .out-vertices .now)) z);
-        steps-after = o .1 .1 m ∙ (λ i. stepsAfter (path (graphOf (len i) (take (s .args .c .edges) (s .args .ends-a .now)) (take (s .args .c .edges) (s .args .ends-b .now)) m) (weightsIn (engine-of s)) (s .args .a .0) (s .args .b .0)) (s .args .out-steps .now))
-            ∙ sym (ap (λ k. cond (eqb k 0) (stepsAfter (path (graphIn (engine-of s)) (weightsIn (engine-of s)) (s .args .a .0) (s .args .b .0)) (s .args .out-steps .now)) (s .args .out-steps .now)) z);
+        answer = subst (λ k. PathSaid k p r) (sym z) f;
+        vertices-after = o .1 .0 ∙ ap (λ x. verticesAfter x (s .args .out-vertices .now)) q ∙ sym (ap (λ k. cond (eqb k 0) (verticesAfter p (s .args .out-vertices .now)) (s .args .out-vertices .now)) z);
+        steps-after = o .1 .1 ∙ ap (λ x. stepsAfter x (s .args .out-steps .now)) q ∙ sym (ap (λ k. cond (eqb k 0) (stepsAfter p (s .args .out-steps .now)) (s .args .out-steps .now)) z);
       },
-      scratch-free (c .before .before .before .before .before .before .before .before .before .before .before .before .before .before .before .before .before .before .run-path .result) (path (graphIn (engine-of s)) (weightsIn (engine-of s)) (s .args .a .0) (s .args .b .0)) _ _ f,
+      scratch-free _ (graphIn (engine-of s)) (state-at s) (before-it s) _ (ap isFree (f .number-is) ∙ free-number p) (left (c .before .before .before .before .before .before .before .before .before .before .before .before .before .before .before .before .before .before .before .before .before .before .before .before)),
     )
 
 returns-2 : tie.Need-returns-2
-unfolding number-at engine-of scratch-at
+unfolding number-at engine-of scratch-at state-at before-it
 returns-2 c =
-    let s : tie.Start = c .before .before .before .before .before .before .before .before .before .before .before .before .before .before .before .before .before .before .before .before .before .before .before .before .before .before .before .before .before .before .before .before in
-    let d : c .before .query-refusal .result ≡ number-at s = path-number (engine-of s) (scratch-at s) (s .args .a .0) (s .args .b .0) _ _ (c .before .query-refusal .ensures) (c .before .before .before .before .before .before .before .before .before .before .both2 .ensures) (c .before .before .before .before .before .before .before .before .before .before .before .both .ensures) (c .before .before .before .before .before .before .before .before .before .before .before .before .before .at-most .ensures) (c .before .before .before .before .before .before .before .before .before .before .before .before .at-most2 .ensures) (c .before .before .before .before .before .before .before .before .before .before .before .before .before .before .scratch-long .ensures) (c .before .before .before .before .before .both3 .ensures) (c .before .before .asked .ensures) in
-    let f : number-at s ≡ 0 → ⊥ = λ e. c .if1 .left (d ∙ e) in (
+    let s : tie.Start = c .before .before .before .before .before .before .before .before .before .before .before .before .before .before .before .before .before .before .before .before .before .before .before .before .before .before .before .before .before .before .before in
+    let d : c .before .query-refusal .result ≡ number-at s = number-is (c .before) in
+    let f : number-at s ≡ 0 → ⊥ = λ e. c .if1 .left (d ∙ e) in
+    let p = path (graphIn (engine-of s)) (weightsIn (engine-of s)) (s .args .a .0) (s .args .b .0) in (
       record {
-        answer = reply-no (number-at s) (c .before .query-refusal .result) (path (graphIn (engine-of s)) (weightsIn (engine-of s)) (s .args .a .0) (s .args .b .0)) d (c .if1 .left);
-        vertices-after = sym (ap (λ k. cond k (verticesAfter (path (graphIn (engine-of s)) (weightsIn (engine-of s)) (s .args .a .0) (s .args .b .0)) (s .args .out-vertices .now)) (s .args .out-vertices .now)) (ne-eqb (number-at s) 0 f));
-        steps-after = sym (ap (λ k. cond k (stepsAfter (path (graphIn (engine-of s)) (weightsIn (engine-of s)) (s .args .a .0) (s .args .b .0)) (s .args .out-steps .now)) (s .args .out-steps .now)) (ne-eqb (number-at s) 0 f));
+        answer = reply-no (number-at s) (c .before .query-refusal .result) p d (c .if1 .left);
+        vertices-after = sym (ap (λ k. cond k (verticesAfter p (s .args .out-vertices .now)) (s .args .out-vertices .now)) (ne-eqb (number-at s) 0 f));
+        steps-after = sym (ap (λ k. cond k (stepsAfter p (s .args .out-steps .now)) (s .args .out-steps .now)) (ne-eqb (number-at s) 0 f));
       },
-      λ e. refl,
+      scratch-kept _ (graphIn (engine-of s)) (state-at s) (before-it s) (ap isFree d ∙ kept-number (engine-of s) (scratch-at s) (s .args .a .0) (s .args .b .0) _ _ f),
     )
 
 pub get-path-spec : {M : Type 1} → statement M
-get-path-spec = tie.close (tie.spec (λ c. search needs) (λ c. search needs) (λ c κs. tt) (λ c κs. tt) (λ c κs. tt) (λ c κs. tt) (λ c κs. tt) (λ c κs. tt) (λ c κs. tt) (λ c κs. tt) slice-aggregate-run-path slice-aggregate-run-path-2 slice-aggregate-run-path-3 slice-relend-prefix-run-path slice-aggregate-run-path-4 slice-relend-prefix-run-path-2 slice-aggregate-run-path-5 slice-relend-prefix-run-path-3 slice-aggregate-run-path-6 slice-relend-prefix-run-path-4 slice-aggregate-run-path-7 run-path-requires same-length same-length-2 same-length-3 same-length-4 (λ c. search needs) (λ c. search needs) (λ c. search needs) same-length-8 (λ c. search needs) returns returns-2)
+get-path-spec = tie.close (tie.spec (λ c. search needs) (λ c κs. tt) (λ c κs. tt) (λ c κs. tt) (λ c κs. tt) (λ c κs. tt) (λ c κs. tt) (λ c κs. tt) (λ c κs. tt) search-requires slice-reshare-prefix-found-path slice-aggregate-found-path slice-reshare-prefix-found-path-2 slice-aggregate-found-path-2 slice-reshare-prefix-found-path-3 slice-aggregate-found-path-3 found-path-requires (λ c. search needs) (λ c. search needs) (λ c. search needs) (λ c. search needs) (λ c. search needs) (λ c. search needs) (λ c. search needs) (λ c. search needs) (λ c. search needs) returns returns-2)

@@ -1,57 +1,97 @@
--- `query_search::search` meets its contract. Assumes nothing.
-use mathlib.Core.Path.{sym, ap, _∙_}
-use Prim.Native.Nat.{ℕ, zero, suc, _+_, _*_, _-_, _<_, _≤_}
+-- `query_search::search` meets its contract: columns are cut to their counts here. Assumes nothing.
+use mathlib.Core.Path.{_≡_, sym, _∙_, subst}
+use mathlib.Core.List.{List, []}
+use Prim.Native.Nat.{ℕ, _<_, _≤_}
 use native.Mathlib.Omega.{arith}
-use lib.ListN.{length}
-use Rattle.columns.proofs.Counting.{length-each}
-use Rattle.query_search.proofs.Listing.{listed}
+use lib.ListN.{length, take}
+use lib.Seq.{length-take-le}
+use Rattle.engine_columns.specs.Records.{engine}
+use Rattle.engine_columns.proofs.Refusals.{ColumnsLong, columns-long-of, ColumnsSound, columns-sound-of}
+use Rattle.query_questions.specs.Queries.{graphIn, weightsIn}
+use Rattle.query_questions.specs.Scratch.{scratchOf}
+use Rattle.query_search.specs.Search.{Starts, stateFrom}
+use Rattle.query_search.proofs.Asked.{ScratchLong, scratch-of, searchable}
+use Rattle.query_search.proofs.Scratch.{searched-as, search-left}
 use borrow.Author.Needs.{needs}
 use Rattle.query_search.proofs.search.Statement.{statement}
 use Rattle.query_search.proofs.search.Tie as tie
 
-fill-lists-requires : tie.Need-fill-lists-requires
-fill-lists-requires c κs =
-    let s = c .before .before .before .before .before .before .before .before .before .before .before .before .before in
-    let p = s .pre .0 in
-    ((omega arith, (omega (arith, p .same-b), (omega (arith, p .previous-fits), (p .ends-fit, p .numbers-fit)))), (p .graph .few-edges, (p .graph .in-a, p .graph .in-b)))
+long : (s : tie.Start) → ColumnsLong (s .args .c .vertices) (s .args .c .edges) (s .args .ends-a .now) (s .args .ends-b .now) (s .args .weights .now) (s .args .boundary .now)
+long s = columns-long-of _ _ _ _ _ _ (s .pre .0 .0)
 
-begin-requires : tie.Need-begin-requires
-begin-requires c κs =
-    let s = c .before .before .before .before .before .before .before .before .before .before .before .before .before .before .before .before .before .before .before .before .before .before .before .before .before in
-    let p = s .pre .0 in
-    (p .graph .few-vertices, p .weight-fits, c .before .before .before .before .before .before .before .before .before .before .before .fill-lists .kept .1 .1 .1 .0 ∙ p .previous-fits, p .node-fits, p .leaf-fits)
+fits : (s : tie.Start) → ScratchLong (s .args .c .vertices) (s .args .c .edges) (length (s .args .numbers .now)) (length (s .args .list-ends .now)) (length (s .args .status .now)) (length (s .args .weight .now)) (length (s .args .previous .now)) (length (s .args .node .now)) (length (s .args .leaf .now))
+fits s = scratch-of _ _ _ _ _ _ _ _ _ (s .pre .1 .0)
 
-settle-requires : tie.Need-settle-requires
-settle-requires c κs =
-    let s = c .before .before .before .before .before .before .before .before .before .before .before .before .before .before .before .before .before .before .before .before .before .before .before .before .before .before .before .before .before .before .before .before .before .before .before .before .before .before .before .before .before in
-    let p = s .pre .0 in
-    let q = s .pre .1 in
-    let f = c .before .before .before .before .before .before .before .before .before .before .before .before .before .before .before .before .before .before .before .before .before .before .before .before .before .before .before .fill-lists in
-    let b = c .before .before .before .before .before .before .before .before .before .before .before .before .before .before .before .begin .ensures in (
-      b .0,
-      (
-        listed p (f .ensures) (f .kept .1 .1 .1 .1 .0) (f .kept .1 .1 .1 .1 .1 .0),
-        record { bytes = q .bytes; no-weight = b .1 .0; own-previous = b .1 .1; light = p .light; no-source = q .no-source },
-      ),
+slice-aggregate-search-cut : tie.Need-slice-aggregate-search-cut
+slice-aggregate-search-cut c = let s : tie.Start = c .before .before .before .before .before .before .before .before .before .before .before .before .before .before in sym (length-take-le (s .args .c .edges) (s .args .ends-a .now) (long s .endsA))
+
+slice-aggregate-search-cut-2 : tie.Need-slice-aggregate-search-cut-2
+slice-aggregate-search-cut-2 c = let s : tie.Start = c .before .before .before .before .before .before .before .before .before .before .before .before .before .before .before in sym (length-take-le (s .args .c .edges) (s .args .ends-b .now) (long s .endsB))
+
+slice-aggregate-search-cut-3 : tie.Need-slice-aggregate-search-cut-3
+slice-aggregate-search-cut-3 c = let s : tie.Start = c .before .before .before .before .before .before .before .before .before .before .before .before .before .before .before .before in sym (length-take-le (s .args .c .edges) (s .args .weights .now) (long s .weights))
+
+slice-aggregate-search-cut-4 : tie.Need-slice-aggregate-search-cut-4
+slice-aggregate-search-cut-4 c = let s : tie.Start = c .before .before .before .before .before .before .before .before .before .before .before .before .before .before .before .before .before in sym (length-take-le (s .args .c .vertices) (s .args .boundary .now) (long s .boundary))
+
+slice-relend-prefix-search-cut : tie.Need-slice-relend-prefix-search-cut
+slice-relend-prefix-search-cut c = let s : tie.Start = c .before .before .before .before .before .before .before .before .before .before .before .before .before .before .before .before .before .before in fits s .ends-long
+
+slice-aggregate-search-cut-5 : tie.Need-slice-aggregate-search-cut-5
+slice-aggregate-search-cut-5 c = let s : tie.Start = c .before .before .before .before .before .before .before .before .before .before .before .before .before .before .before .before .before .before .before in sym (length-take-le (s .args .c .vertices) (s .args .list-ends .now) (fits s .ends-long))
+
+slice-relend-prefix-search-cut-2 : tie.Need-slice-relend-prefix-search-cut-2
+slice-relend-prefix-search-cut-2 c = let s : tie.Start = c .before .before .before .before .before .before .before .before .before .before .before .before .before .before .before .before .before .before .before in fits s .status-long
+
+slice-aggregate-search-cut-6 : tie.Need-slice-aggregate-search-cut-6
+slice-aggregate-search-cut-6 c = let s : tie.Start = c .before .before .before .before .before .before .before .before .before .before .before .before .before .before .before .before .before .before .before .before in sym (length-take-le (s .args .c .vertices) (s .args .status .now) (fits s .status-long))
+
+slice-relend-prefix-search-cut-3 : tie.Need-slice-relend-prefix-search-cut-3
+slice-relend-prefix-search-cut-3 c = let s : tie.Start = c .before .before .before .before .before .before .before .before .before .before .before .before .before .before .before .before .before .before .before .before in fits s .weight-long
+
+slice-aggregate-search-cut-7 : tie.Need-slice-aggregate-search-cut-7
+slice-aggregate-search-cut-7 c = let s : tie.Start = c .before .before .before .before .before .before .before .before .before .before .before .before .before .before .before .before .before .before .before .before .before in sym (length-take-le (s .args .c .vertices) (s .args .weight .now) (fits s .weight-long))
+
+slice-relend-prefix-search-cut-4 : tie.Need-slice-relend-prefix-search-cut-4
+slice-relend-prefix-search-cut-4 c = let s : tie.Start = c .before .before .before .before .before .before .before .before .before .before .before .before .before .before .before .before .before .before .before .before .before in fits s .previous-long
+
+slice-aggregate-search-cut-8 : tie.Need-slice-aggregate-search-cut-8
+slice-aggregate-search-cut-8 c = let s : tie.Start = c .before .before .before .before .before .before .before .before .before .before .before .before .before .before .before .before .before .before .before .before .before .before in sym (length-take-le (s .args .c .vertices) (s .args .previous .now) (fits s .previous-long))
+
+slice-relend-prefix-search-cut-5 : tie.Need-slice-relend-prefix-search-cut-5
+slice-relend-prefix-search-cut-5 c = let s : tie.Start = c .before .before .before .before .before .before .before .before .before .before .before .before .before .before .before .before .before .before .before .before .before .before in fits s .node-long
+
+slice-aggregate-search-cut-9 : tie.Need-slice-aggregate-search-cut-9
+slice-aggregate-search-cut-9 c = let s : tie.Start = c .before .before .before .before .before .before .before .before .before .before .before .before .before .before .before .before .before .before .before .before .before .before .before in sym (length-take-le (s .args .c .vertices) (s .args .node .now) (fits s .node-long))
+
+slice-relend-prefix-search-cut-6 : tie.Need-slice-relend-prefix-search-cut-6
+slice-relend-prefix-search-cut-6 c = let s : tie.Start = c .before .before .before .before .before .before .before .before .before .before .before .before .before .before .before .before .before .before .before .before .before .before .before in fits s .leaf-long
+
+slice-aggregate-search-cut-10 : tie.Need-slice-aggregate-search-cut-10
+slice-aggregate-search-cut-10 c = let s : tie.Start = c .before .before .before .before .before .before .before .before .before .before .before .before .before .before .before .before .before .before .before .before .before .before .before .before in sym (length-take-le (s .args .c .vertices) (s .args .leaf .now) (fits s .leaf-long))
+
+search-cut-requires : tie.Need-search-cut-requires
+search-cut-requires c κs =
+    let s : tie.Start = c .before .before .before .before .before .before .before .before .before .before .before .before .before .before .before .before .before .before .before .before .before .before .before .before in
+    let v = s .args .c .vertices in
+    let len = length-take-le v (s .args .status .now) (fits s .status-long) in (
+      searchable v (s .args .c .edges) (s .args .ends-a .now) (s .args .ends-b .now) (s .args .weights .now) (s .args .boundary .now) (s .args .numbers .now) (s .args .list-ends .now) (s .args .status .now) (s .args .weight .now) (s .args .previous .now) (s .args .node .now) (s .args .leaf .now)
+          (long s) (columns-sound-of _ _ _ _ _ _ (s .pre .0 .1)) (fits s),
+      (length-take-le v (s .args .boundary .now) (long s .boundary) ∙ sym len, sym len, subst (Starts (s .args .origin)) (sym len) (s .pre .1 .1)),
     )
-
-same-length : tie.Need-same-length
-same-length c = c .before .before .before .before .before .before .before .before .before .before .before .before .before .before .before .before .before .before .before .before .before .before .before .before .before .before .before .before .before .before .before .before .before .before .before .numbers .given
-
-same-length-2 : tie.Need-same-length-2
-same-length-2 c = c .before .before .before .before .before .before .before .before .before .before .before .before .before .before .before .before .before .before .before .before .before .before .before .before .before .before .before .before .before .before .before .before .before .list-ends .given
-
-same-length-3 : tie.Need-same-length-3
-same-length-3 c = c .before .before .before .before .before .before .before .before .before .status .given
-
-same-length-5 : tie.Need-same-length-5
-same-length-5 c = let s = c .before .before .before .before .before .before .before .before .before .before .before .before .before .before .before .before .before .before .before .before .before .before .before .before .before .before .before .before .before .before .before .before .before .before .before .before .before .before .before .before .before .before .before .before .before .before .before .before .before .before .before .before in let p = s .pre .0 in c .before .before .before .before .before .before .before .before .before .before .settle .kept .1 .1 .1 .1 .1 .1 .1 .0 ∙ ap length (c .before .before .before .before .before .before .before .before .before .before .before .before .before .before .before .before .before .before .before .before .before .before .before .before .before .before .begin .ensures .1 .1) ∙ length-each (length (s .args .status .now)) (λ v. v) ∙ sym (p .previous-fits)
 
 returns : tie.Need-returns
 returns c =
-    let k = c .before .before .before .before .before .before .before .before .before .before .settle .ensures in
-    let f = c .before .before .before .before .before .before .before .before .before .before .before .before .before .before .before .before .before .before .before .before .before .before .before .before .before .before .before .before .before .before .before .before .before .before .before .before .before .before .fill-lists .ensures in
-    (k .0, (k .1, record { numbers-are = f .numbers-are; ends-are = f .ends-are }))
+    let s : tie.Start = c .before .before .before .before .before .before .before .before .before .before .before .before .before .before .before .before .before .before .before .before .before .before .before .before .before .before .before .before .before .before .before .before .before .before .before .before .before .before .before in
+    let v = s .args .c .vertices in
+    let e = engine (s .args .c) (s .args .ends-a .now) (s .args .ends-b .now) (s .args .weights .now) (s .args .boundary .now) [] [] in
+    let found = searched-as (s .args .origin) (weightsIn e) (length-take-le v (s .args .status .now) (fits s .status-long)) (c .before .before .before .before .before .before .before .before .before .before .before .before .before .before .search-cut .ensures) in (
+      search-left (graphIn e) (stateFrom (s .args .origin) (graphIn e) (weightsIn e))
+          (scratchOf (s .args .numbers .now) (s .args .list-ends .now) (s .args .status .now) (s .args .weight .now) (s .args .previous .now) (s .args .node .now) (s .args .leaf .now))
+          (c .before .before .before .before .before .before .before .before .before .before .before .before .before .before .search-cut .kept .1 .1 .1 .1 .1 .1 .1 .0 ∙ length-take-le v (s .args .list-ends .now) (fits s .ends-long))
+          (c .before .before .before .before .before .before .before .before .before .before .before .before .before .before .search-cut .kept .1 .1 .1 .1 .1 .1 .1 .1 .1 .1 .1 .0 ∙ length-take-le v (s .args .node .now) (fits s .node-long)) found,
+      record { few = found .ready .few; status-fits = found .ready .status-fits; weight-fits = found .ready .weight-fits; previous-fits = found .ready .previous-fits; light = found .ready .light },
+    )
 
 pub search-spec : {M : Type 1} → statement M
-search-spec = tie.close (tie.spec fill-lists-requires begin-requires settle-requires same-length same-length-2 same-length-3 (λ c. search needs) same-length-5 (λ c. search needs) (λ c. search needs) returns)
+search-spec = tie.close (tie.spec (λ c. search needs) (λ c. search needs) slice-aggregate-search-cut slice-aggregate-search-cut-2 slice-aggregate-search-cut-3 slice-aggregate-search-cut-4 slice-relend-prefix-search-cut slice-aggregate-search-cut-5 slice-relend-prefix-search-cut-2 slice-aggregate-search-cut-6 slice-relend-prefix-search-cut-3 slice-aggregate-search-cut-7 slice-relend-prefix-search-cut-4 slice-aggregate-search-cut-8 slice-relend-prefix-search-cut-5 slice-aggregate-search-cut-9 slice-relend-prefix-search-cut-6 slice-aggregate-search-cut-10 search-cut-requires (λ c. search needs) (λ c. search needs) (λ c. search needs) (λ c. search needs) (λ c. search needs) (λ c. search needs) (λ c. search needs) returns)

@@ -1,21 +1,28 @@
 -- `query_tables::all_edges_with_terminate` meets its contract. Assumes nothing.
-use mathlib.Core.Path.{_≡_, refl, sym, ap, _∙_}
+use mathlib.Core.Path.{_≡_, refl, sym, ap, _∙_, subst}
 use Prim.Native.Nat.{ℕ, zero, suc, _+_, _*_, _<_, _≤_}
 use native.Mathlib.Omega.{arith}
 use mathlib.Core.Bool.{Bool}
 use lib.ListN.{length, take}
 use lib.Seq.{sets, length-take-le}
+use Rattle.columns.specs.Lists.{each}
 use Rattle.columns.proofs.Columns.{sets-over, after-accepted, after-refused}
+use Rattle.columns_answers.proofs.Said.{accepts-of, refuses-of}
 use Rattle.engine_columns.specs.Records.{Engine, engine}
-use Rattle.engine_walks.specs.Answers.{table}
-use Rattle.query_relaxing.specs.Ready.{endOf, graphOf}
+use Rattle.engine_columns.proofs.Refusals.{columns-long-from, columns-sound-from}
+use Rattle.engine_walks.specs.Settling.{State, settled}
+use Rattle.engine_walks.specs.Answers.{only, tableWeight, tablePrevious, table}
+use Rattle.query_relaxing.specs.Ready.{endOf}
 use Rattle.query_questions.specs.Queries.{graphIn, weightsIn, scratchLong}
+use Rattle.query_questions.specs.Scratch.{ScratchColumns, scratchOf, isFree, SearchLeft}
+use Rattle.query_search.specs.Search.{Settles}
+use Rattle.query_search.proofs.Asked.{ScratchLong, scratch-of}
+use Rattle.query_search.proofs.Scratch.{scratch-free, scratch-kept}
+use Rattle.query_search.proofs.Reading.{state-read, status-length, weight-length, previous-length, light-read}
 use Rattle.query_tables.specs.Ends.{endIn}
 use Rattle.query_tables.specs.Steps.{tableRefusal}
-use Rattle.query_tables.proofs.Tables.{TableAsked, table-of, table-number}
-use Rattle.columns_answers.proofs.Said.{accepts-of, refuses-of}
-use Rattle.query_search.proofs.Asked.{ScratchLong, scratch-of, searchable}
-use Rattle.query_tables.proofs.Sources.{table-same, stop-other, table-weights-length, table-previous-length}
+use Rattle.query_tables.proofs.Tables.{TableAsked, table-of, table-number, kept-number}
+use Rattle.query_tables.proofs.Sources.{stop-same, stop-other, table-weights-length, table-previous-length}
 use borrow.Author.Needs.{needs}
 use Rattle.query_tables.proofs.all_edges_with_terminate.Statement.{statement}
 use Rattle.query_tables.proofs.all_edges_with_terminate.Tie as tie
@@ -34,170 +41,155 @@ asked-at : (s : tie.Start) → number-at s ≡ 0 → TableAsked (engine-of s) (s
 unfolding number-at
 asked-at s z = table-of (engine-of s) (scratch-at s) (s .args .source .0) (s .args .end) _ _ z
 
-scratch-long-at : (s : tie.Start) → number-at s ≡ 0 → ScratchLong (s .args .c .vertices) (s .args .c .edges) (length (s .args .numbers .now)) (length (s .args .list-ends .now)) (length (s .args .status .now)) (length (s .args .weight .now)) (length (s .args .previous .now)) (length (s .args .node .now)) (length (s .args .leaf .now))
+fits : (s : tie.Start) → number-at s ≡ 0 → ScratchLong (s .args .c .vertices) (s .args .c .edges) (length (s .args .numbers .now)) (length (s .args .list-ends .now)) (length (s .args .status .now)) (length (s .args .weight .now)) (length (s .args .previous .now)) (length (s .args .node .now)) (length (s .args .leaf .now))
 unfolding scratch-at
-scratch-long-at s z = scratch-of _ _ _ _ _ _ _ _ _ (asked-at s z .scratch-is)
+fits s z = scratch-of _ _ _ _ _ _ _ _ _ (asked-at s z .scratch-is)
 
-number-then : (c : tie.Then1) → number-at (c .before .before .before .before .before .before .before .before .before .before .before .before .before .before .before .before .before .before .before .before .before .before .before .before .before .before .before) ≡ 0
+number-is : (c : tie.After-query-refusal) → c .query-refusal .result ≡ number-at (c .before .before .before .before .before .before .before .before .before .before .before .before .before .before .before .before .before .before .before .before .before .before .before .before .before)
 unfolding number-at engine-of scratch-at
-number-then c = sym (table-number (engine-of (c .before .before .before .before .before .before .before .before .before .before .before .before .before .before .before .before .before .before .before .before .before .before .before .before .before .before .before)) (scratch-at (c .before .before .before .before .before .before .before .before .before .before .before .before .before .before .before .before .before .before .before .before .before .before .before .before .before .before .before)) (c .before .before .before .before .before .before .before .before .before .before .before .before .before .before .before .before .before .before .before .before .before .before .before .before .before .before .before .args .source .0) (c .before .before .before .before .before .before .before .before .before .before .before .before .before .before .before .before .before .before .before .before .before .before .before .before .before .before .before .args .end) _ _ (c .before .query-refusal .ensures) (c .before .before .before .before .before .before .both2 .ensures) (c .before .before .before .before .before .before .before .both .ensures) (c .before .before .before .before .before .before .before .before .before .at-most .ensures) (c .before .before .before .before .before .before .before .before .at-most2 .ensures) (c .before .before .before .before .before .before .before .before .before .before .scratch-long .ensures) (c .before .before .both3 .ensures) (c .before .before .before .end-in-range .ensures)) ∙ c .if1 .taken
+number-is c = let s = c .before .before .before .before .before .before .before .before .before .before .before .before .before .before .before .before .before .before .before .before .before .before .before .before .before in table-number (engine-of s) (scratch-at s) (s .args .source .0) (s .args .end) _ _ (c .query-refusal .ensures) (c .before .before .before .before .before .both2 .ensures) (c .before .before .before .before .before .before .both .ensures) (c .before .before .before .before .before .before .before .before .at-most .ensures) (c .before .before .before .before .before .before .before .at-most2 .ensures) (c .before .before .before .before .before .before .before .before .before .scratch-long .ensures) (c .before .both3 .ensures) (c .before .before .end-in-range .ensures)
 
-slice-aggregate-run-table : tie.Need-slice-aggregate-run-table
-unfolding number-at engine-of scratch-at
-slice-aggregate-run-table c =
-    let t : tie.Then1 = c .before .before in
-    let s : tie.Start = t .before .before .before .before .before .before .before .before .before .before .before .before .before .before .before .before .before .before .before .before .before .before .before .before .before .before .before in
-    let z = number-then t in
-    sym (length-take-le (s .args .c .edges) (s .args .ends-a .now) (asked-at s z .long .columns .endsA))
+number-then : (t : tie.Then1) → number-at (t .before .before .before .before .before .before .before .before .before .before .before .before .before .before .before .before .before .before .before .before .before .before .before .before .before .before) ≡ 0
+number-then t = sym (number-is (t .before)) ∙ t .if1 .taken
 
-slice-aggregate-run-table-2 : tie.Need-slice-aggregate-run-table-2
-unfolding number-at engine-of scratch-at
-slice-aggregate-run-table-2 c =
-    let t : tie.Then1 = c .before .before .before in
-    let s : tie.Start = t .before .before .before .before .before .before .before .before .before .before .before .before .before .before .before .before .before .before .before .before .before .before .before .before .before .before .before in
-    let z = number-then t in
-    sym (length-take-le (s .args .c .edges) (s .args .ends-b .now) (asked-at s z .long .columns .endsB))
+-- ---- what the search leaves
 
-slice-aggregate-run-table-3 : tie.Need-slice-aggregate-run-table-3
-unfolding number-at engine-of scratch-at
-slice-aggregate-run-table-3 c =
-    let t : tie.Then1 = c .before .before .before .before in
-    let s : tie.Start = t .before .before .before .before .before .before .before .before .before .before .before .before .before .before .before .before .before .before .before .before .before .before .before .before .before .before .before in
-    let z = number-then t in
-    sym (length-take-le (s .args .c .edges) (s .args .weights .now) (asked-at s z .long .columns .weights))
+state-at : tie.Start → State
+unfolding engine-of
+state-at s = settled (graphIn (engine-of s)) (weightsIn (engine-of s)) (only (s .args .source .0)) (endIn (s .args .end))
 
-slice-relend-prefix-run-table : tie.Need-slice-relend-prefix-run-table
-unfolding number-at engine-of scratch-at
-slice-relend-prefix-run-table c =
-    let t : tie.Then1 = c .before .before .before .before .before .before in
-    let s : tie.Start = t .before .before .before .before .before .before .before .before .before .before .before .before .before .before .before .before .before .before .before .before .before .before .before .before .before .before .before in
-    let z = number-then t in
-    scratch-long-at s z .status-long
+before-it : tie.Start → ScratchColumns
+before-it s = scratchOf (s .args .numbers .now) (s .args .list-ends .now) (s .args .status .now) (s .args .weight .now) (s .args .previous .now) (s .args .node .now) (s .args .leaf .now)
 
-slice-aggregate-run-table-4 : tie.Need-slice-aggregate-run-table-4
-unfolding number-at engine-of scratch-at
-slice-aggregate-run-table-4 c =
-    let t : tie.Then1 = c .before .before .before .before .before .before .before in
-    let s : tie.Start = t .before .before .before .before .before .before .before .before .before .before .before .before .before .before .before .before .before .before .before .before .before .before .before .before .before .before .before in
-    let z = number-then t in
-    sym (length-take-le (s .args .c .vertices) (s .args .status .now) (scratch-long-at s z .status-long))
+after-it : tie.After-search → ScratchColumns
+after-it c = let l = c .search .last .1 .1 .1 .1 .1 .1 in scratchOf (l .0) (l .1 .0) (l .1 .1 .0) (l .1 .1 .1 .0) (l .1 .1 .1 .1 .0) (l .1 .1 .1 .1 .1 .0) (l .1 .1 .1 .1 .1 .1 .0)
 
-slice-relend-prefix-run-table-2 : tie.Need-slice-relend-prefix-run-table-2
-unfolding number-at engine-of scratch-at
-slice-relend-prefix-run-table-2 c =
-    let t : tie.Then1 = c .before .before .before .before .before .before .before in
-    let s : tie.Start = t .before .before .before .before .before .before .before .before .before .before .before .before .before .before .before .before .before .before .before .before .before .before .before .before .before .before .before in
-    let z = number-then t in
-    scratch-long-at s z .weight-long
+state-is : (c : tie.After-search) → let s = c .before .before .before .before .before .before .before .before .before .before .before .before .before .before .before .before .before .before .before .before .before .before .before .before .before .before .before .before .before .before .before .before .before .before .before in settled (graphIn (engine-of s)) (weightsIn (engine-of s)) (only (s .args .source .0)) (endOf (s .args .c .vertices) (c .before .before .before .before .before .before .before .before .stop-of .result)) ≡ state-at s
+unfolding engine-of state-at number-at
+state-is c =
+    let s = c .before .before .before .before .before .before .before .before .before .before .before .before .before .before .before .before .before .before .before .before .before .before .before .before .before .before .before .before .before .before .before .before .before .before .before in
+    let g = graphIn (engine-of s) in
+    let w = weightsIn (engine-of s) in
+    ap (λ k. settled g w (only (s .args .source .0)) (endOf (s .args .c .vertices) k)) (c .before .before .before .before .before .before .before .before .stop-of .ensures) ∙ stop-same g w (s .args .source .0) (s .args .end) (asked-at s (number-then (c .before .before .before .before .before .before .before .before .before)) .end-in)
 
-slice-aggregate-run-table-5 : tie.Need-slice-aggregate-run-table-5
-unfolding number-at engine-of scratch-at
-slice-aggregate-run-table-5 c =
-    let t : tie.Then1 = c .before .before .before .before .before .before .before .before in
-    let s : tie.Start = t .before .before .before .before .before .before .before .before .before .before .before .before .before .before .before .before .before .before .before .before .before .before .before .before .before .before .before in
-    let z = number-then t in
-    sym (length-take-le (s .args .c .vertices) (s .args .weight .now) (scratch-long-at s z .weight-long))
+left : (c : tie.After-search) → SearchLeft (graphIn (engine-of (c .before .before .before .before .before .before .before .before .before .before .before .before .before .before .before .before .before .before .before .before .before .before .before .before .before .before .before .before .before .before .before .before .before .before .before))) (state-at (c .before .before .before .before .before .before .before .before .before .before .before .before .before .before .before .before .before .before .before .before .before .before .before .before .before .before .before .before .before .before .before .before .before .before .before)) (before-it (c .before .before .before .before .before .before .before .before .before .before .before .before .before .before .before .before .before .before .before .before .before .before .before .before .before .before .before .before .before .before .before .before .before .before .before)) (after-it c)
+unfolding engine-of before-it after-it
+left c = subst (λ x. SearchLeft (graphIn (engine-of (c .before .before .before .before .before .before .before .before .before .before .before .before .before .before .before .before .before .before .before .before .before .before .before .before .before .before .before .before .before .before .before .before .before .before .before))) x (before-it (c .before .before .before .before .before .before .before .before .before .before .before .before .before .before .before .before .before .before .before .before .before .before .before .before .before .before .before .before .before .before .before .before .before .before .before)) (after-it c)) (state-is c) (c .search .ensures .0)
 
-slice-relend-prefix-run-table-3 : tie.Need-slice-relend-prefix-run-table-3
-unfolding number-at engine-of scratch-at
-slice-relend-prefix-run-table-3 c =
-    let t : tie.Then1 = c .before .before .before .before .before .before .before .before in
-    let s : tie.Start = t .before .before .before .before .before .before .before .before .before .before .before .before .before .before .before .before .before .before .before .before .before .before .before .before .before .before .before in
-    let z = number-then t in
-    scratch-long-at s z .previous-long
+settles : (c : tie.After-search) → Settles (c .before .before .before .before .before .before .before .before .before .before .before .before .before .before .before .before .before .before .before .before .before .before .before .before .before .before .before .before .before .before .before .before .before .before .before .args .c .vertices) (state-at (c .before .before .before .before .before .before .before .before .before .before .before .before .before .before .before .before .before .before .before .before .before .before .before .before .before .before .before .before .before .before .before .before .before .before .before))
+unfolding engine-of
+settles c = subst (λ x. Settles (c .before .before .before .before .before .before .before .before .before .before .before .before .before .before .before .before .before .before .before .before .before .before .before .before .before .before .before .before .before .before .before .before .before .before .before .args .c .vertices) x) (state-is c) (c .search .ensures .1)
 
-slice-aggregate-run-table-6 : tie.Need-slice-aggregate-run-table-6
+search-requires : tie.Need-search-requires
 unfolding number-at engine-of scratch-at
-slice-aggregate-run-table-6 c =
-    let t : tie.Then1 = c .before .before .before .before .before .before .before .before .before in
-    let s : tie.Start = t .before .before .before .before .before .before .before .before .before .before .before .before .before .before .before .before .before .before .before .before .before .before .before .before .before .before .before in
-    let z = number-then t in
-    sym (length-take-le (s .args .c .vertices) (s .args .previous .now) (scratch-long-at s z .previous-long))
-
-slice-relend-prefix-run-table-4 : tie.Need-slice-relend-prefix-run-table-4
-unfolding number-at engine-of scratch-at
-slice-relend-prefix-run-table-4 c =
-    let t : tie.Then1 = c .before .before .before .before .before .before .before .before .before .before in
-    let s : tie.Start = t .before .before .before .before .before .before .before .before .before .before .before .before .before .before .before .before .before .before .before .before .before .before .before .before .before .before .before in
-    let z = number-then t in
-    scratch-long-at s z .leaf-long
-
-slice-aggregate-run-table-7 : tie.Need-slice-aggregate-run-table-7
-unfolding number-at engine-of scratch-at
-slice-aggregate-run-table-7 c =
-    let t : tie.Then1 = c .before .before .before .before .before .before .before .before .before .before .before in
-    let s : tie.Start = t .before .before .before .before .before .before .before .before .before .before .before .before .before .before .before .before .before .before .before .before .before .before .before .before .before .before .before in
-    let z = number-then t in
-    sym (length-take-le (s .args .c .vertices) (s .args .leaf .now) (scratch-long-at s z .leaf-long))
-
-run-table-requires : tie.Need-run-table-requires
-unfolding number-at engine-of scratch-at
-run-table-requires c κs =
-    let t : tie.Then1 = c .before .before .before .before .before .before .before .before .before .before .before .before .before in
-    let s : tie.Start = t .before .before .before .before .before .before .before .before .before .before .before .before .before .before .before .before .before .before .before .before .before .before .before .before .before .before .before in
-    let z = number-then t in
-    let k = asked-at s z in
-    let q = scratch-long-at s z in
-    let len = length-take-le (s .args .c .vertices) (s .args .status .now) (q .status-long) in (
-      searchable (engine-of s) (s .args .numbers .now) (s .args .list-ends .now) (s .args .status .now) (s .args .weight .now) (s .args .previous .now) (s .args .node .now) (s .args .leaf .now) (k .long) (k .sound) q,
-      (omega (arith, k .source-in, len), (λ e. stop-other (s .args .source .0) (s .args .c .vertices) (s .args .end) (k .source-in) (sym (c .before .before .before .before .before .before .before .before .before .before .before .before .stop-of .ensures) ∙ e)), omega (arith, k .weights-long, len), omega (arith, k .previous-long, len)),
+search-requires c κs =
+    let s : tie.Start = c .before .before .before .before .before .before .before .before .before .before .before .before .before .before .before .before .before .before .before .before .before .before .before .before .before .before .before .before .before .before .before .before .before .before in
+    let k = asked-at s (number-then (c .before .before .before .before .before .before .before .before)) in (
+      (columns-long-from _ _ _ _ _ _ (k .long .columns), columns-sound-from _ _ _ _ _ _ (k .sound .columns)),
+      (k .scratch-is, (k .source-in, λ e. stop-other (s .args .source .0) (s .args .c .vertices) (s .args .end) (k .source-in) (sym (c .before .before .before .before .before .before .before .stop-of .ensures) ∙ e))),
     )
 
-same-length : tie.Need-same-length
-same-length c = c .before .before .out-weight .given
+-- ---- the columns read
 
-same-length-2 : tie.Need-same-length-2
-same-length-2 c = c .before .out-previous .given
+status-room : (c : tie.After-search) → c .before .before .before .before .before .before .before .before .before .before .before .before .before .before .before .before .before .before .before .before .before .before .before .before .before .before .before .before .before .before .before .before .before .before .before .args .c .vertices ≤ length (after-it c .status)
+unfolding after-it
+status-room c = omega (arith, c .search .kept .1 .1 .1 .1 .1 .1 .1 .1 .0, fits (c .before .before .before .before .before .before .before .before .before .before .before .before .before .before .before .before .before .before .before .before .before .before .before .before .before .before .before .before .before .before .before .before .before .before .before) (number-then (c .before .before .before .before .before .before .before .before .before)) .status-long)
 
-same-length-3 : tie.Need-same-length-3
-same-length-3 c = c .before .before .before .before .before .before .before .before .before .before .before .before .before .before .before .before .numbers .given
+weight-room : (c : tie.After-search) → c .before .before .before .before .before .before .before .before .before .before .before .before .before .before .before .before .before .before .before .before .before .before .before .before .before .before .before .before .before .before .before .before .before .before .before .args .c .vertices ≤ length (after-it c .weight)
+unfolding after-it
+weight-room c = omega (arith, c .search .kept .1 .1 .1 .1 .1 .1 .1 .1 .1 .0, fits (c .before .before .before .before .before .before .before .before .before .before .before .before .before .before .before .before .before .before .before .before .before .before .before .before .before .before .before .before .before .before .before .before .before .before .before) (number-then (c .before .before .before .before .before .before .before .before .before)) .weight-long)
 
-same-length-4 : tie.Need-same-length-4
-same-length-4 c = c .before .before .before .before .before .before .before .before .before .before .before .before .before .before .list-ends .given
+previous-room : (c : tie.After-search) → c .before .before .before .before .before .before .before .before .before .before .before .before .before .before .before .before .before .before .before .before .before .before .before .before .before .before .before .before .before .before .before .before .before .before .before .args .c .vertices ≤ length (after-it c .previous)
+unfolding after-it
+previous-room c = omega (arith, c .search .kept .1 .1 .1 .1 .1 .1 .1 .1 .1 .1 .0, fits (c .before .before .before .before .before .before .before .before .before .before .before .before .before .before .before .before .before .before .before .before .before .before .before .before .before .before .before .before .before .before .before .before .before .before .before) (number-then (c .before .before .before .before .before .before .before .before .before)) .previous-long)
 
-same-length-8 : tie.Need-same-length-8
-same-length-8 c = c .before .before .before .before .before .before .node .given
+slice-reshare-prefix-write-weights : tie.Need-slice-reshare-prefix-write-weights
+unfolding after-it
+slice-reshare-prefix-write-weights c = status-room (c .before .before .before .before .before .before .before .before .before .before .before .before .before .before)
+
+slice-aggregate-write-weights : tie.Need-slice-aggregate-write-weights
+unfolding after-it
+slice-aggregate-write-weights c = sym (length-take-le _ _ (status-room (c .before .before .before .before .before .before .before .before .before .before .before .before .before .before .before)))
+
+slice-reshare-prefix-write-weights-2 : tie.Need-slice-reshare-prefix-write-weights-2
+unfolding after-it
+slice-reshare-prefix-write-weights-2 c = weight-room (c .before .before .before .before .before .before .before .before .before .before .before .before .before .before .before)
+
+slice-aggregate-write-weights-2 : tie.Need-slice-aggregate-write-weights-2
+unfolding after-it
+slice-aggregate-write-weights-2 c = sym (length-take-le _ _ (weight-room (c .before .before .before .before .before .before .before .before .before .before .before .before .before .before .before .before)))
+
+write-weights-requires : tie.Need-write-weights-requires
+unfolding after-it number-at engine-of
+write-weights-requires c κs =
+    let k = asked-at (c .before .before .before .before .before .before .before .before .before .before .before .before .before .before .before .before .before .before .before .before .before .before .before .before .before .before .before .before .before .before .before .before .before .before .before .before .before .before .before .before .before .before .before .before .before .before .before .before .before .before .before .before) (number-then (c .before .before .before .before .before .before .before .before .before .before .before .before .before .before .before .before .before .before .before .before .before .before .before .before .before .before)) in
+    let l = left (c .before .before .before .before .before .before .before .before .before .before .before .before .before .before .before .before .before) in
+    let o = settles (c .before .before .before .before .before .before .before .before .before .before .before .before .before .before .before .before .before) in
+    (weight-length l o ∙ sym (status-length l o), omega (arith, k .weights-long, status-length l o), light-read l o)
+
+slice-reshare-prefix-write-previous : tie.Need-slice-reshare-prefix-write-previous
+unfolding after-it
+slice-reshare-prefix-write-previous c = status-room (c .before .before .before .before .before .before .before .before .before .before .before .before .before .before .before .before .before .before .before)
+
+slice-aggregate-write-previous : tie.Need-slice-aggregate-write-previous
+unfolding after-it
+slice-aggregate-write-previous c = sym (length-take-le _ _ (status-room (c .before .before .before .before .before .before .before .before .before .before .before .before .before .before .before .before .before .before .before .before)))
+
+slice-reshare-prefix-write-previous-2 : tie.Need-slice-reshare-prefix-write-previous-2
+unfolding after-it
+slice-reshare-prefix-write-previous-2 c = previous-room (c .before .before .before .before .before .before .before .before .before .before .before .before .before .before .before .before .before .before .before .before)
+
+slice-aggregate-write-previous-2 : tie.Need-slice-aggregate-write-previous-2
+unfolding after-it
+slice-aggregate-write-previous-2 c = sym (length-take-le _ _ (previous-room (c .before .before .before .before .before .before .before .before .before .before .before .before .before .before .before .before .before .before .before .before .before)))
+
+write-previous-requires : tie.Need-write-previous-requires
+unfolding after-it number-at engine-of
+write-previous-requires c κs =
+    let k = asked-at (c .before .before .before .before .before .before .before .before .before .before .before .before .before .before .before .before .before .before .before .before .before .before .before .before .before .before .before .before .before .before .before .before .before .before .before .before .before .before .before .before .before .before .before .before .before .before .before .before .before .before .before .before .before .before .before .before .before) (number-then (c .before .before .before .before .before .before .before .before .before .before .before .before .before .before .before .before .before .before .before .before .before .before .before .before .before .before .before .before .before .before .before)) in
+    let l = left (c .before .before .before .before .before .before .before .before .before .before .before .before .before .before .before .before .before .before .before .before .before .before) in
+    let o = settles (c .before .before .before .before .before .before .before .before .before .before .before .before .before .before .before .before .before .before .before .before .before .before) in
+    (previous-length l o ∙ sym (status-length l o), omega (arith, k .previous-long, status-length l o))
 
 returns : tie.Need-returns
-unfolding number-at engine-of scratch-at
+unfolding number-at engine-of scratch-at state-at before-it after-it table
 returns c =
-    let t : tie.Then1 = c .before .before .before .before .before .before .before .before .before .before .before .before .before .before .before .before .before .before .before .before .before .before .before .before .before .before .before .before .before .before .before in
-    let s : tie.Start = t .before .before .before .before .before .before .before .before .before .before .before .before .before .before .before .before .before .before .before .before .before .before .before .before .before .before .before in
-    let z = number-then t in
+    let s : tie.Start = c .before .before .before .before .before .before .before .before .before .before .before .before .before .before .before .before .before .before .before .before .before .before .before .before .before .before .before .before .before .before .before .before .before .before .before .before .before .before .before .before .before .before .before .before .before .before .before .before .before .before .before .before .before .before .before .before .before .before .before .before in
+    let z = number-then (c .before .before .before .before .before .before .before .before .before .before .before .before .before .before .before .before .before .before .before .before .before .before .before .before .before .before .before .before .before .before .before .before .before .before) in
     let k = asked-at s z in
-    let q = scratch-long-at s z in
-    let n = (s .args .c .vertices) in
-    let len = length-take-le n (s .args .status .now) (q .status-long) in
+    let l = left (c .before .before .before .before .before .before .before .before .before .before .before .before .before .before .before .before .before .before .before .before .before .before .before .before .before) in
+    let o = settles (c .before .before .before .before .before .before .before .before .before .before .before .before .before .before .before .before .before .before .before .before .before .before .before .before .before) in
+    let v = s .args .c .vertices in
+    let S = state-at s in
+    let out = s .args .out-weight .now in
+    let back = s .args .out-previous .now in
     let g = graphIn (engine-of s) in
     let w = weightsIn (engine-of s) in
     let src = s .args .source .0 in
-    let t-is : table g w src (endOf n (c .before .before .before .before .before .before .before .before .before .before .before .before .before .before .before .before .before .before .before .before .before .before .before .before .before .before .before .before .before .before .stop-of .result)) ≡ table g w src (endIn (s .args .end)) = ap (λ x. table g w src (endOf n x)) (c .before .before .before .before .before .before .before .before .before .before .before .before .before .before .before .before .before .before .before .before .before .before .before .before .before .before .before .before .before .before .stop-of .ensures) ∙ table-same g w src (s .args .end) (k .end-in) in
-    let o = c .before .before .before .before .before .before .before .before .before .before .before .before .before .before .before .before .before .run-table .ensures in (
+    let end = endIn (s .args .end) in (
       record {
         answer = accepts-of z;
-        weights-after = o .0 (take n (s .args .boundary .now)) ∙ (λ i. sets (s .args .out-weight .now) 0 (table (graphOf (len i) (take (s .args .c .edges) (s .args .ends-a .now)) (take (s .args .c .edges) (s .args .ends-b .now)) (take n (s .args .boundary .now))) w src (endOf (len i) (c .before .before .before .before .before .before .before .before .before .before .before .before .before .before .before .before .before .before .before .before .before .before .before .before .before .before .before .before .before .before .stop-of .result)) .weights))
-            ∙ ap (λ x. sets (s .args .out-weight .now) 0 (x .weights)) t-is ∙ sets-over (s .args .out-weight .now) (table g w src (endIn (s .args .end)) .weights) (omega (arith, table-weights-length g w src (endIn (s .args .end)), k .weights-long))
-            ∙ sym (after-accepted (number-at s) (table g w src (endIn (s .args .end)) .weights) (s .args .out-weight .now) z);
-        previous-after = o .1 (take n (s .args .boundary .now)) ∙ (λ i. sets (s .args .out-previous .now) 0 (table (graphOf (len i) (take (s .args .c .edges) (s .args .ends-a .now)) (take (s .args .c .edges) (s .args .ends-b .now)) (take n (s .args .boundary .now))) w src (endOf (len i) (c .before .before .before .before .before .before .before .before .before .before .before .before .before .before .before .before .before .before .before .before .before .before .before .before .before .before .before .before .before .before .stop-of .result)) .previous))
-            ∙ ap (λ x. sets (s .args .out-previous .now) 0 (x .previous)) t-is ∙ sets-over (s .args .out-previous .now) (table g w src (endIn (s .args .end)) .previous) (omega (arith, table-previous-length g w src (endIn (s .args .end)), k .previous-long))
-            ∙ sym (after-accepted (number-at s) (table g w src (endIn (s .args .end)) .previous) (s .args .out-previous .now) z);
+        weights-after = c .before .before .before .before .before .before .before .write-weights .ensures (take v (after-it (c .before .before .before .before .before .before .before .before .before .before .before .before .before .before .before .before .before .before .before .before .before .before .before .before .before) .previous)) ∙ (λ i. sets out 0 (each (status-length l o i) (tableWeight (state-read l o i))))
+            ∙ sets-over out (each v (tableWeight S)) (omega (arith, table-weights-length g w src end, k .weights-long)) ∙ sym (after-accepted (number-at s) (each v (tableWeight S)) out z);
+        previous-after = c .before .before .write-previous .ensures (take v (after-it (c .before .before .before .before .before .before .before .before .before .before .before .before .before .before .before .before .before .before .before .before .before .before .before .before .before) .weight)) ∙ (λ i. sets back 0 (each (status-length l o i) (tablePrevious (state-read l o i))))
+            ∙ sets-over back (each v (tablePrevious S)) (omega (arith, table-previous-length g w src end, k .previous-long)) ∙ sym (after-accepted (number-at s) (each v (tablePrevious S)) back z);
       },
-      tt,
+      scratch-free 0 g S (before-it s) _ refl l,
     )
 
 returns-2 : tie.Need-returns-2
-unfolding number-at engine-of scratch-at
+unfolding number-at engine-of scratch-at state-at before-it
 returns-2 c =
-    let s : tie.Start = c .before .before .before .before .before .before .before .before .before .before .before .before .before .before .before .before .before .before .before .before .before .before .before .before .before .before .before in
-    let d : c .before .query-refusal .result ≡ number-at s = table-number (engine-of s) (scratch-at s) (s .args .source .0) (s .args .end) _ _ (c .before .query-refusal .ensures) (c .before .before .before .before .before .before .both2 .ensures) (c .before .before .before .before .before .before .before .both .ensures) (c .before .before .before .before .before .before .before .before .before .at-most .ensures) (c .before .before .before .before .before .before .before .before .at-most2 .ensures) (c .before .before .before .before .before .before .before .before .before .before .scratch-long .ensures) (c .before .before .both3 .ensures) (c .before .before .before .end-in-range .ensures) in
+    let s : tie.Start = c .before .before .before .before .before .before .before .before .before .before .before .before .before .before .before .before .before .before .before .before .before .before .before .before .before .before in
+    let d : c .before .query-refusal .result ≡ number-at s = number-is (c .before) in
     let f : number-at s ≡ 0 → ⊥ = λ e. c .if1 .left (d ∙ e) in (
       record {
         answer = refuses-of d (c .if1 .left);
         weights-after = sym (after-refused (number-at s) (table (graphIn (engine-of s)) (weightsIn (engine-of s)) (s .args .source .0) (endIn (s .args .end)) .weights) (s .args .out-weight .now) f);
         previous-after = sym (after-refused (number-at s) (table (graphIn (engine-of s)) (weightsIn (engine-of s)) (s .args .source .0) (endIn (s .args .end)) .previous) (s .args .out-previous .now) f);
       },
-      refl,
+      scratch-kept _ (graphIn (engine-of s)) (state-at s) (before-it s) (ap isFree d ∙ kept-number (engine-of s) (scratch-at s) (s .args .source .0) (s .args .end) _ _ f),
     )
 
 pub all-edges-with-terminate-spec : {M : Type 1} → statement M
-all-edges-with-terminate-spec = tie.close (tie.spec (λ c. search needs) (λ c. search needs) (λ c κs. tt) (λ c κs. tt) (λ c κs. tt) (λ c κs. tt) (λ c κs. tt) (λ c κs. tt) (λ c κs. tt) (λ c κs. tt) (λ c κs. tt) slice-aggregate-run-table slice-aggregate-run-table-2 slice-aggregate-run-table-3 slice-relend-prefix-run-table slice-aggregate-run-table-4 slice-relend-prefix-run-table-2 slice-aggregate-run-table-5 slice-relend-prefix-run-table-3 slice-aggregate-run-table-6 slice-relend-prefix-run-table-4 slice-aggregate-run-table-7 run-table-requires same-length same-length-2 same-length-3 same-length-4 (λ c. search needs) (λ c. search needs) (λ c. search needs) same-length-8 (λ c. search needs) returns returns-2)
+all-edges-with-terminate-spec = tie.close (tie.spec (λ c. search needs) (λ c κs. tt) (λ c κs. tt) (λ c κs. tt) (λ c κs. tt) (λ c κs. tt) (λ c κs. tt) (λ c κs. tt) (λ c κs. tt) (λ c κs. tt) search-requires slice-reshare-prefix-write-weights slice-aggregate-write-weights slice-reshare-prefix-write-weights-2 slice-aggregate-write-weights-2 write-weights-requires slice-reshare-prefix-write-previous slice-aggregate-write-previous slice-reshare-prefix-write-previous-2 slice-aggregate-write-previous-2 write-previous-requires (λ c. search needs) (λ c. search needs) (λ c. search needs) (λ c. search needs) (λ c. search needs) (λ c. search needs) (λ c. search needs) (λ c. search needs) (λ c. search needs) returns returns-2)

@@ -1,18 +1,22 @@
 -- `prebuilt_calls::boundaries::fill_boundaries` meets its contract. Assumes nothing.
-use mathlib.Core.Path.{_≡_, refl, sym, _∙_}
-use Prim.Native.Nat.{ℕ, _<_, _≤_}
+use mathlib.Core.Path.{_≡_, sym, ap, _∙_}
+use Prim.Native.Nat.{ℕ, _-_, _<_, _≤_}
 use native.Mathlib.Omega.{arith}
 use mathlib.Core.Bool.{Bool, true, _&&_}
 use lib.ListN.{length}
 use Rattle.columns.specs.Lists.{each}
 use Rattle.columns.proofs.Counting.{length-each}
 use Rattle.columns.proofs.Columns.{sets-over, after-accepted, after-refused}
+use Rattle.columns_neighbors.proofs.Ends.{graph-says}
 use Rattle.engine_columns.specs.Records.{Engine, engine}
+use Rattle.engine_columns.proofs.Refusals.{sound-of}
 use Rattle.query_questions.specs.Queries.{graphIn, weightsIn, scratchLong, queryRefusal}
+use Rattle.query_questions.specs.Scratch.{scratchOf, isFree}
 use Rattle.columns_answers.proofs.Said.{accepts-of, refuses-of}
 use Rattle.prebuilt_calls.specs.Boundaries.{boundaryWeight, boundaryVertex, boundariesRefusal}
 use Rattle.prebuilt_calls.specs.Steps.{Fillable}
-use Rattle.prebuilt_calls.proofs.Asked.{fillable}
+use Rattle.prebuilt_calls.proofs.Asked.{fillable, boundaries-kept}
+use Rattle.prebuilt_calls.proofs.Replies.{inside-kept, tables-last}
 use borrow.Author.Needs.{needs}
 use Rattle.prebuilt_calls.proofs.boundaries.fill_boundaries.Statement.{statement}
 use Rattle.prebuilt_calls.proofs.boundaries.fill_boundaries.Tie as tie
@@ -82,9 +86,10 @@ returns c = let t : tie.Then1 = c .before .before .before .before .before .befor
       record {
         answer = accepts-of z;
         weights-after = o .0 ∙ sets-over (s .args .out-weight .now) (each (s .args .c .vertices) (boundaryWeight (graphIn (engine-of s)) (weightsIn (engine-of s)))) (omega (arith, length-each (s .args .c .vertices) (boundaryWeight (graphIn (engine-of s)) (weightsIn (engine-of s))), k .weights-fit)) ∙ sym (after-accepted (number-at s) (each (s .args .c .vertices) (boundaryWeight (graphIn (engine-of s)) (weightsIn (engine-of s)))) (s .args .out-weight .now) z);
-        vertices-after = o .1 ∙ sets-over (s .args .out-vertex .now) (each (s .args .c .vertices) (boundaryVertex (graphIn (engine-of s)) (weightsIn (engine-of s)))) (omega (arith, length-each (s .args .c .vertices) (boundaryVertex (graphIn (engine-of s)) (weightsIn (engine-of s))), k .vertices-fit)) ∙ sym (after-accepted (number-at s) (each (s .args .c .vertices) (boundaryVertex (graphIn (engine-of s)) (weightsIn (engine-of s)))) (s .args .out-vertex .now) z);
+        vertices-after = o .1 .0 ∙ sets-over (s .args .out-vertex .now) (each (s .args .c .vertices) (boundaryVertex (graphIn (engine-of s)) (weightsIn (engine-of s)))) (omega (arith, length-each (s .args .c .vertices) (boundaryVertex (graphIn (engine-of s)) (weightsIn (engine-of s))), k .vertices-fit)) ∙ sym (after-accepted (number-at s) (each (s .args .c .vertices) (boundaryVertex (graphIn (engine-of s)) (weightsIn (engine-of s)))) (s .args .out-vertex .now) z);
       },
-      (tt, tt),
+      tables-last (s .args .c .vertices)
+          (graph-says (s .args .c .vertices) (s .args .c .edges) (s .args .ends-a .now) (s .args .ends-b .now) (sound-of (engine-of s) (k .is-sound) .columns .graph) .some-vertex) (o .1 .1),
     )
 
 returns-2 : tie.Need-returns-2
@@ -97,7 +102,8 @@ returns-2 c = let s : tie.Start = c .before .before .before .before .before .bef
         weights-after = sym (after-refused (number-at s) (each (s .args .c .vertices) (boundaryWeight (graphIn (engine-of s)) (weightsIn (engine-of s)))) (s .args .out-weight .now) f);
         vertices-after = sym (after-refused (number-at s) (each (s .args .c .vertices) (boundaryVertex (graphIn (engine-of s)) (weightsIn (engine-of s)))) (s .args .out-vertex .now) f);
       },
-      ((refl, refl), refl),
+      inside-kept (c .before .query-refusal .result) (engine-of s) (s .args .c .vertices - 1) (s .args .least .now) (s .args .before .now) (scratchOf (s .args .numbers .now) (s .args .list-ends .now) (s .args .status .now) (s .args .weight .now) (s .args .previous .now) (s .args .node .now) (s .args .leaf .now)) (c .if1 .left)
+          (ap isFree d ∙ boundaries-kept (engine-of s) _ _ _ _ _ _ _ _ _ _ _ f),
     )
 
 pub fill-boundaries-spec : {M : Type 1} → statement M

@@ -20,6 +20,7 @@ use Rattle.query_tables.proofs.Sources.{table-weights-length}
 use Rattle.prebuilt_entries.specs.Nearest.{boundaryIn, weightTo, vertexTo}
 use Rattle.prebuilt_entries.proofs.Amounts.{cut-fits}
 use Rattle.prebuilt_calls.proofs.Asked.{search-accepted}
+use Rattle.prebuilt_calls.proofs.Replies.{inside-of}
 use borrow.Author.Needs.{needs}
 use Rattle.prebuilt_calls.proofs.boundaries.fill_one.Statement.{statement}
 use Rattle.prebuilt_calls.proofs.boundaries.fill_one.Tie as tie
@@ -117,8 +118,13 @@ returns c = let s : tie.Start = c .before .before .before .before .before .befor
     let w = c .before .before .before .before .before .before .before .before .before .before .before .before .before .before .before .before .before .before .before .before .before .before .before .before .before .before .all-edges .ensures .0 .weights-after ∙ after-accepted (number-at s) (table-at s) (s .args .least .now) (number-is s) in
     let f = cut-fits (table-at s) (s .args .least .now) (s .args .c .vertices) w (table-weights-length (graphIn (engine-of s)) (weightsIn (engine-of s)) (s .args .v) none) (k .weights-long) in
     let m = take (s .args .c .vertices) (s .args .boundary .now) in
-    let o = c .before .before .before .store-boundary .ensures in
-    (o .0 ∙ (λ i. set (s .args .out-weight .now) (s .args .v) (weightTo (f .2 i) (boundaryIn m (f .2 i) (f .1 i) (s .args .v)))), o .1 ∙ (λ i. set (s .args .out-vertex .now) (s .args .v) (vertexTo (boundaryIn m (f .2 i) (f .1 i) (s .args .v)))))
+    let o = c .before .before .before .store-boundary .ensures in (
+      o .0 ∙ (λ i. set (s .args .out-weight .now) (s .args .v) (weightTo (f .2 i) (boundaryIn m (f .2 i) (f .1 i) (s .args .v)))),
+      (
+        o .1 ∙ (λ i. set (s .args .out-vertex .now) (s .args .v) (vertexTo (boundaryIn m (f .2 i) (f .1 i) (s .args .v)))),
+        inside-of 0 (c .before .before .before .before .before .before .before .before .before .before .before .before .before .before .before .before .before .before .before .before .before .before .before .before .before .before .all-edges .ensures .0) (c .before .before .before .before .before .before .before .before .before .before .before .before .before .before .before .before .before .before .before .before .before .before .before .before .before .before .all-edges .ensures .1) (c .before .before .before .before .before .before .before .before .before .before .before .before .before .before .before .before .before .before .before .before .before .before .before .before .before .before .all-edges .ensures .0 .answer .number-is ∙ number-is s),
+      ),
+    )
 
 pub fill-one-spec : {M : Type 1} → statement M
 fill-one-spec = tie.close (tie.spec (λ c κs. tt) (λ c. search needs) slice-aggregate-store-boundary slice-reshare-prefix-store-boundary slice-aggregate-store-boundary-2 store-boundary-requires same-length same-length-2 same-length-3 same-length-4 same-length-5 same-length-6 same-length-7 same-length-8 same-length-9 same-length-10 same-length-11 returns)

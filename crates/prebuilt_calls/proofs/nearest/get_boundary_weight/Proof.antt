@@ -1,5 +1,5 @@
 -- `prebuilt_calls::nearest::get_boundary_weight` meets its contract. Assumes nothing.
-use mathlib.Core.Path.{_≡_, sym, _∙_}
+use mathlib.Core.Path.{_≡_, sym, _∙_, ap}
 use Prim.Native.Nat.{ℕ, zero, suc, _+_, _*_, _<_, _≤_}
 use native.Mathlib.Omega.{arith}
 use mathlib.Core.Bool.{Bool}
@@ -20,7 +20,7 @@ use Rattle.prebuilt_entries.proofs.Amounts.{cut-fits}
 use Rattle.columns_answers.specs.Said.{accepts}
 use Rattle.columns_answers.proofs.Said.{accepts-of, refuses-of}
 use Rattle.prebuilt_calls.specs.Nearest.{said, boundaryFound}
-use Rattle.prebuilt_calls.proofs.Replies.{kept-of, boundary-free}
+use Rattle.prebuilt_calls.proofs.Replies.{inside-of}
 use borrow.Author.Needs.{needs}
 use Rattle.prebuilt_calls.proofs.nearest.get_boundary_weight.Statement.{statement}
 use Rattle.prebuilt_calls.proofs.nearest.get_boundary_weight.Tie as tie
@@ -127,7 +127,8 @@ returns c =
     let f = cut-fits (table (graphIn (engine-of s)) (weightsIn (engine-of s)) (s .args .vertex .0) none .weights) (s .args .least .now) (s .args .c .vertices) w (table-weights-length (graphIn (engine-of s)) (weightsIn (engine-of s)) (s .args .vertex .0) none) (k .weights-long) in
     let r : said (c .boundary-answer .result) ≡ accepts (boundaryFound (table (graphIn (engine-of s)) (weightsIn (engine-of s)) (s .args .vertex .0) none .weights) (boundaryIn (take (s .args .c .vertices) (s .args .boundary .now)) (table (graphIn (engine-of s)) (weightsIn (engine-of s)) (s .args .vertex .0) none .weights) (s .args .c .vertices) (s .args .vertex .0))) =
     c .boundary-answer .ensures ∙ (λ i. accepts (boundaryFound (f .2 i) (boundaryIn (take (s .args .c .vertices) (s .args .boundary .now)) (f .2 i) (f .1 i) (s .args .vertex .0)))) in
-    (rw r (accepts-of z), boundary-free (c .boundary-answer .result) (boundaryFound (table (graphIn (engine-of s)) (weightsIn (engine-of s)) (s .args .vertex .0) none .weights) (boundaryIn (take (s .args .c .vertices) (s .args .boundary .now)) (table (graphIn (engine-of s)) (weightsIn (engine-of s)) (s .args .vertex .0) none .weights) (s .args .c .vertices) (s .args .vertex .0))) _ _ _ _ _ _ r)
+    let b = c .before .before .before .before .before .before .before .before .before .before .before .before .before .before .before .before .before .before .before .before .before .before .before .all-edges in
+    (rw r (accepts-of z), inside-of (said (c .boundary-answer .result) .number) (b .ensures .0) (b .ensures .1) (b .ensures .0 .answer .number-is ∙ z ∙ sym (ap (λ x. x .number) r)))
 
 same-length-10 : tie.Need-same-length-10
 same-length-10 c = c .before .before .before .before .before .before .before .before .before .before .before .before .before .before .before .before .before .before .least .given
@@ -160,15 +161,9 @@ returns-2 : tie.Need-returns-2
 unfolding number-at engine-of scratch-at
 returns-2 c =
     let s : tie.Start = c .before .before .before .before .before .before .before .before .before .before .before .before .before .before .before .before .before .before .before .before .before .before .before .before .before .before .before .before .before .before .before .before .before .before .before .before .before .before .before .before .before .before .before in
-    let d : c .before .number .result ≡ number-at s = c .before .number .ensures ∙ c .before .before .before .before .before .before .before .before .before .before .before .before .before .before .before .before .before .before .before .all-edges .ensures .0 .answer .number-is in
-    let f : number-at s ≡ 0 → ⊥ = λ e. c .if1 .left (d ∙ e) in (
-      refuses-of d (c .if1 .left),
-      (
-        c .before .before .before .before .before .before .before .before .before .before .before .before .before .before .before .before .before .before .before .all-edges .ensures .0 .weights-after ∙ after-refused (number-at s) (table (graphIn (engine-of s)) (weightsIn (engine-of s)) (s .args .vertex .0) none .weights) (s .args .least .now) f,
-        c .before .before .before .before .before .before .before .before .before .before .before .before .before .before .before .before .before .before .before .all-edges .ensures .0 .previous-after ∙ after-refused (number-at s) (table (graphIn (engine-of s)) (weightsIn (engine-of s)) (s .args .vertex .0) none .previous) (s .args .before .now) f,
-        kept-of (c .before .before .before .before .before .before .before .before .before .before .before .before .before .before .before .before .before .before .before .all-edges .result) _ _ (λ e. c .if1 .left (c .before .number .ensures ∙ e)) (c .before .before .before .before .before .before .before .before .before .before .before .before .before .before .before .before .before .before .before .all-edges .ensures .1),
-      ),
-    )
+    let b = c .before .before .before .before .before .before .before .before .before .before .before .before .before .before .before .before .before .before .before .all-edges in
+    let d : c .before .number .result ≡ number-at s = c .before .number .ensures ∙ b .ensures .0 .answer .number-is in
+    (refuses-of d (c .if1 .left), inside-of (c .before .number .result) (b .ensures .0) (b .ensures .1) (sym (c .before .number .ensures)))
 
 pub get-boundary-weight-spec : {M : Type 1} → statement M
 get-boundary-weight-spec = tie.close (tie.spec (λ c κs. tt) (λ c κs. tt) (λ c. search needs) slice-aggregate-boundary-answer slice-reshare-prefix-boundary-answer slice-aggregate-boundary-answer-2 boundary-answer-requires same-length same-length-2 same-length-3 same-length-4 same-length-5 same-length-6 same-length-7 same-length-8 same-length-9 returns same-length-10 same-length-11 same-length-12 same-length-13 same-length-14 same-length-15 same-length-16 same-length-17 same-length-18 returns-2)

@@ -5,23 +5,17 @@ use access_calls::SyndromeCounts;
 use access_calls::Truth;
 use columns::Done;
 use columns::VertexIndex;
-use libc::STDOUT_FILENO;
 use sanity_calls::Verdict;
-
-fn write_number(n: u32) {
-    io::print_decimal(STDOUT_FILENO, n as u64);
-}
+use test_numbers::end_line;
+use test_numbers::write;
+use test_numbers::write_number;
 
 fn write_comma() {
-    io::write_all(STDOUT_FILENO, b",");
-}
-
-fn end_line() {
-    io::write_all(STDOUT_FILENO, b"\n");
+    write(b",");
 }
 
 fn write_refusal(number: u32) {
-    io::write_all(STDOUT_FILENO, b"r,");
+    write(b"r,");
     write_number(number);
 }
 

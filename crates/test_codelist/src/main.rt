@@ -3,28 +3,13 @@ ghost use mathlib.Core.Path.{_≡_};
 ghost use Prim.Native.Nat.{_+_, _≤_, min};
 ghost use lib.ListN.{length};
 use libc::STDIN_FILENO;
-use libc::STDOUT_FILENO;
+use test_numbers::checksum;
+use test_numbers::show;
+use test_numbers::show_line;
+use test_numbers::wide;
+use test_numbers::write;
 use text_answer::Listed;
 use text_answer::codelist;
-
-fn mix(h: u64, x: u64) -> u64 {
-    std::num::wrapping_add_u64(std::num::wrapping_add_u64(h << 5, h >> 3), x)
-}
-
-fn wide_byte(x: u8) -> u64 {
-    x as u64
-}
-
-fn checksum(text: &[u8], n: usize) -> u64 {
-    let m = columns::questions::lesser(n, text.len());
-    let mut h: u64 = 1;
-    let mut i: usize = 0;
-    while i < m {
-        h = mix(h, wide_byte(text[i]));
-        i += 1;
-    }
-    h
-}
 
 // Where the byte b first stands from a place on, or the length.
 fn find(text: &[u8], from: usize, b: u8) -> usize
@@ -41,24 +26,19 @@ fn find(text: &[u8], from: usize, b: u8) -> usize
     i
 }
 
-fn show(text: &[u8], n: u32) {
+fn show_text(text: &[u8], n: u32) {
     let first = find(text, 0, b'\n');
-    io::write_all(STDOUT_FILENO, &text[..first]);
-    io::write_all(STDOUT_FILENO, b" ");
-    io::print_decimal(STDOUT_FILENO, n as u64);
-    io::write_all(STDOUT_FILENO, b" ");
-    io::print_decimal(STDOUT_FILENO, checksum(text, n as usize));
-    io::write_all(STDOUT_FILENO, b"\n");
+    write(&text[..first]);
+    write(b" ");
+    show(wide(n));
+    show_line(checksum(text, n as usize));
 }
 
 fn answer(input: &[u8], text: &mut [u8]) {
     let listed = codelist(input, text);
     match listed {
-        Listed::Text(n) => show(text, n),
-        Listed::Refused(number) => {
-            io::print_decimal(STDOUT_FILENO, number as u64);
-            io::write_all(STDOUT_FILENO, b"\n");
-        }
+        Listed::Text(n) => show_text(text, n),
+        Listed::Refused(number) => show_line(wide(number)),
     }
 }
 

@@ -2,63 +2,34 @@
 ghost use Prim.Native.Nat.{_≤_};
 use codes_calls::Created;
 use codes_calls::create::create_code;
-use libc::STDOUT_FILENO;
+use columns::questions::lesser;
+use test_numbers::bits;
+use test_numbers::checksum;
+use test_numbers::mix;
+use test_numbers::show_line;
+use test_numbers::wide;
 
-fn show(n: u64) {
-    io::print_decimal(STDOUT_FILENO, n);
-    io::write_all(STDOUT_FILENO, b"\n");
-}
-
-fn mix(h: u64, x: u64) -> u64 {
-    std::num::wrapping_add_u64(std::num::wrapping_add_u64(h << 5, h >> 3), x)
-}
-
-fn wide(x: u32) -> u64 {
-    x as u64
-}
-
-fn wide_byte(x: u8) -> u64 {
-    x as u64
-}
-
-fn bits(x: f64) -> u64 {
-    if x != x {
-        return 0;
-    }
-    f64::to_bits(x)
-}
-
+// Prints the checksum of the first n numbers of a column.
 fn numbers(column: &[u32], n: usize) {
-    let m = columns::questions::lesser(n, column.len());
+    let m = lesser(n, column.len());
     let mut h: u64 = 1;
     let mut i: usize = 0;
     while i < m {
         h = mix(h, wide(column[i]));
         i += 1;
     }
-    show(h);
-}
-
-fn bytes(column: &[u8], n: usize) {
-    let m = columns::questions::lesser(n, column.len());
-    let mut h: u64 = 1;
-    let mut i: usize = 0;
-    while i < m {
-        h = mix(h, wide_byte(column[i]));
-        i += 1;
-    }
-    show(h);
+    show_line(h);
 }
 
 fn floats(column: &[f64], n: usize) {
-    let m = columns::questions::lesser(n, column.len());
+    let m = lesser(n, column.len());
     let mut h: u64 = 1;
     let mut i: usize = 0;
     while i < m {
         h = mix(h, bits(column[i]));
         i += 1;
     }
-    show(h);
+    show_line(h);
 }
 
 // How many vertices and edges a code has, then a digest of each column.
@@ -77,21 +48,18 @@ fn show_code(
         Created::Code(v, e) => {
             let vertices = v as usize;
             let edges = e as usize;
-            show(wide(v));
-            show(wide(e));
+            show_line(wide(v));
+            show_line(wide(e));
             numbers(ends_a, edges);
             numbers(ends_b, edges);
-            bytes(boundary, vertices);
+            show_line(checksum(boundary, vertices));
             numbers(list_lengths, vertices);
-            numbers(
-                neighbor_numbers,
-                columns::questions::lesser(edges, 19685) * 2,
-            );
+            numbers(neighbor_numbers, lesser(edges, 19685) * 2);
             floats(pos_i, vertices);
             floats(pos_j, vertices);
             floats(pos_t, vertices);
         }
-        Created::Refused(number) => show(wide(number)),
+        Created::Refused(number) => show_line(wide(number)),
     }
 }
 

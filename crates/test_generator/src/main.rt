@@ -1,11 +1,7 @@
 // Runs the published vectors of SplitMix64 and Xoshiro256**, then draws from three seeds. What it prints is compared with the file stdout.
-use libc::STDOUT_FILENO;
 use sampling_generator::DeterministicRng;
-
-fn show(n: u64) {
-    io::print_decimal(STDOUT_FILENO, n);
-    io::write_all(STDOUT_FILENO, b"\n");
-}
+use test_numbers::bits;
+use test_numbers::show_line;
 
 // The first n words of SplitMix64 from a seed.
 fn split_mix(seed: u64, n: u32) {
@@ -13,7 +9,7 @@ fn split_mix(seed: u64, n: u32) {
     let mut i: u32 = 0;
     while i < n {
         state = DeterministicRng::split_mix_next(state);
-        show(DeterministicRng::split_mix_word(state));
+        show_line(DeterministicRng::split_mix_word(state));
         i += 1;
     }
 }
@@ -24,7 +20,7 @@ fn words(start: DeterministicRng, n: u32) {
     let mut i: u32 = 0;
     while i < n {
         let next = rng.next_u64();
-        show(next.word);
+        show_line(next.word);
         rng = next.rng;
         i += 1;
     }
@@ -33,25 +29,18 @@ fn words(start: DeterministicRng, n: u32) {
 // The four state words that a seed gives, and the bits of the next n draws.
 fn draws(seed: u64, n: u32) {
     let start = DeterministicRng::seed_from_u64(seed);
-    show(start.s0);
-    show(start.s1);
-    show(start.s2);
-    show(start.s3);
+    show_line(start.s0);
+    show_line(start.s1);
+    show_line(start.s2);
+    show_line(start.s3);
     let mut rng = start;
     let mut i: u32 = 0;
     while i < n {
         let drawn = rng.next_f64();
-        show_f64(drawn.value);
+        show_line(bits(drawn.value));
         rng = drawn.rng;
         i += 1;
     }
-}
-
-fn show_f64(x: f64) {
-    if x != x {
-        return;
-    }
-    show(f64::to_bits(x));
 }
 
 fn main() {

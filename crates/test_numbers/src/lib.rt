@@ -1,5 +1,7 @@
-// Numbers of a text, for programs that replay fixed lists. A place past the end reads as 0 and is not written.
+// What the test programs share: reading numbers, printing, checksums. A place past the end reads as 0 and is not written.
+use columns::Done;
 use columns::questions::lesser;
+use libc::STDIN_FILENO;
 use libc::STDOUT_FILENO;
 
 pub fn at(list: &[u64], i: usize) -> u64 {
@@ -69,7 +71,7 @@ fn read_byte(r: Reading, b: u8, list: &mut [u64]) -> Reading {
 }
 
 // The decimal numbers of a text, each ended by another byte.
-pub fn read_numbers(text: &[u8], list: &mut [u64]) {
+fn read_numbers(text: &[u8], list: &mut [u64]) {
     let mut r = Reading {
         count: 0,
         value: 0,
@@ -80,6 +82,13 @@ pub fn read_numbers(text: &[u8], list: &mut [u64]) {
         r = read_byte(r, text[i], list);
         i += 1;
     }
+}
+
+// The decimal numbers of standard input.
+pub fn read_input(list: &mut [u64]) {
+    let mut buf = io::large_buffer();
+    let n = io::read_full(STDIN_FILENO, &mut buf);
+    read_numbers(&buf[..n], list);
 }
 
 fn put_u32(column: &mut [u32], i: usize, x: u32) {
@@ -111,25 +120,74 @@ pub fn copy_u8(list: &[u64], from: usize, column: &mut [u8], n: usize) {
     }
 }
 
-pub fn show(n: u64) {
-    io::print_decimal(STDOUT_FILENO, n);
-    io::write_all(STDOUT_FILENO, b" ");
-}
-
-pub fn show_none() {
-    io::write_all(STDOUT_FILENO, b"- ");
-}
-
-pub fn end_line() {
-    io::write_all(STDOUT_FILENO, b"\n");
-}
-
-fn wide(x: u32) -> u64 {
+pub fn wide(x: u32) -> u64 {
     x as u64
 }
 
 fn wide_byte(x: u8) -> u64 {
     x as u64
+}
+
+// The bits of a float, 0 for a NaN.
+pub fn bits(x: f64) -> u64 {
+    if x != x {
+        return 0;
+    }
+    f64::to_bits(x)
+}
+
+// A checksum with one more number.
+pub fn mix(h: u64, x: u64) -> u64 {
+    std::num::wrapping_add_u64(std::num::wrapping_add_u64(h << 5, h >> 3), x)
+}
+
+// The checksum of the first n bytes, or of all where there are fewer.
+pub fn checksum(bytes: &[u8], n: usize) -> u64 {
+    let m = lesser(n, bytes.len());
+    let mut h: u64 = 1;
+    let mut i: usize = 0;
+    while i < m {
+        h = mix(h, wide_byte(bytes[i]));
+        i += 1;
+    }
+    h
+}
+
+// The number of a refusal, 0 where there is none.
+pub fn number_of(answer: Done) -> u32 {
+    match answer {
+        Done::Accepted => 0,
+        Done::Refused(number) => number,
+    }
+}
+
+pub fn write(text: &[u8]) {
+    io::write_all(STDOUT_FILENO, text);
+}
+
+pub fn write_number(n: u32) {
+    io::print_decimal(STDOUT_FILENO, n as u64);
+}
+
+pub fn end_line() {
+    write(b"\n");
+}
+
+// A number and a blank.
+pub fn show(n: u64) {
+    io::print_decimal(STDOUT_FILENO, n);
+    write(b" ");
+}
+
+// A number on a line of its own.
+pub fn show_line(n: u64) {
+    io::print_decimal(STDOUT_FILENO, n);
+    end_line();
+}
+
+pub fn show_done(answer: Done) {
+    show(wide(number_of(answer)));
+    end_line();
 }
 
 // The first n numbers of a column, or all where there are fewer.
@@ -156,7 +214,7 @@ pub fn show_bytes(bytes: &[u8], n: usize) {
 // A least weight, or none.
 pub fn show_weight(w: i32) {
     if w < 0 {
-        show_none();
+        write(b"- ");
     } else {
         show(w as u64);
     }

@@ -3,7 +3,6 @@
 // First the number of cases. A case: kind, d, rounds, seed, the places of p and pe in the table below, four edge numbers, an order of 24
 // vertices.
 use codes_calls::Created;
-use columns::Done;
 use sampling_calls::ListAnswer;
 use sampling_calls::SyndromeAnswer;
 use test_numbers::after;
@@ -11,9 +10,10 @@ use test_numbers::at;
 use test_numbers::copy_u32;
 use test_numbers::end_line;
 use test_numbers::narrow_at;
-use test_numbers::read_numbers;
+use test_numbers::read_input;
 use test_numbers::show;
 use test_numbers::show_bytes;
+use test_numbers::show_done;
 use test_numbers::show_list;
 use test_numbers::size_at;
 
@@ -41,14 +41,6 @@ fn probability(numbers: &[u64], i: usize) -> f64 {
         return 0.25;
     }
     0.01
-}
-
-fn show_done(answer: Done) {
-    match answer {
-        Done::Accepted => show(0),
-        Done::Refused(number) => show(number as u64),
-    }
-    end_line();
 }
 
 fn vertices_in(answer: Created) -> u32 {
@@ -304,15 +296,8 @@ fn replay(numbers: &[u64]) {
     }
 }
 
-// The numbers of the text, in a column of their own.
-fn replay_text(text: &[u8]) {
-    let mut numbers = [0u64; 32768];
-    read_numbers(text, &mut numbers);
-    replay(&numbers);
-}
-
 fn main() {
-    let mut buf = io::large_buffer();
-    let n = io::read_full(0, &mut buf);
-    replay_text(&buf[..n]);
+    let mut numbers = [0u64; 32768];
+    read_input(&mut numbers);
+    replay(&numbers);
 }

@@ -3,7 +3,6 @@
 // First the number of cases. A case: vertices, edges, queries; first ends, second ends, weights, boundary bytes; a list of four edges and their
 // weights; the queries, three numbers each. A query: 0 source 0, the table; 1 source end, the table up to the end; 2 0 0, load the list as
 // erasures; 3 0 0, load the list with its weights; 4 0 0, reset; 5 0 0, crossing; 6 a b, path. Queries after a refused open have the counts that it was asked for.
-use columns::Done;
 use columns::VertexIndex;
 use columns::Weight;
 use engine_columns::EngineAnswer;
@@ -17,8 +16,9 @@ use test_numbers::copy_u8;
 use test_numbers::copy_u32;
 use test_numbers::end_line;
 use test_numbers::narrow_at;
-use test_numbers::read_numbers;
+use test_numbers::read_input;
 use test_numbers::show;
+use test_numbers::show_done;
 use test_numbers::show_list;
 use test_numbers::show_weights;
 use test_numbers::size_at;
@@ -30,15 +30,6 @@ const EDGES: usize = 64;
 const ENTRIES: usize = 24;
 
 const NAMED: usize = 4;
-
-// The number of a refusal, 0 where there is none.
-fn show_done(answer: Done) {
-    match answer {
-        Done::Accepted => show(0),
-        Done::Refused(number) => show(number as u64),
-    }
-    end_line();
-}
 
 // The counts to go on with: a refused call leaves them.
 fn counts_after(c: EngineCounts, answer: EngineAnswer) -> EngineCounts {
@@ -498,15 +489,8 @@ fn replay(numbers: &[u64]) {
     }
 }
 
-// The numbers of the text, in a column of their own.
-fn replay_text(text: &[u8]) {
-    let mut numbers = [0u64; 32768];
-    read_numbers(text, &mut numbers);
-    replay(&numbers);
-}
-
 fn main() {
-    let mut buf = io::large_buffer();
-    let n = io::read_full(0, &mut buf);
-    replay_text(&buf[..n]);
+    let mut numbers = [0u64; 32768];
+    read_input(&mut numbers);
+    replay(&numbers);
 }

@@ -1,61 +1,17 @@
 // Samples the rotated code of distance 3 from fixed seeds, then generates errors, finds a syndrome, clears and reorders.
 // What it prints is compared with the file stdout.
-use columns::Done;
-use columns::questions::lesser;
-use libc::STDOUT_FILENO;
 use reorder_calls::TranslatedAnswer;
 use sampling_calls::ListAnswer;
 use sampling_calls::SyndromeAnswer;
+use test_numbers::end_line;
+use test_numbers::show;
+use test_numbers::show_bytes;
+use test_numbers::show_done;
+use test_numbers::show_list;
 
 const VERTEX_NUM: u32 = 8;
 
 const EDGE_NUM: u32 = 9;
-
-fn show_number(n: u64) {
-    io::print_decimal(STDOUT_FILENO, n);
-    io::write_all(STDOUT_FILENO, b" ");
-}
-
-fn end_line() {
-    io::write_all(STDOUT_FILENO, b"\n");
-}
-
-fn wide(x: u32) -> u64 {
-    x as u64
-}
-
-fn wide_byte(x: u8) -> u64 {
-    x as u64
-}
-
-// The first n numbers of a list, or all where there are fewer.
-fn show_list(list: &[u32], n: usize) {
-    let m = lesser(n, list.len());
-    let mut i: usize = 0;
-    while i < m {
-        show_number(wide(list[i]));
-        i += 1;
-    }
-    end_line();
-}
-
-fn show_bytes(bytes: &[u8], n: usize) {
-    let m = lesser(n, bytes.len());
-    let mut i: usize = 0;
-    while i < m {
-        show_number(wide_byte(bytes[i]));
-        i += 1;
-    }
-    end_line();
-}
-
-fn show_done(answer: Done) {
-    match answer {
-        Done::Accepted => show_number(0),
-        Done::Refused(number) => show_number(number as u64),
-    }
-    end_line();
-}
 
 // The counts, the bytes and the lists that a call leaves.
 fn show_syndrome(
@@ -67,11 +23,11 @@ fn show_syndrome(
 ) {
     match answer {
         SyndromeAnswer::Counts { defects, erasures } => {
-            show_number(0);
-            show_number(defects as u64);
-            show_number(erasures as u64);
+            show(0);
+            show(defects as u64);
+            show(erasures as u64);
         }
-        SyndromeAnswer::Refused(number) => show_number(number as u64),
+        SyndromeAnswer::Refused(number) => show(number as u64),
     }
     end_line();
     show_bytes(&defect, 9);
@@ -147,8 +103,8 @@ fn syndrome(list: &[u32]) {
         &mut defect_list,
     );
     match answer {
-        ListAnswer::Count(n) => show_number(n as u64),
-        ListAnswer::Refused(number) => show_number(number as u64 + 100),
+        ListAnswer::Count(n) => show(n as u64),
+        ListAnswer::Refused(number) => show(number as u64 + 100),
     }
     end_line();
     show_list(&defect_list, 9);
@@ -169,8 +125,8 @@ fn numbers(order: &[u32], list: &[u32]) {
     show_list(&column, 9);
     let mut translated = [99u32; 4];
     match reorder_calls::translated_defect_to_reordered(order, list, &mut translated) {
-        TranslatedAnswer::Count(n) => show_number(n as u64),
-        TranslatedAnswer::Refused(number) => show_number(number as u64 + 100),
+        TranslatedAnswer::Count(n) => show(n as u64),
+        TranslatedAnswer::Refused(number) => show(number as u64 + 100),
     }
     end_line();
     show_list(&translated, 4);

@@ -6,6 +6,11 @@ ghost use lib.ListN.{length};
 use columns::Done;
 use columns::of_bits;
 use libc::STDOUT_FILENO;
+use test_numbers::bits;
+use test_numbers::end_line;
+use test_numbers::number_of;
+use test_numbers::write;
+use test_numbers::write_number;
 use weights_calls::WeightOfP;
 
 // 16 digits, a blank, 16 digits, a blank, 8 digits and the line's end.
@@ -46,25 +51,21 @@ fn number(text: &[u8], at: usize, count: usize) -> u64
     n
 }
 
-fn write_number(n: u32) {
-    io::print_decimal(STDOUT_FILENO, n as u64);
-}
-
 fn write_blank() {
-    io::write_all(STDOUT_FILENO, b" ");
+    write(b" ");
 }
 
 fn write_refusal(number: u32) {
-    io::write_all(STDOUT_FILENO, b"r");
+    write(b"r");
     write_number(number);
 }
 
 // A weight by its bits, 16 digits.
 fn write_weight(w: f64) {
     if w != w {
-        io::write_all(STDOUT_FILENO, b"nan");
+        write(b"nan");
     } else {
-        io::print_hex(STDOUT_FILENO, f64::to_bits(w), 16);
+        io::print_hex(STDOUT_FILENO, bits(w), 16);
     }
 }
 
@@ -93,19 +94,12 @@ fn show_half_weights(p: f64, q: f64, max_half_weight: u32) {
     }
 }
 
-fn show_done(answer: Done) {
-    match answer {
-        Done::Accepted => write_number(0),
-        Done::Refused(number) => write_number(number),
-    }
-}
-
 // The numbers of the two calls that set each edge's probability.
 fn show_set(p: f64) {
     let mut column = [0.0; 3];
-    show_done(weights_calls::set_probability(2, p, &mut column));
+    write_number(number_of(weights_calls::set_probability(2, p, &mut column)));
     write_blank();
-    show_done(weights_calls::set_erasure_probability(2, p, &mut column));
+    write_number(number_of(weights_calls::set_erasure_probability(2, p, &mut column)));
 }
 
 // The line that starts at a place.
@@ -120,7 +114,7 @@ fn show(text: &[u8], at: usize)
     show_half_weights(p, q, max_half_weight);
     write_blank();
     show_set(p);
-    io::write_all(STDOUT_FILENO, b"\n");
+    end_line();
 }
 
 fn show_all(text: &[u8]) {

@@ -1,19 +1,14 @@
 -- `test_numbers::show_list` is safe and ends. Assumes nothing.
 use borrow.Author.Needs.{needs}
-use Prim.Native.Nat.{_≤_, _-_, min}
-use mathlib.Core.Path.{_≡_}
-use lib.ListN.{length}
+use Prim.Native.Nat.{_≤_, _-_}
 use Rattle.test_numbers.proofs.show_list.Statement.{statement}
 use Rattle.test_numbers.proofs.show_list.Tie as tie
 
 abbrev Inv-loop : tie.InvT-loop
-Inv-loop list n m i₀ i = (i ≤ m) × (m ≡ min n (length list))
+Inv-loop list n m i₀ i = i ≤ m
 
 abbrev μ-loop : tie.MeasureT-loop
 μ-loop list n m i₀ i = m - i
 
-loop-holds : tie.Need-loop-holds Inv-loop μ-loop
-loop-holds c = (search needs, c .lesser .ensures)
-
 pub show-list-spec : {M : Type 1} → statement M
-show-list-spec = tie.close (tie.spec Inv-loop μ-loop (λ c κs. search needs) loop-holds (λ c. search needs) (λ c. search needs) (λ c κs. search needs) (λ c κs. search needs) (λ c. search needs) (λ c. search needs) (λ c. search needs) (λ c κs. search needs) (λ c. search needs))
+show-list-spec = tie.close (tie.spec Inv-loop μ-loop (λ c κs. search needs) (λ c. search needs) (λ c. search needs) (λ c. search needs) (λ c κs. search needs) (λ c κs. search needs) (λ c. search needs) (λ c. search needs) (λ c. search needs) (λ c κs. search needs) (λ c. search needs))

@@ -24,4 +24,4 @@ cast-show c =
     )
 
 pub show-weight-spec : {M : Type 1} → statement M
-show-weight-spec = tie.close (tie.spec (λ c κs. search needs) cast-show (λ c κs. search needs) (λ c. search needs) (λ c. search needs))
+show-weight-spec = tie.close (tie.spec (λ c. search needs) (λ c κs. search needs) cast-show (λ c κs. search needs) (λ c. search needs) (λ c. search needs))

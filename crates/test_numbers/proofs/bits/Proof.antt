@@ -1,11 +1,11 @@
--- `test_codes::bits` meets its contract. Assumes nothing.
+-- `test_numbers::bits` is safe and ends. Assumes nothing.
 use mathlib.Core.Path.{_≡_}
 use mathlib.Core.Bool.{false, not, true≢false}
 use lib.Dec.{T}
 use lib.Ieee.{Float, nan, inf, fin, ne, isNan}
 use borrow.Author.Needs.{needs}
-use Rattle.test_codes.proofs.bits.Statement.{statement}
-use Rattle.test_codes.proofs.bits.Tie as tie
+use Rattle.test_numbers.proofs.bits.Statement.{statement}
+use Rattle.test_numbers.proofs.bits.Tie as tie
 
 no-nan : (x : Float) → ne x x ≡ false → T (not (isNan x))
 unfolding ne isNan

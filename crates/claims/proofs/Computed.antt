@@ -15,7 +15,7 @@ use Rattle.columns.specs.Places.{zeroFloat}
 use Rattle.columns.specs.Questions.{ask, all, every}
 use Rattle.columns.proofs.Tests.{and-both, both-and}
 use Rattle.codes_writers.specs.Edges.{straightEdges, straightRows, firsts, seconds, boundaries}
-use Rattle.codes_planar.specs.Planar.{rowEdges, planarRow, planarLayer, planarGap, planarBoundary, flatVertex}
+use Rattle.codes_planar.specs.Planar.{rowEdges, planarRow, planarLayer, planarGap, planarBoundary, capacityVertex}
 use Rattle.codes_circuit.specs.Circuit.{circuitCell, circuitRow, circuitGap}
 use Rattle.codes_rotated.specs.Rotated.{rotatedPlace, rotatedEdge, rotatedRow, rotatedLayer, rotatedGap, rotatedBoundary, rotatedVertex}
 use Rattle.codes_layers.specs.Codes.{rows, width, layerEdges, gapEdges, edgesOf, vertexOf, layerVertices, verticesOf}
@@ -97,7 +97,7 @@ unfolding edgesOf layered each joined rows width layerEdges gapEdges straightRow
 ends-b = refl
 
 bytes : boundaries (verticesOf 1 3 0) ≡ 0 ∷ 0 ∷ 2 ∷ 1 ∷ []
-unfolding verticesOf layered each joined rows width layerVertices vertexOf flatVertex planarBoundary
+unfolding verticesOf layered each joined rows width layerVertices vertexOf capacityVertex planarBoundary
 bytes = refl
 
 columns : listingGraph ≡ graphColumns (0 ∷ 1 ∷ 0 ∷ []) (1 ∷ 2 ∷ 3 ∷ []) (1000 ∷ 1000 ∷ 1000 ∷ []) (0 ∷ 0 ∷ 2 ∷ 1 ∷ [])
@@ -114,15 +114,15 @@ by-parts : (t : Tally) (ws : List ℕ) (w : ℕ) → tallyGraph t ≡ graph → 
 by-parts t ws w p q r = (λ i. crossing (p i) (weigh (q i))) ∙ r
 
 crossing-2000 : crossing graph (weigh (1000 ∷ 0 ∷ 1000 ∷ [])) ≡ some 2000
-unfolding each firstLeast start changes byStatus offer relaxEdge relax S.take stopped next settle fromLeft nearestRight crossing
+unfolding each firstLeast start changes byStatus offer relaxEdge relax S.takeVertex stopped next settle fromLeft nearestRight crossing
 crossing-2000 = refl
 
 crossing-3000 : crossing graph (weigh (1000 ∷ 1000 ∷ 1000 ∷ [])) ≡ some 3000
-unfolding each firstLeast start changes byStatus offer relaxEdge relax S.take stopped next settle fromLeft nearestRight crossing
+unfolding each firstLeast start changes byStatus offer relaxEdge relax S.takeVertex stopped next settle fromLeft nearestRight crossing
 crossing-3000 = refl
 
 crossing-3 : crossing graph (weigh (1 ∷ 1 ∷ 1 ∷ [])) ≡ some 3
-unfolding each firstLeast start changes byStatus offer relaxEdge relax S.take stopped next settle fromLeft nearestRight crossing
+unfolding each firstLeast start changes byStatus offer relaxEdge relax S.takeVertex stopped next settle fromLeft nearestRight crossing
 crossing-3 = refl
 
 erased-2000 : crossingAfter (fed (loadErasures (1 ∷ [])) ∷ []) ≡ some 2000
@@ -158,7 +158,7 @@ sixteen = (λ i. pathRefusal (pathAsked (engineOf (columns i)) true 2 2 4 4) (pa
     ∙ (λ i. pathRefusal (refusal-16 i) (path (Q.graphIn listingEngine) (Q.weightsIn listingEngine) 2 2))
 
 pub starred : StarredExamples
-unfolding edgesOf layered each joined rows width layerEdges gapEdges rotatedLayer rotatedRow rotatedEdge rotatedPlace rotatedGap straightRows straightEdges rowEdges planarLayer planarRow planarGap circuitGap circuitRow circuitCell verticesOf layerVertices vertexOf rotatedVertex rotatedBoundary layerVertexNum layerEdgeNum gapEdgeNum kindKnown distanceSound roundsSound codeRefusal all every endsDiffer pairsApart endsInRange graphSound logSound columnsLong engineLong columnsSound engineSound firstLeast start changes byStatus offer relaxEdge relax S.take stopped next settle readBack stepInto pathIn path fromLeft nearestRight crossing
+unfolding edgesOf layered each joined rows width layerEdges gapEdges rotatedLayer rotatedRow rotatedEdge rotatedPlace rotatedGap straightRows straightEdges rowEdges planarLayer planarRow planarGap circuitGap circuitRow circuitCell verticesOf layerVertices vertexOf rotatedVertex rotatedBoundary layerVertexNum layerEdgeNum gapEdgeNum kindKnown distanceSound roundsSound codeRefusal all every endsDiffer pairsApart endsInRange graphSound logSound columnsLong engineLong columnsSound engineSound firstLeast start changes byStatus offer relaxEdge relax S.takeVertex stopped next settle readBack stepInto pathIn path fromLeft nearestRight crossing
 starred = record {
   kind-5-edges = refl;
   kind-5-boundary = refl;

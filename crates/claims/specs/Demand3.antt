@@ -8,7 +8,7 @@ use lib.IntN.{ℤ}
 use Rattle.engine_columns.specs.Records.{Engine}
 use Rattle.engine_columns.specs.Open.{GraphColumns}
 use Rattle.engine_tally.specs.Tally.{Tally, tallyOf, tallyNumbers, lengthsOf}
-use Rattle.engine_tally.specs.Readers.{callsSay, weightBy}
+use Rattle.engine_tally.specs.Readers.{setByCalls, weightBy}
 use Rattle.engine_walks.specs.Lists.{sum}
 use Rattle.engine_walks.specs.Graph.{Graph, LeftJoinsRight, CrossingSet}
 use Rattle.engine_walks.specs.Answers.{weightIn}
@@ -75,7 +75,7 @@ pub record Demand3 : Type 0 where
   pub counts : (h : History) → h .left .counts ≡ tallyLast h .counts
   -- "An edge weighs what an accepted load last named for it since the last accepted reset (0 if erased), else its opening weight."
   pub edge-weighs : (h : History) (k : ℕ) → k < h .edges
-      → getD (h .left .weights) k 0 ≡ weightBy (callsSay (modifying (h .calls)) (tallyNumbers (modifying (h .calls)) (tallyFirst h)) k) (getD (h .handed .weights) k 0)
+      → getD (h .left .weights) k 0 ≡ weightBy (setByCalls (modifying (h .calls)) (tallyNumbers (modifying (h .calls)) (tallyFirst h)) k) (getD (h .handed .weights) k 0)
   pub tally-weighs : (h : History) (k : ℕ) → k < h .edges → weightsLeft h k ≡ getD (h .left .weights) k 0
   -- "Unless a question before 18 refuses it, a crossing called then is accepted exactly when some walk joins a left vertex to a right one."
   pub joined : (h : History) (c : CrossingThen h) → refusedBefore h c ≡ 0 → (replyNumber (c .reply) ≡ 0) ↔ LeftJoinsRight (graphLeft h)

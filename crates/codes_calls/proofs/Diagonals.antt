@@ -15,7 +15,7 @@ use Rattle.columns.specs.Places.{position, one, half}
 use Rattle.columns.specs.declared.VisualizePosition.{VisualizePosition}
 use Rattle.columns.proofs.Counting.{times-next, length-each}
 use Rattle.codes_writers.specs.Edges.{Ends, float, straightEdges}
-use Rattle.codes_planar.specs.Planar.{planarAcross, deepVertex, rowEdges, planarRow, planarLayer}
+use Rattle.codes_planar.specs.Planar.{planarAcross, layerVertex, rowEdges, planarRow, planarLayer}
 use Rattle.codes_circuit.specs.Circuit.{circuitCell, circuitRow, circuitGap}
 use Rattle.codes_layers.specs.Codes.{rows, width, layerSize, vertexOf, layerEdges, gapEdges, edgesOf}
 use Rattle.codes_layers.proofs.ByKind.{planar-layers, circuit-gaps}
@@ -85,7 +85,7 @@ module _ (d rounds : ℕ) (ok : Accepted 4 d rounds) where
   left-is = simp (eq-eqb d d refl)
 
   deep : (t row i : ℕ) → vertexOf 4 d t row i .position ≡ position (float row) (add binary64 (planarAcross d i) half) (float t)
-  unfolding vertexOf deepVertex
+  unfolding vertexOf layerVertex
   deep t row i = refl
 
   module _ (t : ℕ) (ht : t < rounds + 1) where

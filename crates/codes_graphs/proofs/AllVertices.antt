@@ -13,7 +13,7 @@ use Rattle.codes_writers.proofs.Wrote.{row-room}
 use Rattle.columns.specs.Places.{zeroFloat, position}
 use Rattle.codes_writers.specs.declared.CodeVertex.{CodeVertex}
 use Rattle.codes_writers.specs.Edges.{boundaries}
-use Rattle.codes_planar.specs.Planar.{planarBoundary, flatVertex, deepVertex}
+use Rattle.codes_planar.specs.Planar.{planarBoundary, capacityVertex, layerVertex}
 use Rattle.codes_rotated.specs.Rotated.{rotatedWidth, rotatedBoundary, rotatedVertex}
 use Rattle.codes_layers.specs.Codes.{rows, width, layerSize, vertexOf, layerVertices, verticesOf}
 use Rattle.codes_layers.specs.Counts.{vertexNum}
@@ -32,12 +32,12 @@ pub record Byte (d byte h : ℕ) : Type 0 where
   pub left : byte ≡ 1 → h ≡ 0
   pub right : byte ≡ 2 → h ≡ d
 
-flat-byte : (d row j : ℕ) → flatVertex d row j .boundary ≡ planarBoundary d j
-unfolding flatVertex
+flat-byte : (d row j : ℕ) → capacityVertex d row j .boundary ≡ planarBoundary d j
+unfolding capacityVertex
 flat-byte d row j = refl
 
-deep-byte : (d row j t : ℕ) → deepVertex d row j t .boundary ≡ planarBoundary d j
-unfolding deepVertex
+deep-byte : (d row j t : ℕ) → layerVertex d row j t .boundary ≡ planarBoundary d j
+unfolding layerVertex
 deep-byte d row j t = refl
 
 turned-byte : (w row i : ℕ) (time : Float) → rotatedVertex w row i time .boundary ≡ rotatedBoundary w row i

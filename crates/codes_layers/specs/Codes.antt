@@ -8,7 +8,7 @@ use Rattle.columns.specs.Lists.{each, joined, layered}
 use Rattle.columns.specs.Places.{zeroFloat}
 use Rattle.codes_writers.specs.declared.CodeVertex.{CodeVertex}
 use Rattle.codes_writers.specs.Edges.{Ends}
-use Rattle.codes_planar.specs.Planar.{rowEdges, planarLayer, planarGap, flatVertex, deepVertex}
+use Rattle.codes_planar.specs.Planar.{rowEdges, planarLayer, planarGap, capacityVertex, layerVertex}
 use Rattle.codes_circuit.specs.Circuit.{circuitGap}
 use Rattle.codes_rotated.specs.Rotated.{rotatedWidth, rotatedTime, rotatedLayer, rotatedGap, rotatedVertex}
 
@@ -39,8 +39,8 @@ edgesOf kind d rounds = layered rounds (λ t. layerEdges kind d (t * layerSize k
 -- Six builders, on positions and on left and right: place i of a row of layer t.
 unfoldable pub vertexOf : (kind d t row i : ℕ) → CodeVertex
 vertexOf kind d t row i =
-    cond (leb kind 2) (flatVertex d row i)
-    (cond (leb kind 4) (deepVertex d row i t)
+    cond (leb kind 2) (capacityVertex d row i)
+    (cond (leb kind 4) (layerVertex d row i t)
     (rotatedVertex (rotatedWidth d) row i (cond (eqb kind 6) (rotatedTime t) zeroFloat)))
 
 -- Six builders, on positions and on left and right: the vertices of layer t, row by row.

@@ -8,8 +8,8 @@ ghost use Rattle.columns.specs.Places.{zeroFloat};
 ghost use Rattle.codes_writers.specs.Steps.{VertexRoom, Placed};
 ghost use Rattle.codes_rotated.specs.Rotated.{rotatedTime};
 ghost use Rattle.codes_layers.specs.Codes.{rows, width, layerSize, vertexOf, layerVertices, verticesOf};
-use codes_planar::deep_vertex;
-use codes_planar::flat_vertex;
+use codes_planar::capacity_vertex;
+use codes_planar::layer_vertex;
 use codes_rotated::rotated_time;
 use codes_rotated::rotated_vertex;
 use codes_writers::CodeVertex;
@@ -56,10 +56,10 @@ fn vertex_of(kind: u32, d: u32, t: u32, row: u32, i: u32) -> CodeVertex
     ensures { λ r. ⌜ r ≡ vertexOf kind d t row i ⌝ }
 {
     if kind <= 2 {
-        return flat_vertex(d, row, i);
+        return capacity_vertex(d, row, i);
     }
     if kind <= 4 {
-        return deep_vertex(d, row, i, t);
+        return layer_vertex(d, row, i, t);
     }
     let time = time_of(kind, t);
     rotated_vertex((d - 1) / 2 + 1, row, i, time)

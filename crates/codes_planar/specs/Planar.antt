@@ -43,9 +43,9 @@ unfoldable pub planarAcross : (d j : ℕ) → Float
 planarAcross d j = cond (eqb j d) (neg one) (float j)
 
 -- Six builders, on positions and on left and right, kinds 1 and 2: place j of a row.
-unfoldable pub flatVertex : (d row j : ℕ) → CodeVertex
-flatVertex d row j = record { boundary = planarBoundary d j; position = position (float row) (planarAcross d j) zeroFloat }
+unfoldable pub capacityVertex : (d row j : ℕ) → CodeVertex
+capacityVertex d row j = record { boundary = planarBoundary d j; position = position (float row) (planarAcross d j) zeroFloat }
 
 -- Six builders, on positions and on left and right, kinds 3 and 4: the same in layer t, shifted across by 1/2.
-unfoldable pub deepVertex : (d row j t : ℕ) → CodeVertex
-deepVertex d row j t = record { boundary = planarBoundary d j; position = position (float row) (add binary64 (planarAcross d j) half) (float t) }
+unfoldable pub layerVertex : (d row j t : ℕ) → CodeVertex
+layerVertex d row j t = record { boundary = planarBoundary d j; position = position (float row) (add binary64 (planarAcross d j) half) (float t) }

@@ -4,7 +4,7 @@ ghost use mathlib.Core.Bool.{cond};
 ghost use Prim.Native.Nat.{_+_, _-_, _*_, _≤_, _<_};
 ghost use lib.Dec.{ltb};
 ghost use Rattle.codes_writers.specs.Steps.{Room, Wrote};
-ghost use Rattle.codes_planar.specs.Planar.{planarSize, rowEdges, planarRow, planarLayer, planarBoundary, planarAcross, flatVertex, deepVertex};
+ghost use Rattle.codes_planar.specs.Planar.{planarSize, rowEdges, planarRow, planarLayer, planarBoundary, planarAcross, capacityVertex, layerVertex};
 use codes_writers::CodeVertex;
 use codes_writers::push;
 use codes_writers::straight_edges;
@@ -108,9 +108,9 @@ fn planar_across(d: u32, j: u32) -> f64
 }
 
 // Kinds 1 and 2: place j of a row.
-pub fn flat_vertex(d: u32, row: u32, j: u32) -> CodeVertex
+pub fn capacity_vertex(d: u32, row: u32, j: u32) -> CodeVertex
     requires { ⌜ j ≤ 4096 ⌝ }
-    ensures { λ r. ⌜ r ≡ flatVertex d row j ⌝ }
+    ensures { λ r. ⌜ r ≡ capacityVertex d row j ⌝ }
 {
     let boundary = planar_boundary(d, j);
     let across = planar_across(d, j);
@@ -119,9 +119,9 @@ pub fn flat_vertex(d: u32, row: u32, j: u32) -> CodeVertex
 }
 
 // Kinds 3 and 4: the same in layer t, shifted across by 1/2.
-pub fn deep_vertex(d: u32, row: u32, j: u32, t: u32) -> CodeVertex
+pub fn layer_vertex(d: u32, row: u32, j: u32, t: u32) -> CodeVertex
     requires { ⌜ j ≤ 4096 ⌝ }
-    ensures { λ r. ⌜ r ≡ deepVertex d row j t ⌝ }
+    ensures { λ r. ⌜ r ≡ layerVertex d row j t ⌝ }
 {
     let boundary = planar_boundary(d, j);
     let across = planar_across(d, j);

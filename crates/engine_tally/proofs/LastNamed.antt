@@ -14,25 +14,25 @@ use Rattle.columns.specs.Questions.{ask, allBelow, allWithin}
 use Rattle.engine_log.specs.Load.{loaded, erased, given}
 use Rattle.engine_columns.specs.Step.{Call, loadErasures, loadWeights, reset}
 use Rattle.engine_tally.specs.Tally.{Tally, Lengths, Fed, tallyOf, tallyLong, tallyRefusal, tallied, tallyStep, tallyAfter, tallyNumbers}
-use Rattle.engine_tally.specs.Readers.{Word, weighs, opensAgain, nothing, lastOf, entrySays, erasuresSay, weightsSay, acceptedSays, callSays, callsSay, weightBy, WeighsLastNamed}
+use Rattle.engine_tally.specs.Readers.{LastSet, setTo, asOpened, notNamed, lastOf, setByEntry, setByErasures, setByWeights, setByAccepted, setByCall, setByCalls, weightBy, WeighsLastNamed}
 use Rattle.engine_log.proofs.Loads.{loaded-length}
 use Rattle.engine_columns.proofs.Refusals.{met-of}
 
 -- the weight after a word, from the opening weight o and the weight c before it
-abbrev from : Word → (o c : ℕ) → ℕ
-from (weighs x) o c = x
-from opensAgain o c = o
-from nothing o c = c
+abbrev from : LastSet → (o c : ℕ) → ℕ
+from (setTo x) o c = x
+from asOpened o c = o
+from notNamed o c = c
 
-from-last : (a b : Word) (o c : ℕ) → from a o (from b o c) ≡ from (lastOf a b) o c
-from-last (weighs x) b o c = refl
-from-last opensAgain b o c = refl
-from-last nothing b o c = refl
+from-last : (a b : LastSet) (o c : ℕ) → from a o (from b o c) ≡ from (lastOf a b) o c
+from-last (setTo x) b o c = refl
+from-last asOpened b o c = refl
+from-last notNamed b o c = refl
 
-from-opening : (a : Word) (o : ℕ) → from a o o ≡ weightBy a o
-from-opening (weighs x) o = refl
-from-opening opensAgain o = refl
-from-opening nothing o = refl
+from-opening : (a : LastSet) (o : ℕ) → from a o o ≡ weightBy a o
+from-opening (setTo x) o = refl
+from-opening asOpened o = refl
+from-opening notNamed o = refl
 
 -- a load, its first entry apart
 loaded-first : (e : ℕ) (es : List ℕ) (x : ℕ → ℕ) (n : ℕ) (w : List ℕ) → loaded (e ∷ es) x (suc n) w ≡ loaded es (λ i. x (suc i)) n (set w e (x 0))
@@ -40,28 +40,28 @@ loaded-first e es x zero w = refl
 loaded-first e es x (suc n) w = ap (λ (l : List ℕ). set l (getD es n 0) (x (suc n))) (loaded-first e es x n w)
 
 module _ (k o : ℕ) where
-  entry-set : (e x : ℕ) (w : List ℕ) → k < length w → getD (set w e x) k 0 ≡ from (entrySays e x k) o (getD w k 0)
+  entry-set : (e x : ℕ) (w : List ℕ) → k < length w → getD (set w e x) k 0 ≡ from (setByEntry e x k) o (getD w k 0)
   entry-set e x w h = elim (ℕ-discrete e k) [
-    | yes q ↦ ap (λ i. getD (set w i x) k 0) q ∙ getD-set-same w k x 0 h ∙ ap (λ b. from (cond b (weighs x) nothing) o (getD w k 0)) (sym (eq-eqb e k q))
-    | no q ↦ getD-set-other w e k x 0 (λ p. q (sym p)) ∙ ap (λ b. from (cond b (weighs x) nothing) o (getD w k 0)) (sym (ne-eqb e k q))
+    | yes q ↦ ap (λ i. getD (set w i x) k 0) q ∙ getD-set-same w k x 0 h ∙ ap (λ b. from (cond b (setTo x) notNamed) o (getD w k 0)) (sym (eq-eqb e k q))
+    | no q ↦ getD-set-other w e k x 0 (λ p. q (sym p)) ∙ ap (λ b. from (cond b (setTo x) notNamed) o (getD w k 0)) (sym (ne-eqb e k q))
   ]
 
-  erasures-law : (es w : List ℕ) → k < length w → getD (loaded es erased (length es) w) k 0 ≡ from (erasuresSay es k) o (getD w k 0)
+  erasures-law : (es w : List ℕ) → k < length w → getD (loaded es erased (length es) w) k 0 ≡ from (setByErasures es k) o (getD w k 0)
   erasures-law [] w h = refl
   erasures-law (e ∷ es) w h =
       ap (λ (l : List ℕ). getD l k 0) (loaded-first e es erased (length es) w)
       ∙ erasures-law es (set w e 0) (omega (arith, length-set w e 0, h))
-      ∙ ap (from (erasuresSay es k) o) (entry-set e 0 w h)
-      ∙ from-last (erasuresSay es k) (entrySays e 0 k) o (getD w k 0)
+      ∙ ap (from (setByErasures es k) o) (entry-set e 0 w h)
+      ∙ from-last (setByErasures es k) (setByEntry e 0 k) o (getD w k 0)
 
-  weights-law : (es xs w : List ℕ) → length es ≡ length xs → k < length w → getD (loaded es (given xs) (length es) w) k 0 ≡ from (weightsSay es xs k) o (getD w k 0)
+  weights-law : (es xs w : List ℕ) → length es ≡ length xs → k < length w → getD (loaded es (given xs) (length es) w) k 0 ≡ from (setByWeights es xs k) o (getD w k 0)
   weights-law [] xs w q h = refl
   weights-law (e ∷ es) [] w q h = absurd (omega (arith, q))
   weights-law (e ∷ es) (x ∷ xs) w q h =
       ap (λ (l : List ℕ). getD l k 0) (loaded-first e es (given (x ∷ xs)) (length es) w)
       ∙ weights-law es xs (set w e x) (omega (arith, q)) (omega (arith, length-set w e x, h))
-      ∙ ap (from (weightsSay es xs k) o) (entry-set e x w h)
-      ∙ from-last (weightsSay es xs k) (entrySays e x k) o (getD w k 0)
+      ∙ ap (from (setByWeights es xs k) o) (entry-set e x w h)
+      ∙ from-last (setByWeights es xs k) (setByEntry e x k) o (getD w k 0)
 
 -- a tally that holds edge k
 record Holds (k : ℕ) (t : Tally) : Type 0 where
@@ -71,7 +71,7 @@ record Holds (k : ℕ) (t : Tally) : Type 0 where
 module _ (k : ℕ) where
   -- an accepted call
   tallied-law : (call : Call) (l : Lengths) (t : Tally) → tallyRefusal call l t ≡ 0 → Holds k t
-      → getD (tallied call t .weights) k 0 ≡ from (acceptedSays call k) (getD (t .opening) k 0) (getD (t .weights) k 0)
+      → getD (tallied call t .weights) k 0 ≡ from (setByAccepted call k) (getD (t .opening) k 0) (getD (t .weights) k 0)
   tallied-law (loadErasures es) l t z h = erasures-law k (getD (t .opening) k 0) es (t .weights) (h .in-weights)
   tallied-law (loadWeights es xs) l t z h =
       let q = met-of (eqb (length es) (length xs)) 6
@@ -93,7 +93,7 @@ module _ (k : ℕ) where
   record OneCall (f : Fed) (t after : Tally) (number : ℕ) : Type 0 where
     holds : Holds k after
     opening-same : after .opening ≡ t .opening
-    weight-is : getD (after .weights) k 0 ≡ from (callSays number (f .call) k) (getD (t .opening) k 0) (getD (t .weights) k 0)
+    weight-is : getD (after .weights) k 0 ≡ from (setByCall number (f .call) k) (getD (t .opening) k 0) (getD (t .weights) k 0)
 
   one-call : (f : Fed) (t : Tally) → Holds k t → (n : ℕ) → tallyRefusal (f .call) (f .lent) t ≡ n → OneCall f t (cond (eqb n 0) (tallied (f .call) t) t) n
   one-call f t h zero z = record { holds = tallied-holds (f .call) t h; opening-same = tallied-opening (f .call) t; weight-is = tallied-law (f .call) (f .lent) t z h }
@@ -101,16 +101,16 @@ module _ (k : ℕ) where
       subst (λ b. OneCall f t (cond b (tallied (f .call) t) t) (suc n)) (sym (ne-eqb (suc n) 0 (λ e. omega (arith, e)))) (record { holds = h; opening-same = refl; weight-is = refl })
 
   calls-law : (calls : List Fed) (t : Tally) → Holds k t
-      → getD (tallyAfter calls t .weights) k 0 ≡ from (callsSay calls (tallyNumbers calls t) k) (getD (t .opening) k 0) (getD (t .weights) k 0)
+      → getD (tallyAfter calls t .weights) k 0 ≡ from (setByCalls calls (tallyNumbers calls t) k) (getD (t .opening) k 0) (getD (t .weights) k 0)
   calls-law [] t h = refl
   calls-law (f ∷ fs) t h =
       let n = tallyRefusal (f .call) (f .lent) t in
       let s = one-call f t h n refl in
       let t′ = tallyStep f t in
-      let said = callsSay fs (tallyNumbers fs t′) k in
+      let said = setByCalls fs (tallyNumbers fs t′) k in
       calls-law fs t′ (s .holds)
       ∙ (λ i. from said (getD (s .opening-same i) k 0) (s .weight-is i))
-      ∙ from-last said (callSays n (f .call) k) (getD (t .opening) k 0) (getD (t .weights) k 0)
+      ∙ from-last said (setByCall n (f .call) k) (getD (t .opening) k 0) (getD (t .weights) k 0)
 
 pub weighs-last-named : WeighsLastNamed
 weighs-last-named v e handed long calls k h =
@@ -118,5 +118,5 @@ weighs-last-named v e handed long calls k h =
     let w = getD-take e (handed .weights) k 0 h in
     let t = tallyOf v e handed in
     calls-law k calls t (record { in-opening = omega (arith, l, h); in-weights = omega (arith, l, h) })
-    ∙ from-opening (callsSay calls (tallyNumbers calls t) k) (getD (t .opening) k 0)
-    ∙ ap (weightBy (callsSay calls (tallyNumbers calls t) k)) w
+    ∙ from-opening (setByCalls calls (tallyNumbers calls t) k) (getD (t .opening) k 0)
+    ∙ ap (weightBy (setByCalls calls (tallyNumbers calls t) k)) w

@@ -11,58 +11,58 @@ use Rattle.engine_columns.specs.Open.{GraphColumns}
 use Rattle.engine_tally.specs.Tally.{Fed, tallyOf, tallyAfter, tallyNumbers}
 
 -- Demand 3, sentence 3: what is said of an edge: a weight, that it has its opening weight again, or nothing.
-pub data Word : Type 0 where
-  weighs : ℕ → Word
-  opensAgain : Word
-  nothing : Word
+pub data LastSet : Type 0 where
+  setTo : ℕ → LastSet
+  asOpened : LastSet
+  notNamed : LastSet
 
 -- Demand 3, sentence 3: what was said last decides; `before` counts where nothing was said after it.
-abbrev pub lastOf : (later before : Word) → Word
-lastOf (weighs x) before = weighs x
-lastOf opensAgain before = opensAgain
-lastOf nothing before = before
+abbrev pub lastOf : (later before : LastSet) → LastSet
+lastOf (setTo x) before = setTo x
+lastOf asOpened before = asOpened
+lastOf notNamed before = before
 
 -- Demand 3, sentence 3: what one entry of a load, edge e with weight x, says of edge k.
-abbrev pub entrySays : (e x k : ℕ) → Word
-entrySays e x k = cond (eqb e k) (weighs x) nothing
+abbrev pub setByEntry : (e x k : ℕ) → LastSet
+setByEntry e x k = cond (eqb e k) (setTo x) notNamed
 
 -- Demand 3, sentence 3: what a load of erasures says of edge k: 0, if it names k.
-abbrev pub erasuresSay : List ℕ → ℕ → Word
-erasuresSay [] k = nothing
-erasuresSay (e ∷ es) k = lastOf (erasuresSay es k) (entrySays e 0 k)
+abbrev pub setByErasures : List ℕ → ℕ → LastSet
+setByErasures [] k = notNamed
+setByErasures (e ∷ es) k = lastOf (setByErasures es k) (setByEntry e 0 k)
 
 -- Demand 3, sentence 3: what a load of weights says of edge k: the weight beside the last place that names k.
-abbrev pub weightsSay : List ℕ → List ℕ → ℕ → Word
-weightsSay [] xs k = nothing
-weightsSay (e ∷ es) [] k = nothing
-weightsSay (e ∷ es) (x ∷ xs) k = lastOf (weightsSay es xs k) (entrySays e x k)
+abbrev pub setByWeights : List ℕ → List ℕ → ℕ → LastSet
+setByWeights [] xs k = notNamed
+setByWeights (e ∷ es) [] k = notNamed
+setByWeights (e ∷ es) (x ∷ xs) k = lastOf (setByWeights es xs k) (setByEntry e x k)
 
 -- Demand 3, sentence 3: what an accepted call says of edge k.
-abbrev pub acceptedSays : Call → ℕ → Word
-acceptedSays (loadErasures es) k = erasuresSay es k
-acceptedSays (loadWeights es xs) k = weightsSay es xs k
-acceptedSays reset k = opensAgain
+abbrev pub setByAccepted : Call → ℕ → LastSet
+setByAccepted (loadErasures es) k = setByErasures es k
+setByAccepted (loadWeights es xs) k = setByWeights es xs k
+setByAccepted reset k = asOpened
 
 -- Demand 3, sentence 3: what a call says that was answered with a number: a refused one says nothing.
-abbrev pub callSays : (number : ℕ) → Call → ℕ → Word
-callSays zero call k = acceptedSays call k
-callSays (suc n) call k = nothing
+abbrev pub setByCall : (number : ℕ) → Call → ℕ → LastSet
+setByCall zero call k = setByAccepted call k
+setByCall (suc n) call k = notNamed
 
 -- Demand 3, sentence 3: what a list of calls says, each with its number.
-abbrev pub callsSay : List Fed → (numbers : List ℕ) → ℕ → Word
-callsSay [] numbers k = nothing
-callsSay (f ∷ fs) [] k = nothing
-callsSay (f ∷ fs) (n ∷ numbers) k = lastOf (callsSay fs numbers k) (callSays n (f .call) k)
+abbrev pub setByCalls : List Fed → (numbers : List ℕ) → ℕ → LastSet
+setByCalls [] numbers k = notNamed
+setByCalls (f ∷ fs) [] k = notNamed
+setByCalls (f ∷ fs) (n ∷ numbers) k = lastOf (setByCalls fs numbers k) (setByCall n (f .call) k)
 
 -- Demand 3, sentence 3: the weight that goes with a word, from the opening weight.
-abbrev pub weightBy : Word → (opening : ℕ) → ℕ
-weightBy (weighs x) opening = x
-weightBy opensAgain opening = opening
-weightBy nothing opening = opening
+abbrev pub weightBy : LastSet → (opening : ℕ) → ℕ
+weightBy (setTo x) opening = x
+weightBy asOpened opening = opening
+weightBy notNamed opening = opening
 
 -- Demand 3, sentence 3: after every list of calls on a graph opened with these columns an edge weighs what an accepted load last named for it since the last accepted
 -- reset, 0 if erased, else its opening weight. Question 6 of an accepted open says that the weights handed over are as long as the edges.
 abbrev pub WeighsLastNamed : Type 0
 WeighsLastNamed =
     (v e : ℕ) (handed : GraphColumns) → e ≤ length (handed .weights) → (calls : List Fed) (k : ℕ) → k < e
-    → getD (tallyAfter calls (tallyOf v e handed) .weights) k 0 ≡ weightBy (callsSay calls (tallyNumbers calls (tallyOf v e handed)) k) (getD (handed .weights) k 0)
+    → getD (tallyAfter calls (tallyOf v e handed) .weights) k 0 ≡ weightBy (setByCalls calls (tallyNumbers calls (tallyOf v e handed)) k) (getD (handed .weights) k 0)

@@ -10,7 +10,7 @@ use lib.Dec.{lit<}
 use lib.IntN.{pos, negsuc}
 use Rattle.columns.specs.Lists.{each}
 use Rattle.engine_walks.specs.Graph.{Graph, Walk, stay, step, LeavesNoDefect, CrossingSet}
-use Rattle.engine_walks.specs.Settling.{firstLeast, start, changes, byStatus, offer, relaxEdge, relax, take, stopped, next, settle}
+use Rattle.engine_walks.specs.Settling.{firstLeast, start, changes, byStatus, offer, relaxEdge, relax, takeVertex, stopped, next, settle}
 use Rattle.engine_walks.specs.Answers.{table, readBack, stepInto, pathIn, path, fromLeft, leastFromLeft, nearestRight, crossing}
 
 -- weights in a column
@@ -76,7 +76,7 @@ clean (suc (suc (suc zero))) h i = absurd (omega arith)
 clean (suc (suc (suc (suc v)))) h i = absurd (omega arith)
 
 pub examples : Examples
-unfolding listing thousands apart triangle square pentagon each firstLeast start changes byStatus offer relaxEdge relax take stopped next settle table readBack stepInto pathIn path fromLeft leastFromLeft nearestRight crossing
+unfolding listing thousands apart triangle square pentagon each firstLeast start changes byStatus offer relaxEdge relax takeVertex stopped next settle table readBack stepInto pathIn path fromLeft leastFromLeft nearestRight crossing
 examples = record {
   walk-3-2 = step (lit< tt) (inr (refl, refl)) (step (lit< tt) (inl (refl, refl)) (step (lit< tt) (inl (refl, refl)) stay));
   crossing-set = record { is-set = record { named = (lit< tt, (lit< tt, (lit< tt, tt))); once = (refl, (refl, (refl, tt))) }; clean = clean; odd = refl };

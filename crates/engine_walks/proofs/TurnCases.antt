@@ -11,7 +11,7 @@ use lib.Seq.{set-getD}
 use lib.Dec.{ltb}
 use borrow.Author.Tests.{eq-eqb, ne-eqb, lt-ltb, le-ltb}
 use Rattle.engine_walks.specs.Graph.{Graph, endA, endB}
-use Rattle.engine_walks.specs.Settling.{State, statusAt, weightAt, previousAt, toTake, apart, changes, waits, byStatus, offer, relaxEdge, relax, take, takeChosen, stopped, next, settle, settled}
+use Rattle.engine_walks.specs.Settling.{State, statusAt, weightAt, previousAt, toTake, apart, changes, waits, byStatus, offer, relaxEdge, relax, takeVertex, takeChosen, stopped, next, settle, settled}
 
 -- ---- the tie rule
 
@@ -101,7 +101,7 @@ module _ (g : Graph) (w : ℕ → ℕ) (source : ℕ → Bool) (end : Option ℕ
       go true = refl
       go false = rw e
 
-  pub next-takes : (s : State) (a : ℕ) → stopped source end s ≡ false → toTake (g .vertices) s ≡ some a → next g w source end s ≡ take g w a s
+  pub next-takes : (s : State) (a : ℕ) → stopped source end s ≡ false → toTake (g .vertices) s ≡ some a → next g w source end s ≡ takeVertex g w a s
   unfolding next
   next-takes s a p e = rw (p, e)
 

@@ -14,7 +14,7 @@ use lib.IntN.{pos, negsuc}
 use borrow.Author.Tests.{eqb-true, eqb-false, eq-eqb, ne-eqb, lt-ltb, le-ltb}
 use Rattle.engine_walks.specs.Lists.{bit}
 use Rattle.engine_walks.specs.Graph.{Graph, edges, endA, endB, GraphInRange, Joins, stay}
-use Rattle.engine_walks.specs.Settling.{State, statusAt, weightAt, previousAt, toTake, start, changes, waits, byStatus, offer, relaxEdge, relax, mark, take, takeChosen, stopped, next, settle, settled}
+use Rattle.engine_walks.specs.Settling.{State, statusAt, weightAt, previousAt, toTake, start, changes, waits, byStatus, offer, relaxEdge, relax, mark, takeVertex, takeChosen, stopped, next, settle, settled}
 use Rattle.engine_walks.specs.Answers.{tableWeight, tablePrevious}
 use Rattle.engine_walks.specs.Claims.{IsSource, EndTaken}
 use Rattle.columns.proofs.Counting.{length-each, getD-each}
@@ -278,8 +278,8 @@ no-row s s′ v p q =
 
 module _ {g : Graph} (ok : GraphInRange g) (w : ℕ → ℕ) where
   taken-relaxed : (a : ℕ) (s : State) → Fits (g .vertices) s
-      → Relaxed g w a (weightAt s a) (edges g) (mark s a) (take g w a s) × Fits (g .vertices) (take g w a s)
-  unfolding take
+      → Relaxed g w a (weightAt s a) (edges g) (mark s a) (takeVertex g w a s) × Fits (g .vertices) (takeVertex g w a s)
+  unfolding takeVertex
   taken-relaxed a s f = relax-is ok (previousAt s a) (edges g) (mark s a) (omega arith) (record {
     status-fits = length-set (s .status) a 2 ∙ f .status-fits;
     weight-fits = f .weight-fits;
@@ -287,21 +287,21 @@ module _ {g : Graph} (ok : GraphInRange g) (w : ℕ → ℕ) where
   })
 
   pub take-is : (a : ℕ) (s : State) → Fits (g .vertices) s → IsToTake (g .vertices) s (some a)
-      → Takes g w s a (take g w a s) × Fits (g .vertices) (take g w a s)
-  unfolding take
+      → Takes g w s a (takeVertex g w a s) × Fits (g .vertices) (takeVertex g w a s)
+  unfolding takeVertex
   take-is a s f p =
       let r = taken-relaxed a s f in
       (takes (omega (arith, f .status-fits, p .0)) (p .1) (λ v e. p .2 v (not-absent-in {k = 0} {s = s} f e) e) (r .0), r .1)
 
   -- the offers of a change no row of the table: it is the same as if the search stopped before them
   pub offers-keep-rows : (a : ℕ) (s : State) → Fits (g .vertices) s → ((v : ℕ) → statusAt (mark s a) v ≤ 2) → (v : ℕ)
-      → (tableWeight (take g w a s) v ≡ tableWeight (mark s a) v) × (tablePrevious (take g w a s) v ≡ tablePrevious (mark s a) v)
+      → (tableWeight (takeVertex g w a s) v ≡ tableWeight (mark s a) v) × (tablePrevious (takeVertex g w a s) v ≡ tablePrevious (mark s a) v)
   offers-keep-rows a s f small v =
       let r = taken-relaxed a s f .0 in
       elim (ℕ-discrete (statusAt (mark s a) v) 2) [
-        | yes e ↦ let k = r .kept v e in same-row (mark s a) (take g w a s) v (k .0) (k .1) (k .2)
+        | yes e ↦ let k = r .kept v e in same-row (mark s a) (takeVertex g w a s) v (k .0) (k .1) (k .2)
         | no h ↦ let l : statusAt (mark s a) v ≤ 1 = omega (arith, small v) in
-            no-row (mark s a) (take g w a s) v (λ e. omega (arith, outcome-open (r .other v l) l)) h
+            no-row (mark s a) (takeVertex g w a s) v (λ e. omega (arith, outcome-open (r .other v l) l)) h
       ]
 
   module _ {source : ℕ → Bool} {Source : ℕ → Type 0} (n : Sources g source Source) (end : Option ℕ) where
@@ -322,20 +322,20 @@ module _ {g : Graph} (ok : GraphInRange g) (w : ℕ → ℕ) where
           go s i false e none p = (i .0, rests k s (i .1))
           go s i false e (some a) p =
               let t = take-is a s (i .0 .fits) p in
-              (record { inv = keeps (i .0 .inv) (t .0); fits = t .1 }, moves k a s (take g w a s) (i .0) e (t .0) (i .1))
+              (record { inv = keeps (i .0 .inv) (t .0); fits = t .1 }, moves k a s (takeVertex g w a s) (i .0) e (t .0) (i .1))
 
     pub settle-valid : (k : ℕ) → Valid g w Source (settle g w source end k)
     settle-valid k = after-turns (λ k s. Unit {0}) tt (λ k s p. tt) (λ k a s s′ i f t p. tt) k .0
 
     -- ---- enough turns
 
-    take-fewer : (a : ℕ) (s : State) → Valid g w Source s → IsToTake (g .vertices) s (some a) → untaken (take g w a s .status) < untaken (s .status)
+    take-fewer : (a : ℕ) (s : State) → Valid g w Source s → IsToTake (g .vertices) s (some a) → untaken (takeVertex g w a s .status) < untaken (s .status)
     unfolding notTaken
     take-fewer a s i p =
         let t = take-is a s (i .fits) p in
         let x = t .0 in
-        untaken-lt (s .status) (take g w a s .status) a (i .fits .status-fits ∙ sym (t .1 .status-fits))
-        (λ v. notTaken-falls (statusAt s v) (statusAt (take g w a s) v) (λ e. x .kept v e .0 ∙ e) (i .inv .small v)) (omega (arith, i .fits .status-fits, p .0))
+        untaken-lt (s .status) (takeVertex g w a s .status) a (i .fits .status-fits ∙ sym (t .1 .status-fits))
+        (λ v. notTaken-falls (statusAt s v) (statusAt (takeVertex g w a s) v) (λ e. x .kept v e .0 ∙ e) (i .inv .small v)) (omega (arith, i .fits .status-fits, p .0))
         (subst₂ (λ y z. notTaken y < notTaken z) (sym (x .took .0)) (sym (x .waits)) (lit< tt))
 
     -- a turn is at rest, or leaves fewer

@@ -90,13 +90,13 @@ abbrev pub mark : State → ℕ → State
 mark s a = record { status = set (s .status) a 2; weight = s .weight; previous = s .previous }
 
 -- Engine, Settling, sentence 4: vertex a is taken, then each of its neighbours is treated in turn.
-unfoldable pub take : (g : Graph) (w : ℕ → ℕ) (a : ℕ) → State → State
-take g w a s = relax g w a (previousAt s a) (weightAt s a) (edges g) (mark s a)
+unfoldable pub takeVertex : (g : Graph) (w : ℕ → ℕ) (a : ℕ) → State → State
+takeVertex g w a s = relax g w a (previousAt s a) (weightAt s a) (edges g) (mark s a)
 
 -- Engine, Settling, sentences 1 and 4: the chosen vertex is taken, if one waits.
 abbrev pub takeChosen : (g : Graph) (w : ℕ → ℕ) → State → Option ℕ → State
 takeChosen g w s none = s
-takeChosen g w s (some a) = take g w a s
+takeChosen g w s (some a) = takeVertex g w a s
 
 -- Engine, Settling, sentence 5: whether the end was taken; none, or one that is a source, never counts.
 unfoldable pub stopped : (source : ℕ → Bool) (end : Option ℕ) → State → Bool

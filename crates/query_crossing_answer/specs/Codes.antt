@@ -17,6 +17,6 @@ Coded r none = r ≡ 2147483648
 Coded r (some weight) = (r ≡ weight) × (weight < 2147483648)
 
 -- the column where a weight was found, else unchanged
-abbrev pub wherever : Option ℕ → List ℤ → List ℤ → List ℤ
-wherever none column weights₀ = weights₀
-wherever (some weight) column weights₀ = sets weights₀ 0 column
+abbrev pub whereFound : Option ℕ → List ℤ → List ℤ → List ℤ
+whereFound none column weights₀ = weights₀
+whereFound (some weight) column weights₀ = sets weights₀ 0 column

@@ -29,7 +29,7 @@ use Rattle.engine_walks.specs.Answers.{isLeft, taken, tableWeight, weightOf, fr
 use Rattle.query_relaxing.specs.Ready.{graphOf, sources, endOf, sumLimit}
 use Rattle.query_crossing_answer.specs.declared.CrossingReply.the-variants.{Crossed, Refused}
 use Rattle.query_crossing_answer.specs.Crossing.{isJoined, weightFound, said, crossingAsked}
-use Rattle.query_crossing_answer.specs.Codes.{Coded, wherever, codeOf}
+use Rattle.query_crossing_answer.specs.Codes.{Coded, whereFound, codeOf}
 use Rattle.query_questions.specs.Scratch.{isFree}
 use Rattle.query_search.proofs.Scratch.{ask-kept}
 
@@ -45,11 +45,11 @@ pub reply-of : (r : ℕ) (c : Option ℕ) → Coded r c → Answered (said (cond
 reply-of r none e = rw (eq-eqb r 2147483648 e) (refuses-of refl (λ q. absurd (omega arith)))
 reply-of r (some w) (e, h) = rw (ne-eqb r 2147483648 (λ q. omega arith), e) (accepts-of refl)
 
-pub column-of : (r : ℕ) (c : Option ℕ) (column weights₀ : List ℤ) → Coded r c → cond (eqb r 2147483648) weights₀ (sets weights₀ 0 column) ≡ wherever c column weights₀
+pub column-of : (r : ℕ) (c : Option ℕ) (column weights₀ : List ℤ) → Coded r c → cond (eqb r 2147483648) weights₀ (sets weights₀ 0 column) ≡ whereFound c column weights₀
 column-of r none column weights₀ e = ap (λ b. cond b weights₀ (sets weights₀ 0 column)) (eq-eqb r 2147483648 e)
 column-of r (some w) column weights₀ (e, h) = ap (λ b. cond b weights₀ (sets weights₀ 0 column)) (ne-eqb r 2147483648 (λ q. omega arith))
 
-pub column-after : (c : Option ℕ) (column weights₀ : List ℤ) → length column ≤ length weights₀ → wherever c column weights₀ ≡ after (ask (isJoined c) 18 0) column weights₀
+pub column-after : (c : Option ℕ) (column weights₀ : List ℤ) → length column ≤ length weights₀ → whereFound c column weights₀ ≡ after (ask (isJoined c) 18 0) column weights₀
 column-after none column weights₀ h = refl
 column-after (some w) column weights₀ h = sets-over weights₀ column h
 
@@ -108,7 +108,7 @@ module _ (g : Graph) (w : ℕ → ℕ) (s : State) (state : s ≡ fromLeft g w) 
       (coded-of (fromLeft g w) (nearestRight g w) (subst (λ t. (v : ℕ) → weightAt t v < sumLimit) state (light-all s (g .vertices) fits light)))
 
   pub column-is : (r k : ℕ) (out₀ out : List ℤ) → k ≡ g .vertices → Coded r (crossing g w)
-      → out ≡ cond (eqb r 2147483648) out₀ (sets out₀ 0 (each k (tableWeight s))) → out ≡ wherever (crossing g w) (leastFromLeft g w) out₀
+      → out ≡ cond (eqb r 2147483648) out₀ (sets out₀ 0 (each k (tableWeight s))) → out ≡ whereFound (crossing g w) (leastFromLeft g w) out₀
   unfolding leastFromLeft
   column-is r k out₀ out e coded q =
       q ∙ (λ i. cond (eqb r 2147483648) out₀ (sets out₀ 0 (each (e i) (tableWeight (state i))))) ∙ column-of r (crossing g w) (leastFromLeft g w) out₀ coded

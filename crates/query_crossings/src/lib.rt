@@ -13,7 +13,7 @@ ghost use Rattle.query_relaxing.specs.Ready.{graphOf, weighs, stateOf, sumLimit
 ghost use Rattle.query_questions.specs.Queries.{scratchLong};
 ghost use Rattle.query_questions.specs.Scratch.{scratchOf};
 ghost use Rattle.query_crossing_answer.specs.Crossing.{CrossingStep, CrossingScratch};
-ghost use Rattle.query_crossing_answer.specs.Codes.{Coded, wherever};
+ghost use Rattle.query_crossing_answer.specs.Codes.{Coded, whereFound};
 use columns::Weight;
 use engine_columns::EngineCounts;
 use query_crossing_answer::CrossingReply;

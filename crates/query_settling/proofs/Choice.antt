@@ -134,8 +134,8 @@ module _ {n : ℕ} {a b w numbers ends : List ℕ} (l : Listed n a b w numbers e
 
   -- going through them is the turn that takes v
   pub taken-along : (m : List ℕ) (s : State)
-      → relaxAlong (graphOf n a b m) (weighs w) v (previousAt s v) (weightAt s v) (take (to - from) (drop from numbers)) (mark s v) ≡ S.take (graphOf n a b m) (weighs w) v s
-  unfolding S.take
+      → relaxAlong (graphOf n a b m) (weighs w) v (previousAt s v) (weightAt s v) (take (to - from) (drop from numbers)) (mark s v) ≡ S.takeVertex (graphOf n a b m) (weighs w) v s
+  unfolding S.takeVertex
   taken-along m s =
       let g = graphOf n a b m in
       let q = previousAt s v in

@@ -10,11 +10,11 @@ use Rattle.codes_layers.proofs.vertices.vertex_of.Tie as tie
 
 returns : tie.Need-returns
 unfolding vertexOf
-returns c = simp (le-leb _ _ (c .before .if1 .taken)) (c .flat-vertex .ensures)
+returns c = simp (le-leb _ _ (c .before .if1 .taken)) (c .capacity-vertex .ensures)
 
 returns-2 : tie.Need-returns-2
 unfolding vertexOf
-returns-2 c = simp (lt-leb _ _ (c .before .before .if1 .left), le-leb _ _ (c .before .if2 .taken)) (c .deep-vertex .ensures)
+returns-2 c = simp (lt-leb _ _ (c .before .before .if1 .left), le-leb _ _ (c .before .if2 .taken)) (c .layer-vertex .ensures)
 
 returns-3 : tie.Need-returns-3
 unfolding vertexOf

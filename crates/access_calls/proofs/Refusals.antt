@@ -13,7 +13,7 @@ use Rattle.columns_room.specs.Room.{threeLong}
 use Rattle.columns_room.proofs.Refusals.{met, goes-on, both-long, three-long}
 use Rattle.access_calls.specs.Calls.{Code, Initializer, initializerLong, initializerSound, initializerRefusal, Syndrome, setSyndromeRefusal, countsSound, getSyndromeRefusal, setMarksRefusal, SetMarks, getMarksRefusal, GotMarks}
 use Rattle.columns.specs.declared.Done.{Done}
-use Rattle.access_calls.specs.declared.ListCount.{ListCount}
+use Rattle.columns_answers.specs.declared.ListCount.{ListCount}
 
 -- ---- get_initializer
 

@@ -11,8 +11,8 @@ use Rattle.columns.specs.declared.Done.the-variants.{Accepted}
 use Rattle.columns.proofs.Columns.{over-in, after-accepted}
 use Rattle.columns.proofs.Counting.{length-each, getD-each}
 use Rattle.columns_neighbors.specs.Lists.{chosen}
-use Rattle.access_calls.specs.declared.ListCount.the-variants.{Count}
-use Rattle.access_calls.specs.declared.SyndromeCounts.the-variants.{Counts}
+use Rattle.columns_answers.specs.declared.ListCount.the-variants.{Count}
+use Rattle.columns_answers.specs.declared.SyndromeCounts.the-variants.{Counts}
 use Rattle.columns_marks.specs.Marks.{isSet, listed, names, marks}
 use Rattle.access_calls.specs.Calls.{setMarksRefusal, SetMarks, getMarksRefusal, GotMarks, Syndrome, setSyndromeRefusal, SetSyndrome, getSyndromeRefusal, GotSyndrome}
 use Rattle.columns_marks.proofs.Listing.{Passes, chosen-at, chosen-has, chosen-ascends, chosen-same}

@@ -14,9 +14,9 @@ use Rattle.columns_neighbors.specs.Sound.{graphSound}
 use Rattle.columns_room.specs.Room.{threeLong}
 use Rattle.columns_marks.specs.Marks.{listed, marks}
 use Rattle.access_weights.specs.Weights.{weights}
-use Rattle.access_calls.specs.declared.ListCount.{ListCount}
-use Rattle.access_calls.specs.declared.SyndromeCounts.{SyndromeCounts}
-use Rattle.access_calls.specs.Answers.{listSaid, syndromeSaid}
+use Rattle.columns_answers.specs.declared.ListCount.{ListCount}
+use Rattle.columns_answers.specs.declared.SyndromeCounts.{SyndromeCounts}
+use Rattle.columns_answers.specs.Counts.{listSaid, syndromeSaid}
 
 -- ---- get_initializer
 

@@ -1,5 +1,4 @@
--- Answers: what the calls answer. Calls: the questions, and what each call leaves.
-pub mod Answers
+-- Calls: the questions, and what each call leaves.
 pub mod Calls
 -- Fill: what fill_vertices leaves.
 pub mod Fill

@@ -18,6 +18,8 @@ use columns::questions::edge_count_sound;
 use columns::questions::half_weights_sound;
 use columns::questions::marks_sound;
 use columns::questions::vertex_count_sound;
+pub use columns_answers::ListCount;
+pub use columns_answers::SyndromeCounts;
 use columns_marks::list_set;
 use columns_marks::set_marks;
 use columns_neighbors::sound::graph_sound;
@@ -27,18 +29,6 @@ pub use fill::fill_vertices;
 ghost use mathlib.Core.Path.{_≡_};
 ghost use Rattle.columns.specs.Questions.{vertexCountSound, edgeCountSound};
 ghost use Rattle.access_calls.specs.Calls.{code, initializer, initializerLong, initializerSound, initializerRefusal, GotInitializer, SetMarks, syndrome, countsSound, setSyndromeRefusal, SetSyndrome, GotMarks, getSyndromeRefusal, GotSyndrome};
-
-// What a call answers that hands back a list: how many numbers it has.
-pub enum ListCount {
-    Count(u32),
-    Refused(u32),
-}
-
-// What a call answers that hands back a syndrome: how many defects, and how many erasures.
-pub enum SyndromeCounts {
-    Counts(u32, u32),
-    Refused(u32),
-}
 
 // Question 6 of get_initializer.
 fn initializer_long(

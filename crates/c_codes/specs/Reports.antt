@@ -8,10 +8,7 @@ use Rattle.weights_calls.specs.declared.WeightOfP.{WeightOfP}
 use Rattle.weights_calls.specs.Answers.{said}
 use Rattle.sanity_verdicts.specs.declared.Verdict.{Verdict}
 use Rattle.sanity_verdicts.specs.Sanity as sanity
-use Rattle.access_calls.specs.declared.ListCount.{ListCount}
-use Rattle.access_calls.specs.declared.SyndromeCounts.{SyndromeCounts}
 use Rattle.access_vertices.specs.declared.Truth.{Truth}
-use Rattle.access_calls.specs.Answers.{listSaid, syndromeSaid}
 use Rattle.access_vertices.specs.Marked as marked
 use Rattle.c_reports.specs.declared.OneCount.{OneCount}
 use Rattle.c_reports.specs.declared.TwoCounts.{TwoCounts}
@@ -37,15 +34,6 @@ pub record ReportsVerdict (a : Verdict) (r : VerdictReport) : Type 0 where
   pub verdict : r .verdict ≡ sanity.said a .values .0
   pub first : r .first ≡ sanity.said a .values .1
   pub second : r .second ≡ sanity.said a .values .2
-
-pub record ReportsList (a : ListCount) (r : OneCount) : Type 0 where
-  pub number : r .number ≡ listSaid a .number
-  pub count : r .count ≡ listSaid a .values
-
-pub record ReportsCounts (a : SyndromeCounts) (r : TwoCounts) : Type 0 where
-  pub number : r .number ≡ syndromeSaid a .number
-  pub first : r .first ≡ syndromeSaid a .values .0
-  pub second : r .second ≡ syndromeSaid a .values .1
 
 pub record ReportsTruth (a : Truth) (r : TruthReport) : Type 0 where
   pub number : r .number ≡ marked.said a .number

@@ -1,16 +1,16 @@
-ghost use Rattle.c_reports.specs.Reports.{Reported, ReportsDone};
-ghost use Rattle.c_codes.specs.Reports.{ReportsCounts, ReportsList, ReportsTruth};
+ghost use Rattle.c_reports.specs.Reports.{Reported, ReportsDone, ReportsList, ReportsSyndrome};
+ghost use Rattle.c_codes.specs.Reports.{ReportsTruth};
 ghost use Rattle.access_vertices.specs.Positions.{positions, GotPositions};
 ghost use Rattle.access_calls.specs.Calls.{code, initializer, GotInitializer, SetMarks, syndrome, SetSyndrome, GotMarks, GotSyndrome};
 ghost use Rattle.access_vertices.specs.Marked.{IsMarked};
 ghost use Rattle.columns.specs.Questions.{vertexCountSound, edgeCountSound, boundariesSound, marksSound};
 use super::reports::TruthReport;
-use super::reports::counts_report;
-use super::reports::list_report;
 use super::reports::truth_report;
 use c_reports::OneCount;
 use c_reports::TwoCounts;
 use c_reports::done_number;
+use c_reports::list_report;
+use c_reports::syndrome_report;
 use columns::VertexIndex;
 use columns::Weight;
 
@@ -148,13 +148,13 @@ pub extern "C" fn moldingcress_get_syndrome(
     defect_list: &mut [u32],
     erasure_list: &mut [u32],
 ) -> TwoCounts
-    ensures { λ q. ⌜ Reported ReportsCounts (λ r. GotSyndrome «vertex_num» «edge_num»
+    ensures { λ q. ⌜ Reported ReportsSyndrome (λ r. GotSyndrome «vertex_num» «edge_num»
         (syndrome (now (defect .entry)) (now (erasure .entry)))
         (syndrome (now («defect_list» .entry)) (now («erasure_list» .entry)))
         (syndrome (now («defect_list» .exit)) (now («erasure_list» .exit)))
         r) q ⌝ }
 {
-    counts_report(access_calls::get_syndrome(
+    syndrome_report(access_calls::get_syndrome(
         vertex_num,
         edge_num,
         defect,

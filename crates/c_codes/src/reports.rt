@@ -1,6 +1,4 @@
 // Answers as structs of numbers.
-use access_calls::ListCount;
-use access_calls::SyndromeCounts;
 use access_calls::Truth;
 use c_reports::OneCount;
 use c_reports::TwoCounts;
@@ -8,7 +6,7 @@ use codes_calls::Created;
 use codes_questions::Count;
 use sanity_calls::Verdict;
 use weights_calls::WeightOfP;
-ghost use Rattle.c_codes.specs.Reports.{ReportsCreated, ReportsCount, ReportsWeighed, ReportsVerdict, ReportsList, ReportsCounts, ReportsTruth};
+ghost use Rattle.c_codes.specs.Reports.{ReportsCreated, ReportsCount, ReportsWeighed, ReportsVerdict, ReportsTruth};
 
 #[repr(C)]
 pub struct WeighedReport {
@@ -109,34 +107,6 @@ pub fn verdict_report(answer: Verdict) -> VerdictReport
         Verdict::Refused(number) => VerdictReport {
             number,
             verdict: 0,
-            first: 0,
-            second: 0,
-        },
-    }
-}
-
-// How many numbers a list has.
-pub fn list_report(answer: ListCount) -> OneCount
-    ensures { λ r. ⌜ ReportsList answer r ⌝ }
-{
-    match answer {
-        ListCount::Count(count) => OneCount { number: 0, count },
-        ListCount::Refused(number) => OneCount { number, count: 0 },
-    }
-}
-
-// How many defects and erasures are set.
-pub fn counts_report(answer: SyndromeCounts) -> TwoCounts
-    ensures { λ r. ⌜ ReportsCounts answer r ⌝ }
-{
-    match answer {
-        SyndromeCounts::Counts(defects, erasures) => TwoCounts {
-            number: 0,
-            first: defects,
-            second: erasures,
-        },
-        SyndromeCounts::Refused(number) => TwoCounts {
-            number,
             first: 0,
             second: 0,
         },

@@ -3,7 +3,9 @@ pub mod engine;
 pub mod errors;
 
 use columns::Done;
-ghost use Rattle.c_reports.specs.Reports.{ReportsDone};
+use columns_answers::ListCount;
+use columns_answers::SyndromeCounts;
+ghost use Rattle.c_reports.specs.Reports.{ReportsDone, ReportsList, ReportsSyndrome};
 
 // A question's number, 0 where the call was accepted, and a count, 0 where it was refused.
 #[repr(C)]
@@ -27,5 +29,33 @@ pub fn done_number(answer: Done) -> u32
     match answer {
         Done::Accepted => 0,
         Done::Refused(number) => number,
+    }
+}
+
+// How many numbers a list has.
+pub fn list_report(answer: ListCount) -> OneCount
+    ensures { λ r. ⌜ ReportsList answer r ⌝ }
+{
+    match answer {
+        ListCount::Count(count) => OneCount { number: 0, count },
+        ListCount::Refused(number) => OneCount { number, count: 0 },
+    }
+}
+
+// How many defects and erasures there are.
+pub fn syndrome_report(answer: SyndromeCounts) -> TwoCounts
+    ensures { λ r. ⌜ ReportsSyndrome answer r ⌝ }
+{
+    match answer {
+        SyndromeCounts::Counts(defects, erasures) => TwoCounts {
+            number: 0,
+            first: defects,
+            second: erasures,
+        },
+        SyndromeCounts::Refused(number) => TwoCounts {
+            number,
+            first: 0,
+            second: 0,
+        },
     }
 }

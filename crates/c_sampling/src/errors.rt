@@ -1,5 +1,4 @@
-ghost use Rattle.c_reports.specs.Reports.{Reported, ReportsDone};
-ghost use Rattle.c_reports.specs.Errors.{ReportsFound, ReportsSyndrome};
+ghost use Rattle.c_reports.specs.Reports.{Reported, ReportsDone, ReportsList, ReportsSyndrome};
 ghost use Rattle.sampling_calls.specs.Errors.{GeneratedErrors};
 ghost use Rattle.sampling_clear.specs.Clear.{ClearedErrors};
 ghost use Rattle.sampling_calls.specs.Records.{codeGraph, syndromeColumns};
@@ -8,8 +7,8 @@ ghost use Rattle.sampling_calls.specs.Syndrome.{FoundSyndrome};
 use c_reports::OneCount;
 use c_reports::TwoCounts;
 use c_reports::done_number;
-use c_reports::errors::found_report;
-use c_reports::errors::syndrome_report;
+use c_reports::list_report;
+use c_reports::syndrome_report;
 
 // Two draws of the seeded generator for every edge: its erasure, then its error; standing defects are cleared first. Lists the defects and the erasures.
 #[no_mangle]
@@ -105,9 +104,9 @@ pub extern "C" fn moldingcress_syndrome_of(
     list: &[u32],
     defect_list: &mut [u32],
 ) -> OneCount
-    ensures { λ q. ⌜ Reported ReportsFound (λ r. FoundSyndrome (codeGraph «vertex_num» «edge_num» (now («ends_a» .entry)) (now («ends_b» .entry)) (now (boundary .entry))) (now (list .entry)) (now («defect_list» .entry)) r (now («defect_list» .exit))) q ⌝ }
+    ensures { λ q. ⌜ Reported ReportsList (λ r. FoundSyndrome (codeGraph «vertex_num» «edge_num» (now («ends_a» .entry)) (now («ends_b» .entry)) (now (boundary .entry))) (now (list .entry)) (now («defect_list» .entry)) r (now («defect_list» .exit))) q ⌝ }
 {
-    found_report(sampling_calls::syndrome_of(
+    list_report(sampling_calls::syndrome_of(
         vertex_num,
         edge_num,
         ends_a,

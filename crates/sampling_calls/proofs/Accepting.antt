@@ -19,10 +19,10 @@ use Rattle.columns_neighbors.specs.Sound.{graphSound}
 use Rattle.columns_neighbors.specs.Steps.{InRange}
 use Rattle.columns_neighbors.proofs.Ends.{GraphSound, graph-says}
 use Rattle.columns.proofs.Refusals.{met, goes-on}
-use Rattle.sampling_calls.specs.declared.SyndromeAnswer.{SyndromeAnswer}
-use Rattle.sampling_calls.specs.declared.SyndromeAnswer.the-variants as syndrome
-use Rattle.sampling_calls.specs.declared.ListAnswer.{ListAnswer}
-use Rattle.sampling_calls.specs.declared.ListAnswer.the-variants as list
+use Rattle.columns_answers.specs.declared.SyndromeCounts.{SyndromeCounts}
+use Rattle.columns_answers.specs.declared.SyndromeCounts.the-variants as syndrome
+use Rattle.columns_answers.specs.declared.ListCount.{ListCount}
+use Rattle.columns_answers.specs.declared.ListCount.the-variants as list
 use Rattle.sampling_calls.specs.Records.{CodeGraph, graphLong, codeSound, SyndromeColumns, syndromeLong}
 use Rattle.columns_marks.specs.Marks.{isSet, listed}
 use Rattle.sampling_flips.specs.Flip.{flipEach}

@@ -16,10 +16,10 @@ use Rattle.columns.proofs.Counting.{each-same, length-each, getD-each}
 use Rattle.sampling_generator.specs.declared.DeterministicRng.{DeterministicRng}
 use Rattle.sampling_generator.specs.Random.{seedFromU64}
 use Rattle.columns_neighbors.specs.Lists.{chosen}
-use Rattle.sampling_calls.specs.declared.SyndromeAnswer.{SyndromeAnswer}
+use Rattle.columns_answers.specs.declared.SyndromeCounts.{SyndromeCounts}
 use Rattle.sampling_calls.specs.Records.{CodeGraph, SyndromeColumns}
 use Rattle.sampling_flips.specs.Flip.{flipEach}
-use Rattle.sampling_calls.specs.Answers.{said}
+use Rattle.columns_answers.specs.Counts.{syndromeSaid}
 use Rattle.sampling_calls.specs.Errors.{SyndromeLeft}
 use Rattle.sampling_edges.specs.Draws.{drawNumber, isErased, errorProbability, hasError, sampledErasures, sampledErrors}
 use Rattle.sampling_calls.specs.Sampling.{samplingRefusal, GeneratedRandomErrors}
@@ -30,7 +30,7 @@ use Rattle.sampling_calls.proofs.Inner.{flipEach-inner}
 use Rattle.columns_marks.proofs.Listing.{when-few, chosen-below, chosen-same}
 use Rattle.sampling_calls.proofs.Draws.{length-sampledErasures}
 
-pub accepted-number : {q v e : ℕ} {ds es : List ℕ} {before last : SyndromeColumns} {r : SyndromeAnswer} → SyndromeLeft q v e ds es before r last → said r .number ≡ 0 → q ≡ 0
+pub accepted-number : {q v e : ℕ} {ds es : List ℕ} {before last : SyndromeColumns} {r : SyndromeCounts} → SyndromeLeft q v e ds es before r last → syndromeSaid r .number ≡ 0 → q ≡ 0
 accepted-number {q} {v} {e} {ds} {es} {before} {last} {r} s z = sym (s .answers .number-is) ∙ z
 
 -- ---- two samplings with one seed
@@ -58,8 +58,8 @@ take-each k n f h =
     (λ i b. getD-take k (each n f) i 0 (omega arith) ∙ getD-each n f 0 i (omega arith) ∙ sym (getD-each k f 0 i (omega arith)))
 
 -- the erasure column of an accepted sampling, before edge k
-marks-of : (seed k : ℕ) (g : CodeGraph) (p pe : List Float) (before last : SyndromeColumns) (r : SyndromeAnswer)
-    → GeneratedRandomErrors seed g p pe before r last → said r .number ≡ 0 → k ≤ g .edges → take k (last .erasure) ≡ sampledErasures (seedFromU64 seed) pe k
+marks-of : (seed k : ℕ) (g : CodeGraph) (p pe : List Float) (before last : SyndromeColumns) (r : SyndromeCounts)
+    → GeneratedRandomErrors seed g p pe before r last → syndromeSaid r .number ≡ 0 → k ≤ g .edges → take k (last .erasure) ≡ sampledErasures (seedFromU64 seed) pe k
 unfolding sampledErasures
 marks-of seed k g p pe before last r s z h =
     let marks = sampledErasures (seedFromU64 seed) pe (g .edges) in

@@ -6,17 +6,17 @@ use mathlib.Core.List.{List}
 use lib.ListN.{length, take}
 use Rattle.columns.specs.Lists.{after}
 use Rattle.columns.specs.Questions.{ask, allBelow, marksSound}
-use Rattle.sampling_calls.specs.declared.SyndromeAnswer.{SyndromeAnswer}
+use Rattle.columns_answers.specs.declared.SyndromeCounts.{SyndromeCounts}
 use Rattle.sampling_calls.specs.Records.{CodeGraph, graphLong, codeSound, SyndromeColumns, syndromeLong}
 use Rattle.columns_marks.specs.Marks.{listed}
 use Rattle.sampling_flips.specs.Flip.{flipEach}
 use Rattle.columns_answers.specs.Said.{Answered}
-use Rattle.sampling_calls.specs.Answers.{said}
+use Rattle.columns_answers.specs.Counts.{syndromeSaid}
 
 -- what a call that generates errors answers and leaves: `number` is the question's, 0 where all are met;
 -- then the defect and erasure bytes are those given, and both lists name the bytes 1, ascending
-pub record SyndromeLeft (number v e : ℕ) (defects erasures : List ℕ) (before : SyndromeColumns) (answer : SyndromeAnswer) (last : SyndromeColumns) : Type 0 where
-  pub answers : Answered (said answer) number (length (listed v defects), length (listed e erasures)) (0, 0)
+pub record SyndromeLeft (number v e : ℕ) (defects erasures : List ℕ) (before : SyndromeColumns) (answer : SyndromeCounts) (last : SyndromeColumns) : Type 0 where
+  pub answers : Answered (syndromeSaid answer) number (length (listed v defects), length (listed e erasures)) (0, 0)
   pub defect-is : last .defect ≡ after number defects (before .defect)
   pub erasure-is : last .erasure ≡ after number erasures (before .erasure)
   pub defects-listed : last .defectList ≡ after number (listed v defects) (before .defectList)
@@ -32,7 +32,7 @@ errorsRefusal g list s =
     (ask (allBelow (g .edges) list) 13 0))
 
 -- an error on each listed edge, over the standing defects; the erasures stay
-abbrev pub GeneratedErrors : CodeGraph → List ℕ → SyndromeColumns → SyndromeAnswer → SyndromeColumns → Type 0
+abbrev pub GeneratedErrors : CodeGraph → List ℕ → SyndromeColumns → SyndromeCounts → SyndromeColumns → Type 0
 GeneratedErrors g list before answer last =
     SyndromeLeft (errorsRefusal g list before) (g .vertices) (g .edges)
     (flipEach (g .endsA) (g .endsB) (g .boundary) list (take (g .vertices) (before .defect))) (take (g .edges) (before .erasure))

@@ -1,9 +1,8 @@
--- Records: the columns that the calls are lent, and question 6 and 7 of them. Answers: what the calls answer.
+-- Records: the columns that the calls are lent, and question 6 and 7 of them.
 -- Errors: `generate_errors`. Sampling: `generate_random_errors`. Syndrome: `syndrome_of`. Prefix: what two samplings with one seed have in common.
 -- The defect flip stands in the crate sampling_flips, the draws of an edge in sampling_edges, the list of listed numbers in columns_marks,
 -- `clear_errors` in sampling_clear.
 pub mod Records
-pub mod Answers
 pub mod Errors
 pub mod Sampling
 pub mod Syndrome

@@ -5,9 +5,9 @@ use mathlib.Core.List.{List}
 use lib.ListN.{getD, take}
 use lib.Ieee.{Float}
 use Rattle.columns.specs.Places.{zeroFloat}
-use Rattle.sampling_calls.specs.declared.SyndromeAnswer.{SyndromeAnswer}
+use Rattle.columns_answers.specs.declared.SyndromeCounts.{SyndromeCounts}
 use Rattle.sampling_calls.specs.Records.{CodeGraph, SyndromeColumns}
-use Rattle.sampling_calls.specs.Answers.{said}
+use Rattle.columns_answers.specs.Counts.{syndromeSaid}
 use Rattle.sampling_calls.specs.Sampling.{GeneratedRandomErrors}
 
 -- the edges before number k carry the same p and pe
@@ -18,6 +18,6 @@ pub record SameBefore (k : ℕ) (p₁ pe₁ p₂ pe₂ : List Float) : Type 0 wh
 -- then both set the same erasure marks before k
 abbrev pub SameMarksBefore : Type 0
 SameMarksBefore =
-    (seed k : ℕ) (g₁ g₂ : CodeGraph) (p₁ pe₁ p₂ pe₂ : List Float) (before₁ last₁ before₂ last₂ : SyndromeColumns) (r₁ r₂ : SyndromeAnswer)
-    → GeneratedRandomErrors seed g₁ p₁ pe₁ before₁ r₁ last₁ → GeneratedRandomErrors seed g₂ p₂ pe₂ before₂ r₂ last₂ → said r₁ .number ≡ 0 → said r₂ .number ≡ 0
+    (seed k : ℕ) (g₁ g₂ : CodeGraph) (p₁ pe₁ p₂ pe₂ : List Float) (before₁ last₁ before₂ last₂ : SyndromeColumns) (r₁ r₂ : SyndromeCounts)
+    → GeneratedRandomErrors seed g₁ p₁ pe₁ before₁ r₁ last₁ → GeneratedRandomErrors seed g₂ p₂ pe₂ before₂ r₂ last₂ → syndromeSaid r₁ .number ≡ 0 → syndromeSaid r₂ .number ≡ 0
     → k ≤ g₁ .edges → k ≤ g₂ .edges → SameBefore k p₁ pe₁ p₂ pe₂ → take k (last₁ .erasure) ≡ take k (last₂ .erasure)

@@ -11,7 +11,7 @@ use Rattle.sampling_generator.specs.Random.{seedFromU64}
 use Rattle.weights_recipe.specs.Probabilities.{isProbability, isErasureProbability}
 use Rattle.sampling_flips.specs.Flip.{flipEach}
 use Rattle.sampling_edges.specs.Draws.{sampledErasures, sampledErrors}
-use Rattle.sampling_calls.specs.declared.SyndromeAnswer.{SyndromeAnswer}
+use Rattle.columns_answers.specs.declared.SyndromeCounts.{SyndromeCounts}
 use Rattle.sampling_calls.specs.Records.{CodeGraph, graphLong, codeSound, SyndromeColumns, syndromeLong}
 use Rattle.sampling_calls.specs.Errors.{SyndromeLeft}
 
@@ -31,7 +31,7 @@ samplingRefusal g p pe s =
     (ask (codeSound g) 7
     (ask (probabilitiesSound (g .edges) p pe) 9 0))
 
-abbrev pub GeneratedRandomErrors : (seed : ℕ) → CodeGraph → (p pe : List Float) → SyndromeColumns → SyndromeAnswer → SyndromeColumns → Type 0
+abbrev pub GeneratedRandomErrors : (seed : ℕ) → CodeGraph → (p pe : List Float) → SyndromeColumns → SyndromeCounts → SyndromeColumns → Type 0
 GeneratedRandomErrors seed g p pe before answer last =
     SyndromeLeft (samplingRefusal g p pe before) (g .vertices) (g .edges)
     (sampledDefects (seedFromU64 seed) g p pe) (sampledErasures (seedFromU64 seed) pe (g .edges))

@@ -9,10 +9,10 @@ use Rattle.columns.specs.Limits.{inner}
 use Rattle.columns.specs.Lists.{after}
 use Rattle.columns.specs.Questions.{ask, allBelow}
 use Rattle.columns_neighbors.specs.Lists.{chosen}
-use Rattle.sampling_calls.specs.declared.ListAnswer.{ListAnswer}
+use Rattle.columns_answers.specs.declared.ListCount.{ListCount}
 use Rattle.sampling_calls.specs.Records.{CodeGraph, graphLong, codeSound}
 use Rattle.columns_answers.specs.Said.{Answered}
-use Rattle.sampling_calls.specs.Answers.{listSaid}
+use Rattle.columns_answers.specs.Counts.{listSaid}
 
 -- 1 where x is vertex v, else 0
 abbrev pub hit : (v x : ℕ) → ℕ
@@ -38,6 +38,6 @@ syndromeRefusal g edges defectList =
     (ask (codeSound g) 7
     (ask (allBelow (g .edges) edges) 13 0))
 
-pub record FoundSyndrome (g : CodeGraph) (edges defectList₀ : List ℕ) (answer : ListAnswer) (defectList : List ℕ) : Type 0 where
+pub record FoundSyndrome (g : CodeGraph) (edges defectList₀ : List ℕ) (answer : ListCount) (defectList : List ℕ) : Type 0 where
   pub answers : Answered (listSaid answer) (syndromeRefusal g edges defectList₀) (length (syndromeOf g edges)) 0
   pub listed : defectList ≡ after (syndromeRefusal g edges defectList₀) (syndromeOf g edges) defectList₀

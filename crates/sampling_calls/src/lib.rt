@@ -10,6 +10,8 @@ ghost use Rattle.sampling_calls.specs.Errors.{GeneratedErrors};
 ghost use Rattle.sampling_calls.specs.Sampling.{GeneratedRandomErrors};
 ghost use Rattle.sampling_calls.specs.Syndrome.{syndromeOf, FoundSyndrome};
 ghost use Rattle.sampling_flips.specs.Steps.{Fits};
+pub use columns_answers::ListCount;
+pub use columns_answers::SyndromeCounts;
 use columns_marks::list_set;
 use columns_stores::fill_u8;
 use questions::errors_refusal;
@@ -19,18 +21,6 @@ pub use sampling_clear::clear_errors;
 use sampling_edges::sample_edges;
 use sampling_flips::flip_all;
 use sampling_generator::DeterministicRng;
-
-// How many defects and erasures are listed, or the number of the question that was not met.
-pub enum SyndromeAnswer {
-    Counts { defects: u32, erasures: u32 },
-    Refused(u32),
-}
-
-// How many numbers are listed, or the number of the question that was not met.
-pub enum ListAnswer {
-    Count(u32),
-    Refused(u32),
-}
 
 // Two draws of the seeded generator for every edge: its erasure, then its error; standing defects are cleared first. Lists the defects and the erasures.
 pub fn generate_random_errors(
@@ -46,7 +36,7 @@ pub fn generate_random_errors(
     erasure: &mut [u8],
     defect_list: &mut [u32],
     erasure_list: &mut [u32],
-) -> SyndromeAnswer
+) -> SyndromeCounts
     ensures { λ r. ⌜ GeneratedRandomErrors seed (codeGraph «vertex_num» «edge_num» (now («ends_a» .entry)) (now («ends_b» .entry)) (now (boundary .entry))) (now (p .entry)) (now (pe .entry))
         (syndromeColumns (now (defect .entry)) (now (erasure .entry)) (now («defect_list» .entry)) (now («erasure_list» .entry)))
         r
@@ -82,9 +72,9 @@ pub fn generate_random_errors(
         );
         let defects = list_set(defect, vertex_num, defect_list);
         let erasures = list_set(erasure, edge_num, erasure_list);
-        return SyndromeAnswer::Counts { defects, erasures };
+        return SyndromeCounts::Counts(defects, erasures);
     }
-    SyndromeAnswer::Refused(number)
+    SyndromeCounts::Refused(number)
 }
 
 // An error on each listed edge, over the standing defects; lists the defects and the erasures.
@@ -99,7 +89,7 @@ pub fn generate_errors(
     erasure: &[u8],
     defect_list: &mut [u32],
     erasure_list: &mut [u32],
-) -> SyndromeAnswer
+) -> SyndromeCounts
     ensures { λ r. ⌜ GeneratedErrors (codeGraph «vertex_num» «edge_num» (now («ends_a» .entry)) (now («ends_b» .entry)) (now (boundary .entry))) (now (list .entry))
         (syndromeColumns (now (defect .entry)) (now (erasure .entry)) (now («defect_list» .entry)) (now («erasure_list» .entry)))
         r
@@ -121,9 +111,9 @@ pub fn generate_errors(
         flip_all(vertex_num, edge_num, ends_a, ends_b, boundary, list, defect);
         let defects = list_set(defect, vertex_num, defect_list);
         let erasures = list_set(erasure, edge_num, erasure_list);
-        return SyndromeAnswer::Counts { defects, erasures };
+        return SyndromeCounts::Counts(defects, erasures);
     }
-    SyndromeAnswer::Refused(number)
+    SyndromeCounts::Refused(number)
 }
 
 // The defects of errors on the listed edges; bytes holds 0 alone.
@@ -186,7 +176,7 @@ pub fn syndrome_of(
     boundary: &[u8],
     list: &[u32],
     defect_list: &mut [u32],
-) -> ListAnswer
+) -> ListCount
     ensures { λ r. ⌜ FoundSyndrome (codeGraph «vertex_num» «edge_num» (now («ends_a» .entry)) (now («ends_b» .entry)) (now (boundary .entry))) (now (list .entry)) (now («defect_list» .entry)) r (now («defect_list» .exit)) ⌝ }
 {
     let number = syndrome_refusal(
@@ -208,7 +198,7 @@ pub fn syndrome_of(
             list,
             defect_list,
         );
-        return ListAnswer::Count(defects);
+        return ListCount::Count(defects);
     }
-    ListAnswer::Refused(number)
+    ListCount::Refused(number)
 }

@@ -3,8 +3,8 @@
 // First the number of cases. A case: kind, d, rounds, seed, the places of p and pe in the table below, four edge numbers, an order of 24
 // vertices.
 use codes_calls::Created;
-use sampling_calls::ListAnswer;
-use sampling_calls::SyndromeAnswer;
+use sampling_calls::ListCount;
+use sampling_calls::SyndromeCounts;
 use test_numbers::after;
 use test_numbers::at;
 use test_numbers::copy_u32;
@@ -58,13 +58,13 @@ fn edges_in(answer: Created) -> u32 {
 }
 
 // The counts and both lists.
-fn show_syndrome(answer: SyndromeAnswer, defect_list: &[u32], erasure_list: &[u32]) {
+fn show_syndrome(answer: SyndromeCounts, defect_list: &[u32], erasure_list: &[u32]) {
     match answer {
-        SyndromeAnswer::Counts { defects, erasures } => {
+        SyndromeCounts::Counts(defects, erasures) => {
             show_list(defect_list, defects as usize);
             show_list(erasure_list, erasures as usize);
         }
-        SyndromeAnswer::Refused(number) => {
+        SyndromeCounts::Refused(number) => {
             show(number as u64);
             end_line();
         }
@@ -139,8 +139,8 @@ fn found(v: u32, e: u32, ends_a: &[u32], ends_b: &[u32], boundary: &[u8], list: 
         &mut defect_list,
     );
     match syndrome {
-        ListAnswer::Count(count) => show_list(&defect_list, count as usize),
-        ListAnswer::Refused(number) => {
+        ListCount::Count(count) => show_list(&defect_list, count as usize),
+        ListCount::Refused(number) => {
             show(number as u64);
             end_line();
         }

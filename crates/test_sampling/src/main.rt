@@ -1,8 +1,8 @@
 // Samples the rotated code of distance 3 from fixed seeds, then generates errors, finds a syndrome, clears and reorders.
 // What it prints is compared with the file stdout.
 use reorder_calls::TranslatedAnswer;
-use sampling_calls::ListAnswer;
-use sampling_calls::SyndromeAnswer;
+use sampling_calls::ListCount;
+use sampling_calls::SyndromeCounts;
 use test_numbers::end_line;
 use test_numbers::show;
 use test_numbers::show_bytes;
@@ -15,19 +15,19 @@ const EDGE_NUM: u32 = 9;
 
 // The counts, the bytes and the lists that a call leaves.
 fn show_syndrome(
-    answer: SyndromeAnswer,
+    answer: SyndromeCounts,
     defect: [u8; 9],
     erasure: [u8; 10],
     defect_list: [u32; 9],
     erasure_list: [u32; 10],
 ) {
     match answer {
-        SyndromeAnswer::Counts { defects, erasures } => {
+        SyndromeCounts::Counts(defects, erasures) => {
             show(0);
             show(defects as u64);
             show(erasures as u64);
         }
-        SyndromeAnswer::Refused(number) => show(number as u64),
+        SyndromeCounts::Refused(number) => show(number as u64),
     }
     end_line();
     show_bytes(&defect, 9);
@@ -103,8 +103,8 @@ fn syndrome(list: &[u32]) {
         &mut defect_list,
     );
     match answer {
-        ListAnswer::Count(n) => show(n as u64),
-        ListAnswer::Refused(number) => show(number as u64 + 100),
+        ListCount::Count(n) => show(n as u64),
+        ListCount::Refused(number) => show(number as u64 + 100),
     }
     end_line();
     show_list(&defect_list, 9);

@@ -14,7 +14,7 @@ use Rattle.columns.proofs.Columns.{sets-over, after-accepted}
 use Rattle.columns.proofs.Tests.{and-both}
 use Rattle.columns_neighbors.specs.Sound.{graphSound}
 use Rattle.columns_neighbors.proofs.Ends.{GraphSound, graph-says}
-use Rattle.columns_room.specs.Room.{edgeColumnsLong}
+use Rattle.columns_room.specs.Room.{twoLong, edgeColumnsLong}
 use Rattle.access_calls.specs.Fill.{Vertices, vertexColumnsLong, fillRefusal}
 
 pub record FillMet (v e : ℕ) (a b : List ℕ) (c : Vertices) : Type 0 where
@@ -46,7 +46,7 @@ fill-met v e a b c z =
     let (r, s) = and-both (leb v (length (c .i)) && (leb v (length (c .j)) && leb v (length (c .t)))) _ p in
     let x = three (leb v (length (c .i))) (leb v (length (c .j))) (leb v (length (c .t))) r in
     let y = three (leb v (length (c .boundary))) (leb v (length (c .defect))) (leb v (length (c .lengths))) s in
-    let w = three (leb e (length a)) (leb e (length b)) (leb (2 * e) (length (c .numbers))) q in
+    let (ends, w) = and-both (twoLong e (length a) (length b)) _ q in
     record {
       i = leb-true _ _ (x .0);
       j = leb-true _ _ (x .1);
@@ -54,7 +54,7 @@ fill-met v e a b c z =
       boundary = leb-true _ _ (y .0);
       defect = leb-true _ _ (y .1);
       lengths = leb-true _ _ (y .2);
-      numbers = leb-true _ _ (w .2);
+      numbers = leb-true _ _ w;
       sound = graph-says v e a b (met (graphSound v e a b) 6 0 (goes-on six 5 _ z));
     }
 

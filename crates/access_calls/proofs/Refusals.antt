@@ -10,7 +10,8 @@ use Rattle.columns.specs.Questions.{allBelow, halfWeightsSound}
 use Rattle.columns.proofs.Tests.{and-both, within-first, below-at}
 use Rattle.columns_neighbors.specs.Sound.{graphSound}
 use Rattle.columns_room.specs.Room.{threeLong}
-use Rattle.columns_room.proofs.Refusals.{met, goes-on, both-long, three-long}
+use Rattle.columns.proofs.Refusals.{met, goes-on}
+use Rattle.columns_room.proofs.Refusals.{both-long, three-long}
 use Rattle.access_calls.specs.Calls.{Code, Initializer, initializerLong, initializerSound, initializerRefusal, Syndrome, setSyndromeRefusal, countsSound, getSyndromeRefusal, setMarksRefusal, SetMarks, getMarksRefusal, GotMarks}
 use Rattle.columns.specs.declared.Done.{Done}
 use Rattle.columns_answers.specs.declared.ListCount.{ListCount}

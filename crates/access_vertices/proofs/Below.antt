@@ -7,7 +7,7 @@ use lib.Dec.{leb, ltb}
 use lib.ListN.{length}
 use borrow.Author.Tests.{leb-true, ltb-true}
 use Rattle.columns.specs.Questions.{vertexCountSound}
-use Rattle.columns_room.proofs.Refusals.{met, goes-on}
+use Rattle.columns.proofs.Refusals.{met, goes-on}
 use Rattle.access_vertices.specs.Marked.{isMarkedRefusal}
 
 pub is-met : (sound : Bool) (v : ℕ) (column : List ℕ) (vertex : ℕ) → isMarkedRefusal sound v column vertex ≡ 0 → (v ≤ length column) × (vertex < v)

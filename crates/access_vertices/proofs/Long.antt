@@ -4,7 +4,8 @@ use mathlib.Core.Bool.{_&&_}
 use Prim.Native.Nat.{ℕ, _≤_}
 use lib.ListN.{length}
 use Rattle.columns.proofs.Tests.{and-both}
-use Rattle.columns_room.proofs.Refusals.{met, three-long}
+use Rattle.columns.proofs.Refusals.{met}
+use Rattle.columns_room.proofs.Refusals.{three-long}
 use Rattle.access_vertices.specs.Positions.{Positions, positionsLong, positionsRefusal}
 
 pub positions-long : (v : ℕ) (from to : Positions) → positionsRefusal v from to ≡ 0

@@ -1,7 +1,8 @@
 ghost use Rattle.c_reports.specs.Reports.{Reported, ReportsDone, ReportsList, ReportsSyndrome};
 ghost use Rattle.sampling_calls.specs.Errors.{GeneratedErrors};
 ghost use Rattle.sampling_clear.specs.Clear.{ClearedErrors};
-ghost use Rattle.sampling_calls.specs.Records.{codeGraph, syndromeColumns};
+ghost use Rattle.columns_room.specs.Graph.{codeGraph};
+ghost use Rattle.sampling_calls.specs.Records.{syndromeColumns};
 ghost use Rattle.sampling_calls.specs.Sampling.{GeneratedRandomErrors};
 ghost use Rattle.sampling_calls.specs.Syndrome.{FoundSyndrome};
 use c_reports::OneCount;

@@ -63,7 +63,7 @@ create-says : (kind d rounds : ℕ) (lent back : CodeColumns) (v e : ℕ) → Cr
     → BuiltGraph kind d rounds v e (back .endsA) (back .endsB) (back .boundary)
 create-says kind d rounds lent back v e h =
     let k = code-case (h .answer) in
-    columns-say kind d rounds (refusalIn kind d rounds lent) v e (lent .endsA) (lent .endsB) (lent .boundary) _ _ _ (accepted-code kind d rounds lent (k .0)) k (h .ends-a) (h .ends-b) (h .boundary)
+    columns-say kind d rounds (refusalIn kind d rounds lent) v e (lent .endsA) (lent .endsB) (lent .boundary) _ _ _ (accepted-code kind d rounds lent (k .0)) k (h .columns .ends-a) (h .columns .ends-b) (h .columns .boundary)
 
 accepted-new : (kind d rounds : ℕ) (p : Float) (diagonal : DiagonalProbability) (max : ℕ) (c : CodeColumns) → newRefusalIn kind d rounds p diagonal max c ≡ 0 → Buildable kind d rounds
 unfolding newRefusal

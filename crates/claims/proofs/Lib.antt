@@ -14,3 +14,5 @@ pub mod Questions
 pub mod Tables
 pub mod Paths
 pub mod Crossings
+-- Reordered: syndromes after a reordering.
+pub mod Reordered

@@ -106,7 +106,8 @@ pub created-codes-are-sound : CreatedCodesAreSound
 unfolding createRefusal
 created-codes-are-sound kind d rounds lent back v e c =
     let w = code-case (c .answer) in
-    written-zero kind d rounds (refusalIn kind d rounds lent) lent back (w .0) v e (w .1) (w .2) (accepted kind d rounds _ (w .0) .0) (c .ends-a) (c .ends-b) (c .list-lengths) (c .neighbor-numbers)
+    let h = c .columns in
+    written-zero kind d rounds (refusalIn kind d rounds lent) lent back (w .0) v e (w .1) (w .2) (accepted kind d rounds _ (w .0) .0) (h .ends-a) (h .ends-b) (h .list-lengths) (h .neighbor-numbers)
 
 pub new-codes-are-sound : NewCodesAreSound
 unfolding newRefusal

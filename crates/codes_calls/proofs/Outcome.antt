@@ -20,7 +20,7 @@ use Rattle.codes_layers.proofs.Accepted.{Accepted, accepted, buildable, ask-zer
 use Rattle.codes_layers.proofs.Counted.{edges-counted}
 use Rattle.codes_graphs.proofs.AllEdges.{edge-facts}
 use Rattle.codes_calls.specs.declared.Created.the-variants.{Code, Refused}
-use Rattle.codes_calls.specs.Columns.{CodeColumns, edgeRoom, vertexRoom, longEnough}
+use Rattle.codes_calls.specs.Columns.{CodeColumns, edgeRoom, vertexRoom, longEnough, HandedBack}
 use Rattle.columns_answers.proofs.Said.{accepts-of, refuses-of}
 use Rattle.codes_calls.specs.CreateCode.{createRefusal, refusalIn, newColumns, CodeCreated}
 use Rattle.codes_calls.specs.Steps.{EdgeColumnsLong, EdgeColumnsFilled, VertexColumnsLong, VertexColumnsFilled}
@@ -125,25 +125,25 @@ lists-fit kind d rounds lent o a b ends e v p q m n l =
 yes : {A : Type 0} (q : ℕ) (vs lent : List A) {back : List A} → q ≡ 0 → back ≡ over vs lent → back ≡ after q vs lent
 yes q vs lent z e = e ∙ sym (after-accepted q vs lent z)
 
+pub kept-back : (q : ℕ) (new lent : CodeColumns) → (q ≡ 0 → ⊥) → HandedBack q new lent lent
+kept-back q new lent f = record {
+  ends-a = sym (after-refused q (new .endsA) (lent .endsA) f);
+  ends-b = sym (after-refused q (new .endsB) (lent .endsB) f);
+  p = sym (after-refused q (new .p) (lent .p) f);
+  pe = sym (after-refused q (new .pe) (lent .pe) f);
+  half-weight = sym (after-refused q (new .halfWeight) (lent .halfWeight) f);
+  erasure = sym (after-refused q (new .erasure) (lent .erasure) f);
+  pos-i = sym (after-refused q (new .posI) (lent .posI) f);
+  pos-j = sym (after-refused q (new .posJ) (lent .posJ) f);
+  pos-t = sym (after-refused q (new .posT) (lent .posT) f);
+  boundary = sym (after-refused q (new .boundary) (lent .boundary) f);
+  defect = sym (after-refused q (new .defect) (lent .defect) f);
+  list-lengths = sym (after-refused q (new .listLengths) (lent .listLengths) f);
+  neighbor-numbers = sym (after-refused q (new .neighborNumbers) (lent .neighborNumbers) f);
+}
+
 pub refused : (kind d rounds q n : ℕ) (lent : CodeColumns) → n ≡ q → (n ≡ 0 → ⊥) → CodeCreated kind d rounds q lent lent (Refused n)
-refused kind d rounds q n lent e f =
-    let g : q ≡ 0 → ⊥ = λ z. f (e ∙ z) in
-    record {
-      answer = refuses-of e f;
-      ends-a = sym (after-refused q (newColumns kind d rounds .endsA) (lent .endsA) g);
-      ends-b = sym (after-refused q (newColumns kind d rounds .endsB) (lent .endsB) g);
-      p = sym (after-refused q (newColumns kind d rounds .p) (lent .p) g);
-      pe = sym (after-refused q (newColumns kind d rounds .pe) (lent .pe) g);
-      half-weight = sym (after-refused q (newColumns kind d rounds .halfWeight) (lent .halfWeight) g);
-      erasure = sym (after-refused q (newColumns kind d rounds .erasure) (lent .erasure) g);
-      pos-i = sym (after-refused q (newColumns kind d rounds .posI) (lent .posI) g);
-      pos-j = sym (after-refused q (newColumns kind d rounds .posJ) (lent .posJ) g);
-      pos-t = sym (after-refused q (newColumns kind d rounds .posT) (lent .posT) g);
-      boundary = sym (after-refused q (newColumns kind d rounds .boundary) (lent .boundary) g);
-      defect = sym (after-refused q (newColumns kind d rounds .defect) (lent .defect) g);
-      list-lengths = sym (after-refused q (newColumns kind d rounds .listLengths) (lent .listLengths) g);
-      neighbor-numbers = sym (after-refused q (newColumns kind d rounds .neighborNumbers) (lent .neighborNumbers) g);
-    }
+refused kind d rounds q n lent e f = record { answer = refuses-of e f; columns = kept-back q (newColumns kind d rounds) lent (λ z. f (e ∙ z)) }
 
 module _ (kind d rounds q : ℕ) (lent back : CodeColumns) (z : q ≡ 0) (o : Open kind d rounds lent) (e v : ℕ) (list-ends : List ℕ) where
   pub built : EdgeColumnsFilled kind d rounds (lent .endsA) (lent .endsB) (lent .p) (lent .pe) (lent .halfWeight) (lent .erasure) (back .endsA) (back .endsB) (back .p) (back .pe) (back .halfWeight) (back .erasure) e
@@ -157,17 +157,19 @@ module _ (kind d rounds q : ℕ) (lent back : CodeColumns) (z : q ≡ 0) (o : Op
       let pb : (k : ℕ) → k < edgeNum kind d rounds → getD (back .endsB) k 0 ≡ getD b k 0 = λ k h. ap (λ (r : List ℕ). getD r k 0) (x .in-b) ∙ second-at kind d rounds (o .ok) (lent .endsB) k h in
       record {
         answer = rw (y .count, x .count) (accepts-of z);
-        ends-a = yes q (newColumns kind d rounds .endsA) (lent .endsA) z (x .in-a);
-        ends-b = yes q (newColumns kind d rounds .endsB) (lent .endsB) z (x .in-b);
-        p = yes q (newColumns kind d rounds .p) (lent .p) z (x .in-p);
-        pe = yes q (newColumns kind d rounds .pe) (lent .pe) z (x .in-pe);
-        half-weight = yes q (newColumns kind d rounds .halfWeight) (lent .halfWeight) z (x .in-h);
-        erasure = yes q (newColumns kind d rounds .erasure) (lent .erasure) z (x .in-er);
-        pos-i = yes q (newColumns kind d rounds .posI) (lent .posI) z (y .in-i);
-        pos-j = yes q (newColumns kind d rounds .posJ) (lent .posJ) z (y .in-j);
-        pos-t = yes q (newColumns kind d rounds .posT) (lent .posT) z (y .in-t);
-        boundary = yes q (newColumns kind d rounds .boundary) (lent .boundary) z (y .in-m);
-        defect = yes q (newColumns kind d rounds .defect) (lent .defect) z (y .in-df);
-        list-lengths = yes q (newColumns kind d rounds .listLengths) (lent .listLengths) z (l .lengths-are ∙ ap (λ (r : List ℕ). over r (lent .listLengths)) ((λ i. degrees (back .endsA) (back .endsB) (x .count i) (y .count i)) ∙ degrees-same (back .endsA) (back .endsB) a b (edgeNum kind d rounds) pa pb (vertexNum kind d rounds)));
-        neighbor-numbers = yes q (newColumns kind d rounds .neighborNumbers) (lent .neighborNumbers) z (l .numbers-are ∙ ap (λ (r : List ℕ). over r (lent .neighborNumbers)) ((λ i. lists (back .endsA) (back .endsB) (x .count i) (y .count i)) ∙ lists-same (back .endsA) (back .endsB) a b (edgeNum kind d rounds) pa pb (vertexNum kind d rounds)));
+        columns = record {
+          ends-a = yes q (newColumns kind d rounds .endsA) (lent .endsA) z (x .in-a);
+          ends-b = yes q (newColumns kind d rounds .endsB) (lent .endsB) z (x .in-b);
+          p = yes q (newColumns kind d rounds .p) (lent .p) z (x .in-p);
+          pe = yes q (newColumns kind d rounds .pe) (lent .pe) z (x .in-pe);
+          half-weight = yes q (newColumns kind d rounds .halfWeight) (lent .halfWeight) z (x .in-h);
+          erasure = yes q (newColumns kind d rounds .erasure) (lent .erasure) z (x .in-er);
+          pos-i = yes q (newColumns kind d rounds .posI) (lent .posI) z (y .in-i);
+          pos-j = yes q (newColumns kind d rounds .posJ) (lent .posJ) z (y .in-j);
+          pos-t = yes q (newColumns kind d rounds .posT) (lent .posT) z (y .in-t);
+          boundary = yes q (newColumns kind d rounds .boundary) (lent .boundary) z (y .in-m);
+          defect = yes q (newColumns kind d rounds .defect) (lent .defect) z (y .in-df);
+          list-lengths = yes q (newColumns kind d rounds .listLengths) (lent .listLengths) z (l .lengths-are ∙ ap (λ (r : List ℕ). over r (lent .listLengths)) ((λ i. degrees (back .endsA) (back .endsB) (x .count i) (y .count i)) ∙ degrees-same (back .endsA) (back .endsB) a b (edgeNum kind d rounds) pa pb (vertexNum kind d rounds)));
+          neighbor-numbers = yes q (newColumns kind d rounds .neighborNumbers) (lent .neighborNumbers) z (l .numbers-are ∙ ap (λ (r : List ℕ). over r (lent .neighborNumbers)) ((λ i. lists (back .endsA) (back .endsB) (x .count i) (y .count i)) ∙ lists-same (back .endsA) (back .endsB) a b (edgeNum kind d rounds) pa pb (vertexNum kind d rounds)));
+        };
       }

@@ -15,7 +15,7 @@ use Rattle.columns.specs.Limits.{vertexLimit}
 use Rattle.columns.specs.Questions.{ask}
 use Rattle.columns.specs.Places.{zeroFloat, position, positionAt}
 use Rattle.columns.specs.declared.VisualizePosition.{VisualizePosition}
-use Rattle.columns.proofs.Columns.{after-accepted, after-refused, length-over, over-in, drop-over, sets-over}
+use Rattle.columns.proofs.Columns.{after-accepted, length-over, over-in, drop-over, sets-over}
 use Rattle.columns.proofs.Counting.{each-same, each-getD, map-each}
 use Rattle.codes_writers.specs.declared.CodeVertex.{CodeVertex}
 use Rattle.codes_writers.specs.Edges.{Ends, firsts, seconds, positionsI, positionsJ, positionsT}
@@ -36,14 +36,13 @@ use Rattle.weights_diagonal.specs.declared.DiagonalProbability.the-variants.{No
 use Rattle.weights_calls.proofs.Largest.{some-above}
 use Rattle.codes_calls.specs.declared.Created.{Created}
 use Rattle.codes_calls.specs.declared.Created.the-variants.{Refused}
-use Rattle.codes_calls.specs.Columns.{CodeColumns, longEnough}
-use Rattle.columns_answers.specs.Said.{Answered}
 use Rattle.columns_answers.proofs.Said.{refuses-of}
-use Rattle.codes_calls.specs.CreateCode.{said, createRefusal, newColumns, CodeCreated}
-use Rattle.codes_calls.proofs.Outcome.{Open, edges-long}
+use Rattle.codes_calls.specs.Columns.{CodeColumns, longEnough}
+use Rattle.codes_calls.specs.CreateCode.{createRefusal, newColumns, CodeCreated}
+use Rattle.codes_calls.proofs.Outcome.{Open, edges-long, kept-back}
 use Rattle.codes_weights.specs.declared.Weighed.{Weighed}
 use Rattle.codes_calls.specs.Probabilities.{positionOf, probabilities, diagonalOf}
-use Rattle.codes_calls.specs.NewCode.{newRefusal, newRefusalIn, weightedColumns, HandedBack, Weighted}
+use Rattle.codes_calls.specs.NewCode.{newRefusal, weightedColumns, Weighted, WeightedCode}
 use Rattle.codes_weights.specs.Steps.{diagonalP, largestOf, weighedOf, weightsRefusal, diagonalAt, WeighRoom, EdgesWeighed}
 use Rattle.codes_calls.specs.WeightedSteps.{DiagonalKind}
 use Rattle.codes_calls.proofs.Diagonals.{diagonalEdge}
@@ -93,23 +92,6 @@ created-too kind d rounds vr er nl vr′ er′ nl′ q e n t f z a b c = sym (λ
 
 -- ---- refused
 
-kept-back : (q : ℕ) (new lent : CodeColumns) → (q ≡ 0 → ⊥) → HandedBack q new lent lent
-kept-back q new lent f = record {
-  ends-a = sym (after-refused q (new .endsA) (lent .endsA) f);
-  ends-b = sym (after-refused q (new .endsB) (lent .endsB) f);
-  p = sym (after-refused q (new .p) (lent .p) f);
-  pe = sym (after-refused q (new .pe) (lent .pe) f);
-  half-weight = sym (after-refused q (new .halfWeight) (lent .halfWeight) f);
-  erasure = sym (after-refused q (new .erasure) (lent .erasure) f);
-  pos-i = sym (after-refused q (new .posI) (lent .posI) f);
-  pos-j = sym (after-refused q (new .posJ) (lent .posJ) f);
-  pos-t = sym (after-refused q (new .posT) (lent .posT) f);
-  boundary = sym (after-refused q (new .boundary) (lent .boundary) f);
-  defect = sym (after-refused q (new .defect) (lent .defect) f);
-  list-lengths = sym (after-refused q (new .listLengths) (lent .listLengths) f);
-  neighbor-numbers = sym (after-refused q (new .neighborNumbers) (lent .neighborNumbers) f);
-}
-
 pub refused : (kind d rounds : ℕ) (p : Float) (diagonal : DiagonalProbability) (max q n : ℕ) (lent : CodeColumns) → n ≡ q → (n ≡ 0 → ⊥) → Weighted kind d rounds p diagonal max q lent lent (Refused n)
 refused kind d rounds p diagonal max q n lent e f = record {
   answer = refuses-of e f;
@@ -133,10 +115,10 @@ weigh-room kind d rounds lent mid q n r o z m e =
     let p = length-over (replicate (edgeNum kind d rounds) zeroFloat) (lent .p) (omega (arith, length-replicate (edgeNum kind d rounds) zeroFloat, l .long-p)) in
     let h = length-over (replicate (edgeNum kind d rounds) zero) (lent .halfWeight) (omega (arith, length-replicate (edgeNum kind d rounds) zero, l .long-h)) in
     record {
-      room-a = omega (arith, e, a, l .long-a, ap length (wrote q (firsts es) (lent .endsA) z (m .ends-a)));
-      room-b = omega (arith, e, b, l .long-b, ap length (wrote q (seconds es) (lent .endsB) z (m .ends-b)));
-      room-p = omega (arith, e, p, l .long-p, ap length (wrote q (replicate (edgeNum kind d rounds) zeroFloat) (lent .p) z (m .p)));
-      room-h = omega (arith, e, h, l .long-h, ap length (wrote q (replicate (edgeNum kind d rounds) zero) (lent .halfWeight) z (m .half-weight)));
+      room-a = omega (arith, e, a, l .long-a, ap length (wrote q (firsts es) (lent .endsA) z (m .columns .ends-a)));
+      room-b = omega (arith, e, b, l .long-b, ap length (wrote q (seconds es) (lent .endsB) z (m .columns .ends-b)));
+      room-p = omega (arith, e, p, l .long-p, ap length (wrote q (replicate (edgeNum kind d rounds) zeroFloat) (lent .p) z (m .columns .p)));
+      room-h = omega (arith, e, h, l .long-h, ap length (wrote q (replicate (edgeNum kind d rounds) zero) (lent .halfWeight) z (m .columns .half-weight)));
     }
 
 -- a column whose first places are written again
@@ -237,7 +219,7 @@ module _ (kind d rounds : ℕ) (p : Float) (diagonal : DiagonalProbability) (max
       let hs : List ℕ = halfWeights max ps in
       let by : ℕ → Bool = byColumns kind d rounds ok (lent .endsA) (lent .endsB) (lent .posI) (lent .posJ) (lent .posT) in
       let same : diagonalAt (mid .endsA) (mid .endsB) (mid .posI) (mid .posJ) (mid .posT) ≡ by =
-      λ c. diagonalAt (wrote q₀ (newColumns kind d rounds .endsA) (lent .endsA) z₀ (m .ends-a) c) (wrote q₀ (newColumns kind d rounds .endsB) (lent .endsB) z₀ (m .ends-b) c) (wrote q₀ (newColumns kind d rounds .posI) (lent .posI) z₀ (m .pos-i) c) (wrote q₀ (newColumns kind d rounds .posJ) (lent .posJ) z₀ (m .pos-j) c) (wrote q₀ (newColumns kind d rounds .posT) (lent .posT) z₀ (m .pos-t) c) in
+      λ c. diagonalAt (wrote q₀ (newColumns kind d rounds .endsA) (lent .endsA) z₀ (m .columns .ends-a) c) (wrote q₀ (newColumns kind d rounds .endsB) (lent .endsB) z₀ (m .columns .ends-b) c) (wrote q₀ (newColumns kind d rounds .posI) (lent .posI) z₀ (m .columns .pos-i) c) (wrote q₀ (newColumns kind d rounds .posJ) (lent .posJ) z₀ (m .columns .pos-j) c) (wrote q₀ (newColumns kind d rounds .posT) (lent .posT) z₀ (m .columns .pos-t) c) in
       let largest : l ≡ largestWeight ps = le ∙ sym (largest-is kind d rounds p diagonal ok k) in
       let in-p : p′ ≡ sets (mid .p) 0 ps =
       w .in-p ∙ ap (sets (mid .p) 0) ((λ c. each (e c) (λ x. cond (same c x) (oe c .p) (se c .p))) ∙ probabilities-are kind d rounds ok (lent .endsA) (lent .endsB) (lent .posI) (lent .posJ) (lent .posT) p diagonal) in
@@ -245,25 +227,26 @@ module _ (kind d rounds : ℕ) (p : Float) (diagonal : DiagonalProbability) (max
       w .in-h ∙ ap (sets (mid .halfWeight) 0) ((λ c. each (e c) (λ x. cond (same c x) (oe c .half) (se c .half))) ∙ halves-are kind d rounds ok (lent .endsA) (lent .endsB) (lent .posI) (lent .posJ) (lent .posT) p diagonal max l largest) in
       let size-p : length ps ≡ edgeNum kind d rounds = sized kind d rounds p diagonal ok in
       let size-h : length hs ≡ edgeNum kind d rounds = length-map ps (λ x. halfWeight max (edgeWeight x) (largestWeight ps)) ∙ size-p in
-      let p-is : p′ ≡ over ps (lent .p) = again (edgeNum kind d rounds) (replicate (edgeNum kind d rounds) zeroFloat) ps (lent .p) (length-replicate (edgeNum kind d rounds) zeroFloat) size-p (long .long-p) (wrote q₀ (newColumns kind d rounds .p) (lent .p) z₀ (m .p)) in-p in
-      let h-is : h′ ≡ over hs (lent .halfWeight) = again (edgeNum kind d rounds) (replicate (edgeNum kind d rounds) zero) hs (lent .halfWeight) (length-replicate (edgeNum kind d rounds) zero) size-h (long .long-h) (wrote q₀ (newColumns kind d rounds .halfWeight) (lent .halfWeight) z₀ (m .half-weight)) in-h in
+      let p-is : p′ ≡ over ps (lent .p) = again (edgeNum kind d rounds) (replicate (edgeNum kind d rounds) zeroFloat) ps (lent .p) (length-replicate (edgeNum kind d rounds) zeroFloat) size-p (long .long-p) (wrote q₀ (newColumns kind d rounds .p) (lent .p) z₀ (m .columns .p)) in-p in
+      let h-is : h′ ≡ over hs (lent .halfWeight) = again (edgeNum kind d rounds) (replicate (edgeNum kind d rounds) zero) hs (lent .halfWeight) (length-replicate (edgeNum kind d rounds) zero) size-h (long .long-h) (wrote q₀ (newColumns kind d rounds .halfWeight) (lent .halfWeight) z₀ (m .columns .half-weight)) in-h in
       let both : q₀ ≡ q = z₀ ∙ sym z in
+      let made = subst (λ (x : ℕ). CodeCreated kind d rounds x lent mid r) both m in
       record {
-        answer = subst (λ (x : ℕ). Answered (said r) x (vertexNum kind d rounds, edgeNum kind d rounds) (0, 0)) both (m .answer);
+        answer = made .answer;
         columns = record {
-          ends-a = m .ends-a ∙ ap (λ (x : ℕ). after x (newColumns kind d rounds .endsA) (lent .endsA)) both;
-          ends-b = m .ends-b ∙ ap (λ (x : ℕ). after x (newColumns kind d rounds .endsB) (lent .endsB)) both;
+          ends-a = made .columns .ends-a;
+          ends-b = made .columns .ends-b;
           p = p-is ∙ sym (after-accepted q ps (lent .p) z);
-          pe = m .pe ∙ ap (λ (x : ℕ). after x (newColumns kind d rounds .pe) (lent .pe)) both;
+          pe = made .columns .pe;
           half-weight = h-is ∙ sym (after-accepted q hs (lent .halfWeight) z);
-          erasure = m .erasure ∙ ap (λ (x : ℕ). after x (newColumns kind d rounds .erasure) (lent .erasure)) both;
-          pos-i = m .pos-i ∙ ap (λ (x : ℕ). after x (newColumns kind d rounds .posI) (lent .posI)) both;
-          pos-j = m .pos-j ∙ ap (λ (x : ℕ). after x (newColumns kind d rounds .posJ) (lent .posJ)) both;
-          pos-t = m .pos-t ∙ ap (λ (x : ℕ). after x (newColumns kind d rounds .posT) (lent .posT)) both;
-          boundary = m .boundary ∙ ap (λ (x : ℕ). after x (newColumns kind d rounds .boundary) (lent .boundary)) both;
-          defect = m .defect ∙ ap (λ (x : ℕ). after x (newColumns kind d rounds .defect) (lent .defect)) both;
-          list-lengths = m .list-lengths ∙ ap (λ (x : ℕ). after x (newColumns kind d rounds .listLengths) (lent .listLengths)) both;
-          neighbor-numbers = m .neighbor-numbers ∙ ap (λ (x : ℕ). after x (newColumns kind d rounds .neighborNumbers) (lent .neighborNumbers)) both;
+          erasure = made .columns .erasure;
+          pos-i = made .columns .pos-i;
+          pos-j = made .columns .pos-j;
+          pos-t = made .columns .pos-t;
+          boundary = made .columns .boundary;
+          defect = made .columns .defect;
+          list-lengths = made .columns .list-lengths;
+          neighbor-numbers = made .columns .neighbor-numbers;
         };
       }
 
@@ -275,5 +258,5 @@ diagonal-kind kind p = elim (native.Mathlib.Decide.ℕ-discrete kind 4) [
 ]
 
 pub with-diagonal : {kind d rounds : ℕ} {p : Float} {max : ℕ} {lent back : CodeColumns} {r : Created} (x y : DiagonalProbability) → x ≡ y
-    → Weighted kind d rounds p x max (newRefusalIn kind d rounds p x max lent) lent back r → Weighted kind d rounds p y max (newRefusalIn kind d rounds p y max lent) lent back r
-with-diagonal {kind} {d} {rounds} {p} {max} {lent} {back} {r} x y e w = subst (λ (z : DiagonalProbability). Weighted kind d rounds p z max (newRefusalIn kind d rounds p z max lent) lent back r) e w
+    → WeightedCode kind d rounds p x max lent back r → WeightedCode kind d rounds p y max lent back r
+with-diagonal {kind} {d} {rounds} {p} {max} {lent} {back} {r} x y e w = subst (λ (z : DiagonalProbability). WeightedCode kind d rounds p z max lent back r) e w

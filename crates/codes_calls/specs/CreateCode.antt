@@ -1,8 +1,6 @@
 -- `create_code`: questions 2 to 6, the answer, and each column afterwards.
 use Prim.Native.Nat.{ℕ}
-use mathlib.Core.Path.{_≡_}
 use lib.ListN.{length, replicate}
-use Rattle.columns.specs.Lists.{after}
 use Rattle.columns.specs.Places.{zeroFloat}
 use Rattle.columns.specs.Questions.{ask}
 use Rattle.columns_answers.specs.Said.{Said, accepts, refuses, Answered}
@@ -13,7 +11,7 @@ use Rattle.codes_layers.specs.Counts.{vertexNum, edgeNum}
 use Rattle.codes_layers.specs.Accepts.{codeRefusal}
 use Rattle.codes_calls.specs.declared.Created.{Created}
 use Rattle.codes_calls.specs.declared.Created.the-variants.{Code, Refused}
-use Rattle.codes_calls.specs.Columns.{CodeColumns, edgeRoom, vertexRoom, longEnough}
+use Rattle.codes_calls.specs.Columns.{CodeColumns, edgeRoom, vertexRoom, longEnough, HandedBack}
 
 -- document 01's number for each case, and the values: 0 where the call was refused
 abbrev pub said : Created → Said (ℕ × ℕ)
@@ -46,22 +44,10 @@ newColumns kind d rounds = record {
   neighborNumbers = lists (firsts (edgesOf kind d rounds)) (seconds (edgesOf kind d rounds)) (edgeNum kind d rounds) (vertexNum kind d rounds);
 }
 
--- the answer, and the columns as they were lent and as they are handed back; q is the question's number
+-- the answer of `create_code`, and its columns; q is the question's number
 pub record CodeCreated (kind d rounds q : ℕ) (lent back : CodeColumns) (r : Created) : Type 0 where
   pub answer : Answered (said r) q (vertexNum kind d rounds, edgeNum kind d rounds) (0, 0)
-  pub ends-a : back .endsA ≡ after q (newColumns kind d rounds .endsA) (lent .endsA)
-  pub ends-b : back .endsB ≡ after q (newColumns kind d rounds .endsB) (lent .endsB)
-  pub p : back .p ≡ after q (newColumns kind d rounds .p) (lent .p)
-  pub pe : back .pe ≡ after q (newColumns kind d rounds .pe) (lent .pe)
-  pub half-weight : back .halfWeight ≡ after q (newColumns kind d rounds .halfWeight) (lent .halfWeight)
-  pub erasure : back .erasure ≡ after q (newColumns kind d rounds .erasure) (lent .erasure)
-  pub pos-i : back .posI ≡ after q (newColumns kind d rounds .posI) (lent .posI)
-  pub pos-j : back .posJ ≡ after q (newColumns kind d rounds .posJ) (lent .posJ)
-  pub pos-t : back .posT ≡ after q (newColumns kind d rounds .posT) (lent .posT)
-  pub boundary : back .boundary ≡ after q (newColumns kind d rounds .boundary) (lent .boundary)
-  pub defect : back .defect ≡ after q (newColumns kind d rounds .defect) (lent .defect)
-  pub list-lengths : back .listLengths ≡ after q (newColumns kind d rounds .listLengths) (lent .listLengths)
-  pub neighbor-numbers : back .neighborNumbers ≡ after q (newColumns kind d rounds .neighborNumbers) (lent .neighborNumbers)
+  pub columns : HandedBack q (newColumns kind d rounds) lent back
 
 abbrev pub CreateCode : (kind d rounds : ℕ) (lent back : CodeColumns) (r : Created) → Type 0
 CreateCode kind d rounds lent back r = CodeCreated kind d rounds (refusalIn kind d rounds lent) lent back r

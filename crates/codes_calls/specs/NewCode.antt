@@ -1,10 +1,8 @@
 -- `new` and `new_diagonal`: questions 2 to 6 and 8 to 10, the answer, and each column afterwards.
 use Prim.Native.Nat.{ℕ}
-use mathlib.Core.Path.{_≡_}
 use mathlib.Core.Bool.{_&&_}
 use lib.ListN.{length}
 use lib.Ieee.{Float}
-use Rattle.columns.specs.Lists.{after}
 use Rattle.columns.specs.Questions.{ask}
 use Rattle.codes_layers.specs.Counts.{vertexNum, edgeNum}
 use Rattle.codes_layers.specs.Accepts.{codeRefusal}
@@ -13,7 +11,7 @@ use Rattle.weights_diagonal.specs.Diagonal.{isDiagonalProbability}
 use Rattle.weights_calls.specs.Calls.{edgeWeights, someAbove, isLargestHalfWeight, halfWeights}
 use Rattle.weights_diagonal.specs.declared.DiagonalProbability.{DiagonalProbability}
 use Rattle.codes_calls.specs.declared.Created.{Created}
-use Rattle.codes_calls.specs.Columns.{CodeColumns, edgeRoom, vertexRoom, longEnough}
+use Rattle.codes_calls.specs.Columns.{CodeColumns, edgeRoom, vertexRoom, longEnough, HandedBack}
 use Rattle.columns_answers.specs.Said.{Answered}
 use Rattle.codes_calls.specs.CreateCode.{said, newColumns}
 use Rattle.codes_calls.specs.Probabilities.{probabilities, diagonalOf}
@@ -48,22 +46,6 @@ weightedColumns kind d rounds p diagonal max = record {
   listLengths = newColumns kind d rounds .listLengths;
   neighborNumbers = newColumns kind d rounds .neighborNumbers;
 }
-
--- the columns as they were lent and as they are handed back; q is the question's number, and `new` what is written where it is 0
-pub record HandedBack (q : ℕ) (new lent back : CodeColumns) : Type 0 where
-  pub ends-a : back .endsA ≡ after q (new .endsA) (lent .endsA)
-  pub ends-b : back .endsB ≡ after q (new .endsB) (lent .endsB)
-  pub p : back .p ≡ after q (new .p) (lent .p)
-  pub pe : back .pe ≡ after q (new .pe) (lent .pe)
-  pub half-weight : back .halfWeight ≡ after q (new .halfWeight) (lent .halfWeight)
-  pub erasure : back .erasure ≡ after q (new .erasure) (lent .erasure)
-  pub pos-i : back .posI ≡ after q (new .posI) (lent .posI)
-  pub pos-j : back .posJ ≡ after q (new .posJ) (lent .posJ)
-  pub pos-t : back .posT ≡ after q (new .posT) (lent .posT)
-  pub boundary : back .boundary ≡ after q (new .boundary) (lent .boundary)
-  pub defect : back .defect ≡ after q (new .defect) (lent .defect)
-  pub list-lengths : back .listLengths ≡ after q (new .listLengths) (lent .listLengths)
-  pub neighbor-numbers : back .neighborNumbers ≡ after q (new .neighborNumbers) (lent .neighborNumbers)
 
 -- the answer and the columns of a code with a diagonal probability, by the question's number q
 pub record Weighted (kind d rounds : ℕ) (p : Float) (diagonal : DiagonalProbability) (max q : ℕ) (lent back : CodeColumns) (r : Created) : Type 0 where

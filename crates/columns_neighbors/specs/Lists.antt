@@ -1,9 +1,9 @@
 -- Neighbour lists, as document 01's "Records" and "Six builders" have them.
-use Prim.Native.Nat.{ℕ, suc, _+_, _<_}
+use Prim.Native.Nat.{ℕ, zero, suc, _+_, _<_}
 use mathlib.Core.Path.{_≡_}
 use mathlib.Core.Bool.{Bool, _||_}
 use mathlib.Core.List.{List, _++_}
-use lib.ListN.{getD, length}
+use lib.ListN.{getD, length, take, drop}
 use lib.Dec.{eqb}
 use Rattle.columns.specs.Lists.{each, joined, when, over}
 
@@ -37,3 +37,12 @@ pub record ListsFilled (a b : List ℕ) (e n : ℕ) (lengths₀ numbers₀ lengt
   pub lengths-are : lengths ≡ over (degrees a b e n) lengths₀
   pub numbers-are : numbers ≡ over (lists a b e n) numbers₀
   pub ends-are : (u : ℕ) → u < n → getD ends u 0 ≡ length (lists a b e (u + 1))
+
+-- Questions at the door, 6, the list lengths' sum: the sum of the first n places.
+unfoldable pub sumTo : ℕ → List ℕ → ℕ
+sumTo zero xs = 0
+sumTo (suc n) xs = sumTo n xs + getD xs n 0
+
+-- Records, on neighbour lists: the list of vertex u, which stands after the lists of the vertices before it.
+abbrev pub listAt : (lengths numbers : List ℕ) (u : ℕ) → List ℕ
+listAt lengths numbers u = take (getD lengths u 0) (drop (sumTo u lengths) numbers)

@@ -1,29 +1,26 @@
--- What a question that is met says. Assumes nothing.
-use mathlib.Core.Path.{_≡_, refl}
-use mathlib.Core.Bool.{Bool, true, false, _&&_}
-use Prim.Native.Nat.{ℕ, suc, _≤_}
-use native.Mathlib.Omega.{arith}
+-- What question 6 says where it is met. Assumes nothing.
+use mathlib.Core.Path.{_≡_}
+use mathlib.Core.Bool.{true, _&&_}
+use mathlib.Core.List.{List}
+use Prim.Native.Nat.{ℕ, _*_, _≤_}
 use lib.Dec.{leb}
+use lib.ListN.{length}
 use borrow.Author.Tests.{leb-true}
-use Rattle.columns.specs.Questions.{ask}
 use Rattle.columns.proofs.Tests.{and-both}
-use Rattle.columns_room.specs.Room.{threeLong}
-
--- a question that did not stop the call, and those after it
-pub met : (b : Bool) (number next : ℕ) → ask b (suc number) next ≡ 0 → b ≡ true
-met true number next e = refl
-met false number next e = absurd (omega arith)
-
-pub goes-on : (b : Bool) (number next : ℕ) → ask b (suc number) next ≡ 0 → next ≡ 0
-goes-on true number next e = e
-goes-on false number next e = absurd (omega arith)
+use Rattle.columns_neighbors.specs.Lists.{sumTo}
+use Rattle.columns_room.specs.Room.{twoLong, threeLong, listsLong}
 
 pub both-long : (n a m b : ℕ) → (leb n a && leb m b) ≡ true → (n ≤ a) × (m ≤ b)
 both-long n a m b e = let (p, q) = and-both (leb n a) (leb m b) e in (leb-true n a p, leb-true m b q)
 
+pub two-long : (n a b : ℕ) → twoLong n a b ≡ true → (n ≤ a) × (n ≤ b)
+unfolding twoLong
+two-long n a b e = both-long n a n b e
+
 pub three-long : (n a b c : ℕ) → threeLong n a b c ≡ true → (n ≤ a) × (n ≤ b) × (n ≤ c)
 unfolding threeLong
-three-long n a b c e =
-    let (p, e₁) = and-both (leb n a) _ e in
-    let (q, r) = and-both (leb n b) _ e₁ in
-    (leb-true n a p, leb-true n b q, leb-true n c r)
+three-long n a b c e = let (p, q) = and-both (leb n a) _ e in let (r, s) = both-long n b n c q in (leb-true n a p, r, s)
+
+pub lists-long : (v e : ℕ) (lengths numbers : List ℕ) → listsLong v e lengths numbers ≡ true → (2 * e ≤ length numbers) × (sumTo v lengths ≤ length numbers)
+unfolding listsLong
+lists-long v e lengths numbers h = both-long (2 * e) _ (sumTo v lengths) _ h

@@ -18,7 +18,7 @@ use Rattle.engine_columns.specs.declared.EngineCounts.{EngineCounts}
 use Rattle.engine_columns.specs.declared.EngineAnswer.{EngineAnswer}
 use Rattle.engine_columns.specs.Records.{Engine, engine, counts, said}
 use Rattle.engine_log.specs.Load.{loaded, earlier, named, undone, erased, given}
-use Rattle.engine_columns.specs.Questions.{columnsLong, engineLong, engineSound}
+use Rattle.engine_columns.specs.Questions.{columnsLong, engineLong}
 use Rattle.engine_columns.specs.Step.{Call, loadErasures, loadWeights, reset, engineRefusal, changed, loadedBy, Step}
 use Rattle.engine_columns.specs.Open.{GraphColumns, openRefusal, OpenStep}
 use Rattle.engine_tally.specs.Tally.{lengthsOf, Tally, tallyOf, tallyLong, tallyRefusal, withWeights, tallied, tallyStep}

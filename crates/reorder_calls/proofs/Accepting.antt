@@ -22,10 +22,12 @@ use Rattle.columns.proofs.Refusals.{met, goes-on, asks}
 use Rattle.reorder_calls.specs.declared.TranslatedAnswer.the-variants.{Count, Refused}
 use Rattle.reorder_orders.specs.Order.{noneTwice, oldToNew, renamed, moved}
 use Rattle.reorder_calls.specs.Numbers.{buildRefusal, BuiltOldToNew, translateRefusal, TranslatedDefects}
-use Rattle.columns_neighbors.specs.Steps.{sumTo}
-use Rattle.sampling_calls.specs.Records.{codeGraph, codeSound}
-use Rattle.sampling_calls.proofs.Accepting.{CodeSound, code-sound-of}
-use Rattle.reorder_calls.specs.Columns.{ReorderColumns, movedLists, endsLong, vertexLong, positionsLong, listsLong, reorderLong, reorderSound, orderRefusal, reorderRefusal, ReorderedVertices}
+use Rattle.columns_neighbors.specs.Lists.{sumTo}
+use Rattle.columns_room.specs.Graph.{codeGraph, codeSound}
+use Rattle.columns_room.specs.Room.{listsLong}
+use Rattle.columns_room.proofs.Refusals.{lists-long}
+use Rattle.columns_room.proofs.Graph.{CodeSound, code-sound-of}
+use Rattle.reorder_calls.specs.Columns.{ReorderColumns, movedLists, endsLong, vertexLong, positionsLong, reorderLong, reorderSound, orderRefusal, reorderRefusal, ReorderedVertices}
 use Rattle.reorder_orders.specs.Steps.{IsOrder}
 use Rattle.reorder_orders.proofs.Asking.{stops, passes}
 
@@ -178,7 +180,7 @@ pub record ReorderMet (v e : ℕ) (order : List ℕ) (c : ReorderColumns) : Type
   pub marks : marksSound v (c .defect) ≡ true
 
 pub reorder-met : (v e : ℕ) (order : List ℕ) (c : ReorderColumns) → reorderRefusal v e order c ≡ 0 → ReorderMet v e order c
-unfolding reorderRefusal reorderLong endsLong vertexLong positionsLong listsLong reorderSound
+unfolding reorderRefusal reorderLong endsLong vertexLong positionsLong reorderSound
 reorder-met v e order c z =
     let seven = reorderSound v e (c .endsA) (c .endsB) (c .boundary) (c .defect) in
     let rest = orderRefusal v order in
@@ -204,8 +206,8 @@ reorder-met v e order c z =
       long-i = leb-true _ _ i;
       long-j = leb-true _ _ j;
       long-t = leb-true _ _ t;
-      long-numbers = leb-true _ _ (and-both (leb (2 * e) (length (c .numbers))) _ numbers .1);
-      long-scratch = leb-true _ _ (and-both (leb (2 * e) (length (c .scratch))) _ scratch .1);
+      long-numbers = lists-long v e _ _ numbers .1;
+      long-scratch = lists-long v e _ _ scratch .1;
       marks = marks;
     }
 

@@ -2,39 +2,23 @@
 use mathlib.Core.Path.{_≡_, refl, sym, ap, _∙_}
 use mathlib.Core.List.{List, [], _∷_, _++_}
 use Prim.Native.Nat.{ℕ, zero, suc, _+_, _-_, _≤_, _<_, min}
-use native.Mathlib.Nat.{add-zero, add-suc, zero-add}
-use native.Mathlib.Decide.{ℕ-discrete, decLe}
+use native.Mathlib.Nat.{zero-add}
+use native.Mathlib.Decide.{ℕ-discrete}
 use native.Mathlib.Numerals.{add-one}
 use native.Mathlib.Omega.{arith}
-use lib.ListN.{length, getD, set, take, drop, length-take, length-drop, length-append, List·getD-eq-default}
+use lib.ListN.{length, getD, set, take, drop, length-take, length-drop, length-append}
 use lib.Seq.{sets, length-take-le, take-suc, take-length, getD-take, getD-drop, getD-set-same, getD-set-other, ext-getD}
 use Rattle.columns.specs.Lists.{joined, over}
 use Rattle.columns.proofs.Columns.{sets-append, sets-over}
 use Rattle.columns.proofs.Counting.{joined-more, joined-same, joined-room}
-use Rattle.columns_neighbors.specs.Steps.{sumTo}
+use Rattle.columns_neighbors.specs.Lists.{sumTo, listAt}
 use Rattle.columns_neighbors.proofs.Placing.{sum-more, sum-ascends}
 use Rattle.reorder_columns.proofs.Copies.{length-copied, copied-at}
-use Rattle.reorder_calls.specs.Columns.{listAt, movedLists}
+use Rattle.reorder_calls.specs.Columns.{movedLists}
 use Rattle.reorder_orders.specs.Steps.{IsOrder}
 use Rattle.reorder_orders.proofs.Permutation.{total, along, along-order, order-below}
 
 -- ---- sums of lengths
-
-sum-past : (k u : ℕ) (xs : List ℕ) → length xs ≤ u → sumTo (u + k) xs ≡ sumTo u xs
-unfolding sumTo
-sum-past zero u xs h = ap (λ (n : ℕ). sumTo n xs) (add-zero u)
-sum-past (suc k) u xs h =
-    ap (λ (n : ℕ). sumTo n xs) (add-suc u k)
-    ∙ omega (arith, sum-past k u xs h, List·getD-eq-default {A = ℕ} xs 0 {n = u + k} (omega arith))
-
--- where the loop over the lengths stops
-pub sum-end : (n i : ℕ) (xs : List ℕ) → i ≤ n → min n (length xs) ≤ i → sumTo i xs ≡ sumTo n xs
-sum-end n i xs k h = elim (decLe n i) [
-  | yes l ↦ ap (λ (j : ℕ). sumTo j xs) (native.Mathlib.Nat.le-antisymm k l)
-  | no l ↦
-      let e : i + (n - i) ≡ n = omega arith in
-      sym (sum-past (n - i) i xs (omega arith)) ∙ ap (λ (j : ℕ). sumTo j xs) e
-]
 
 pub total-sum : (n : ℕ) (xs : List ℕ) → total n (λ u. getD xs u 0) ≡ sumTo n xs
 unfolding total sumTo

@@ -1,35 +1,40 @@
--- What reordering keeps: the graph up to the new numbers, question 7, walks with their weights, and syndromes. Assumes nothing.
-use mathlib.Core.Path.{_≡_, refl, sym, ap, _∙_, subst}
-use mathlib.Core.Logic.{⊎-elim, _⊎_, inl, inr, _↔_}
-use mathlib.Core.Bool.{Bool, true, false, _&&_, cond}
-use mathlib.Core.List.{List, [], _∷_, map, List·Memᴰ, List·Memᴰ·not-nil, List·Memᴰ·append-cases, List·Memᴰ·eq-of-singleton, List·Memᴰ·head, Memᴰ·cast, Memᴰ·append-left, Memᴰ·append-right, Memᴰ·map, Memᴰ·of-map}
+-- What reordering keeps: the graph up to the new numbers, question 7, and walks with their weights. Assumes nothing.
+use mathlib.Core.Path.{_≡_, sym, ap, _∙_, subst}
+use mathlib.Core.Logic.{⊎-elim, _⊎_, inl, inr}
+use mathlib.Core.Bool.{true}
+use mathlib.Core.List.{List, map}
 use Prim.Native.Nat.{ℕ, zero, suc, _+_, _%_, _≤_, _<_}
-use native.Mathlib.Decide.{ℕ-discrete}
 use native.Mathlib.Omega.{arith}
 use lib.ListN.{length, getD, take, length-take, length-map, List·getD-map}
 use lib.Seq.{getD-take, length-take-le}
-use lib.Dec.{eqb}
-use borrow.Author.Tests.{eq-eqb, ne-eqb}
-use Rattle.columns.specs.Lists.{joined, when, over}
+use Rattle.columns.specs.Lists.{over}
 use Rattle.columns.specs.Questions.{allWithin}
 use Rattle.columns_answers.specs.Done.{said}
 use Rattle.columns.specs.declared.Done.{Done}
 use Rattle.columns.proofs.Columns.{getD-any, after-accepted, over-in, length-over}
 use Rattle.columns.proofs.Tests.{both-and, within-first, at-within}
-use Rattle.columns_neighbors.specs.Lists.{chosen}
 use Rattle.columns_neighbors.proofs.Ends.{GraphSound, says-graph}
 use Rattle.engine_walks.specs.Graph.{Graph, endA, endB, Joins, Walk, stay, step}
-use Rattle.sampling_calls.specs.Records.{CodeGraph, codeGraph, codeSound}
-use Rattle.sampling_calls.specs.Syndrome.{hit, endsIn, isDefectOf, syndromeOf}
+use Rattle.columns_room.specs.Graph.{codeSound}
 use Rattle.reorder_orders.specs.Order.{newNumber, renamed, moved}
 use Rattle.reorder_calls.specs.Columns.{ReorderColumns, reorderSound, reorderRefusal, ReorderedVertices}
 use Rattle.reorder_orders.specs.Steps.{IsOrder}
-use Rattle.reorder_orders.proofs.Permutation.{order-below, new-below, old-of-new, new-of-old, new-differ}
+use Rattle.reorder_orders.proofs.Permutation.{order-below, new-below, old-of-new, new-differ}
 use Rattle.reorder_calls.proofs.Accepting.{ReorderMet, reorder-met}
 
 -- what stands at a place of a mapped list
 map-at : {A : Type 0} (f : ℕ → A) (l : List ℕ) (d : A) (i : ℕ) → i < length l → getD (map f l) i d ≡ f (getD l i 0)
 map-at f l d i h = getD-any (map f l) i d (f 0) (omega (arith, length-map l f)) ∙ List·getD-map f l i 0
+
+-- the ends of the edges, in range and renamed, and the boundary bytes at the new numbers
+pub record Renumbered (v e : ℕ) (order : List ℕ) (before last : ReorderColumns) : Type 0 where
+  pub order-is : IsOrder order
+  pub many : length order ≡ v
+  pub in-a : (i : ℕ) → i < e → getD (before .endsA) i 0 < v
+  pub in-b : (i : ℕ) → i < e → getD (before .endsB) i 0 < v
+  pub endsA-renamed : (i : ℕ) → i < e → getD (last .endsA) i 0 ≡ newNumber order (getD (before .endsA) i 0)
+  pub endsB-renamed : (i : ℕ) → i < e → getD (last .endsB) i 0 ≡ newNumber order (getD (before .endsB) i 0)
+  pub boundary-kept : (u : ℕ) → u < v → getD (last .boundary) (newNumber order u) 0 ≡ getD (before .boundary) u 0
 
 -- an accepted reordering
 module _ (v e : ℕ) (order : List ℕ) (before last : ReorderColumns) (answer : Done) (call : ReorderedVertices v e order before answer last) (accepted : said answer .number ≡ 0) where
@@ -172,68 +177,15 @@ module _ (v e : ℕ) (order : List ℕ) (before last : ReorderColumns) (answer :
       let b : i < e = edge-in (last .endsA) i (graph-kept .long-a) h in
       step {e = i} (omega (arith, length-take e (before .endsA), k .sound .graph .long-a)) (joins-by new old (λ u. getD order u 0) i x y (a-old i b) (b-old i b) j) (walk-back w)
 
-  -- ---- syndromes
+  -- ---- what a syndrome reads
 
-  abbrev oldCode : CodeGraph
-  oldCode = codeGraph v e (before .endsA) (before .endsB) (before .boundary)
-
-  abbrev newCode : CodeGraph
-  newCode = codeGraph v e (last .endsA) (last .endsB) (last .boundary)
-
-  hit-new : (u x : ℕ) {x′ : ℕ} → u < v → x < v → x′ ≡ newNumber order x → hit (newNumber order u) x′ ≡ hit u x
-  hit-new u x {x′} h g p = elim (ℕ-discrete x u) [
-    | yes q ↦ ap (λ (t : Bool). cond t 1 0) (eq-eqb x′ (newNumber order u) (p ∙ ap (newNumber order) q) ∙ sym (eq-eqb x u q))
-    | no q ↦ ap (λ (t : Bool). cond t 1 0) (ne-eqb x′ (newNumber order u) (λ r. q (same-old x u g h (sym p ∙ r))) ∙ sym (ne-eqb x u q))
-  ]
-
-  ends-kept : (ks : List ℕ) (u : ℕ) → u < v → ((i : ℕ) → i < length ks → getD ks i 0 < e)
-      → endsIn (last .endsA) (last .endsB) ks (newNumber order u) ≡ endsIn (before .endsA) (before .endsB) ks u
-  unfolding endsIn
-  ends-kept [] u h named = refl
-  ends-kept (i ∷ ks) u h named =
-      let b : i < e = named 0 (omega arith) in
-      omega (arith, hit-new u (getD (before .endsA) i 0) h (in-a i b) (endsA-renamed i b), hit-new u (getD (before .endsB) i 0) h (in-b i b) (endsB-renamed i b), ends-kept ks u h (λ n l. named (suc n) (omega arith)))
-
-  defect-kept : (ks : List ℕ) (u : ℕ) → u < v → ((i : ℕ) → i < length ks → getD ks i 0 < e) → isDefectOf newCode ks (newNumber order u) ≡ isDefectOf oldCode ks u
-  unfolding isDefectOf
-  defect-kept ks u h named =
-      ap (λ (n : ℕ). eqb n 0 && eqb (endsIn (last .endsA) (last .endsB) ks (newNumber order u) % 2) 1) (boundary-kept u h)
-      ∙ ap (λ (n : ℕ). eqb (getD (before .boundary) u 0) 0 && eqb (n % 2) 1) (ends-kept ks u h named)
-
-  -- the numbers that pass a test, as a set
-  chosen-in : (test : ℕ → Bool) (n x : ℕ) → x < n → test x ≡ true → List·Memᴰ x (chosen n test)
-  unfolding chosen joined
-  chosen-in test zero x h p = absurd (omega arith)
-  chosen-in test (suc n) x h p = elim (ℕ-discrete x n) [
-    | yes q ↦ Memᴰ·append-right (chosen n test) (subst (λ (b : Bool). List·Memᴰ x (when b n)) (sym (ap test (sym q) ∙ p)) (List·Memᴰ·head q))
-    | no q ↦ Memᴰ·append-left (when (test n) n) (chosen-in test n x (omega arith) p)
-  ]
-
-  chosen-out : (test : ℕ → Bool) (n x : ℕ) → List·Memᴰ x (chosen n test) → (x < n) × (test x ≡ true)
-  unfolding chosen joined
-  chosen-out test zero x m = absurd (List·Memᴰ·not-nil m)
-  chosen-out test (suc n) x m = ⊎-elim
-      (λ (w : List·Memᴰ x (chosen n test)). let r = chosen-out test n x w in (omega (arith, r .0), r .1))
-      (λ (w : List·Memᴰ x (when (test n) n)). one (test n) refl w)
-      (List·Memᴰ·append-cases (chosen n test) m)
-    where
-      one : (b : Bool) → test n ≡ b → List·Memᴰ x (when b n) → (x < suc n) × (test x ≡ true)
-      one true p w = let q = List·Memᴰ·eq-of-singleton w in (omega arith, ap test q ∙ p)
-      one false p w = absurd (List·Memᴰ·not-nil w)
-
-  -- the syndrome of the reordered graph is the translated syndrome, as sets
-  pub syndrome-kept : (ks : List ℕ) → ((i : ℕ) → i < length ks → getD ks i 0 < e) → (x : ℕ)
-      → List·Memᴰ x (syndromeOf newCode ks) ↔ List·Memᴰ x (renamed order (syndromeOf oldCode ks))
-  unfolding syndromeOf
-  syndrome-kept ks named x = (
-    (λ m.
-        let r = chosen-out (isDefectOf newCode ks) v x m in
-        let u = getD order x 0 in
-        let h : u < v = omega (arith, order-below order o x (in-order x (r .0)), k .many) in
-        let q : newNumber order u ≡ x = new-of-old order o x (in-order x (r .0)) in
-        Memᴰ·cast (sym q) (Memᴰ·map (newNumber order) (chosen-in (isDefectOf oldCode ks) v u h (sym (defect-kept ks u h named) ∙ ap (isDefectOf newCode ks) q ∙ r .1)))),
-    (λ m.
-        let w = Memᴰ·of-map (newNumber order) (chosen v (isDefectOf oldCode ks)) m in
-        let r = chosen-out (isDefectOf oldCode ks) v (w .0) (w .1) in
-        Memᴰ·cast (sym (w .2)) (chosen-in (isDefectOf newCode ks) v (newNumber order (w .0)) (new-in (w .0) (r .0)) (defect-kept ks (w .0) (r .0) named ∙ r .1))),
-  )
+  pub renumbered : Renumbered v e order before last
+  renumbered = record {
+    order-is = o;
+    many = k .many;
+    in-a = in-a;
+    in-b = in-b;
+    endsA-renamed = endsA-renamed;
+    endsB-renamed = endsB-renamed;
+    boundary-kept = boundary-kept;
+  }

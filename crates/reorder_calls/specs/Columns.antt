@@ -3,7 +3,7 @@ use Prim.Native.Nat.{ℕ, _*_}
 use mathlib.Core.Path.{_≡_}
 use mathlib.Core.Bool.{Bool, _&&_}
 use mathlib.Core.List.{List}
-use lib.ListN.{length, getD, take, drop}
+use lib.ListN.{length, getD, take}
 use lib.Dec.{leb, eqb}
 use lib.Ieee.{Float}
 use Rattle.columns.specs.Lists.{joined, after}
@@ -12,8 +12,9 @@ use Rattle.columns.specs.Places.{zeroFloat}
 use Rattle.columns_answers.specs.Said.{Answered}
 use Rattle.columns_answers.specs.Done.{said}
 use Rattle.columns.specs.declared.Done.{Done}
-use Rattle.columns_neighbors.specs.Steps.{sumTo}
-use Rattle.sampling_calls.specs.Records.{codeGraph, codeSound}
+use Rattle.columns_neighbors.specs.Lists.{sumTo, listAt}
+use Rattle.columns_room.specs.Room.{listsLong}
+use Rattle.columns_room.specs.Graph.{codeGraph, codeSound}
 use Rattle.reorder_orders.specs.Order.{noneTwice, renamed, moved}
 
 -- the columns that a reordering changes; `numbers` has the neighbour lists one after another, `scratch` has room for them too
@@ -43,10 +44,6 @@ reorderColumns a b m d i j t l n s = record {
   scratch = s;
 }
 
--- the neighbour list of vertex u, after the lists of the vertices before it
-abbrev pub listAt : (lengths numbers : List ℕ) (u : ℕ) → List ℕ
-listAt lengths numbers u = take (getD lengths u 0) (drop (sumTo u lengths) numbers)
-
 -- the neighbour lists in the new order, one after another
 unfoldable pub movedLists : (order lengths numbers : List ℕ) → List ℕ
 movedLists order lengths numbers = joined (length order) (λ k. listAt lengths numbers (getD order k 0))
@@ -60,10 +57,6 @@ vertexLong v m d l = leb v (length m) && (leb v (length d) && leb v (length l))
 
 unfoldable pub positionsLong : (v : ℕ) (i j t : List Float) → Bool
 positionsLong v i j t = leb v (length i) && (leb v (length j) && leb v (length t))
-
--- twice the edges, and the list lengths' sum
-unfoldable pub listsLong : (v e : ℕ) (l numbers : List ℕ) → Bool
-listsLong v e l numbers = leb (2 * e) (length numbers) && leb (sumTo v l) (length numbers)
 
 unfoldable pub reorderLong : (v e : ℕ) → ReorderColumns → Bool
 reorderLong v e c =

@@ -5,7 +5,7 @@ ghost use mathlib.Core.Path.{_≡_};
 ghost use mathlib.Core.Bool.{true};
 ghost use Prim.Native.Nat.{_≤_};
 ghost use Rattle.columns.specs.Questions.{ask};
-ghost use Rattle.reorder_calls.specs.Columns.{reorderColumns, endsLong, vertexLong, positionsLong, listsLong, reorderLong, reorderSound, orderRefusal, reorderRefusal, ReorderedVertices};
+ghost use Rattle.reorder_calls.specs.Columns.{reorderColumns, endsLong, vertexLong, positionsLong, reorderLong, reorderSound, orderRefusal, reorderRefusal, ReorderedVertices};
 ghost use Rattle.reorder_calls.specs.Numbers.{buildRefusal, BuiltOldToNew, translateRefusal, TranslatedDefects};
 use columns::Done;
 use columns::VERTEX_LIMIT;
@@ -14,8 +14,9 @@ use columns::questions::at_most;
 use columns::questions::both;
 use columns::questions::each_below;
 use columns::questions::marks_sound;
+use columns_room::code_sound;
+use columns_room::lists_long;
 use lists::move_lists;
-use lists::sum_within;
 use reorder_columns::move_positions;
 use reorder_columns::move_u8;
 use reorder_columns::move_u32;
@@ -23,7 +24,6 @@ use reorder_orders::order_questions;
 use reorder_orders::place_numbers;
 use reorder_orders::rename_ends;
 use reorder_orders::translate;
-use sampling_calls::questions::code_sound;
 
 // How many numbers were translated, or the number of the question that was not met.
 pub enum TranslatedAnswer {
@@ -139,14 +139,6 @@ fn positions_long(vertex_num: u32, is: &[f64], js: &[f64], ts: &[f64]) -> bool
     let j = at_most(n, js.len());
     let t = at_most(n, ts.len());
     both(i, both(j, t))
-}
-
-fn lists_long(vertex_num: u32, edge_num: u32, lengths: &[u32], numbers: &[u32]) -> bool
-    ensures { λ r. ⌜ r ≡ listsLong «vertex_num» «edge_num» (now (lengths .entry)) (now (numbers .entry)) ⌝ }
-{
-    let twice = at_most(2 * (edge_num as usize), numbers.len());
-    let sum = sum_within(lengths, vertex_num as usize, numbers.len());
-    both(twice, sum)
 }
 
 // Question 7, of counts, ends, boundary and defect bytes.

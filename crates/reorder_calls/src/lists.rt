@@ -3,32 +3,12 @@ ghost use mathlib.Core.Path.{_≡_};
 ghost use Prim.Native.Nat.{ℕ, _+_, _<_, _≤_, _^_};
 ghost use lib.ListN.{length, getD, take, drop};
 ghost use lib.Seq.{sets};
-ghost use lib.Dec.{leb};
 ghost use Rattle.columns.specs.Lists.{over};
-ghost use Rattle.columns_neighbors.specs.Steps.{sumTo};
+ghost use Rattle.columns_neighbors.specs.Lists.{sumTo};
 ghost use Rattle.reorder_calls.specs.Columns.{movedLists};
 ghost use Rattle.reorder_orders.specs.Steps.{IsOrder};
-use columns::questions::lesser;
 use columns::wide;
 use columns_stores::copy_u32;
-
-// Whether the first n lengths, or all where there are fewer, sum to at most the limit.
-pub fn sum_within(lengths: &[u32], n: usize, limit: usize) -> bool
-    ensures { λ r. ⌜ r ≡ leb (sumTo n (now (lengths .entry))) limit ⌝ }
-{
-    let m = lesser(n, lengths.len());
-    let mut sum: usize = 0;
-    let mut i: usize = 0;
-    while i < m {
-        let more = wide(lengths[i]);
-        if limit - sum < more {
-            return false;
-        }
-        sum += more;
-        i += 1;
-    }
-    true
-}
 
 // Where each of the first n lists starts, and the end of the last.
 fn list_starts(lengths: &[u32], n: usize, starts: &mut [usize]) -> usize

@@ -11,19 +11,19 @@ use lib.Seq.{length-take-le, getD-take}
 use lib.Dec.{leb, eqb}
 use borrow.Author.Tests.{leb-true, eq-eqb, ne-eqb}
 use Rattle.columns.specs.Lists.{over}
-use Rattle.columns.specs.Questions.{ask, allBelow, marksSound, boundariesSound}
+use Rattle.columns.specs.Questions.{ask, allBelow, marksSound}
 use Rattle.columns.specs.declared.Done.the-variants.{Refused}
 use Rattle.columns.proofs.Columns.{after-accepted, after-refused, over-in}
 use Rattle.columns.proofs.Tests.{and-both, below-at}
-use Rattle.columns_neighbors.specs.Sound.{graphSound}
 use Rattle.columns_neighbors.specs.Steps.{InRange}
-use Rattle.columns_neighbors.proofs.Ends.{GraphSound, graph-says}
 use Rattle.columns.proofs.Refusals.{met, goes-on}
 use Rattle.columns_answers.specs.declared.SyndromeCounts.{SyndromeCounts}
 use Rattle.columns_answers.specs.declared.SyndromeCounts.the-variants as syndrome
 use Rattle.columns_answers.specs.declared.ListCount.{ListCount}
 use Rattle.columns_answers.specs.declared.ListCount.the-variants as list
-use Rattle.sampling_calls.specs.Records.{CodeGraph, graphLong, codeSound, SyndromeColumns, syndromeLong}
+use Rattle.columns_room.proofs.Graph.{GraphLong, graph-long-of, CodeSound, code-sound-of}
+use Rattle.columns_room.specs.Graph.{CodeGraph, graphLong, codeSound}
+use Rattle.sampling_calls.specs.Records.{SyndromeColumns, syndromeLong}
 use Rattle.columns_marks.specs.Marks.{isSet, listed}
 use Rattle.sampling_flips.specs.Flip.{flipEach}
 use Rattle.columns_answers.proofs.Said.{accepts-of, refuses-of}
@@ -35,18 +35,6 @@ use Rattle.sampling_calls.proofs.Inner.{flipEach-inner}
 use Rattle.columns_marks.proofs.Listing.{set-is-one, chosen-same}
 
 -- ---- questions 6 and 7
-
-pub record GraphLong (g : CodeGraph) : Type 0 where
-  pub long-a : g .edges ≤ length (g .endsA)
-  pub long-b : g .edges ≤ length (g .endsB)
-  pub long-boundary : g .vertices ≤ length (g .boundary)
-
-pub graph-long-of : (g : CodeGraph) → graphLong g ≡ true → GraphLong g
-unfolding graphLong
-graph-long-of g p =
-    let (a, q) = and-both (leb (g .edges) (length (g .endsA))) _ p in
-    let (b, m) = and-both (leb (g .edges) (length (g .endsB))) _ q in
-    record { long-a = leb-true _ _ a; long-b = leb-true _ _ b; long-boundary = leb-true _ _ m }
 
 pub record SyndromeLong (v e : ℕ) (s : SyndromeColumns) : Type 0 where
   pub long-defect : v ≤ length (s .defect)
@@ -61,16 +49,6 @@ syndrome-long-of v e s p =
     let (r, t) = and-both (leb e (length (s .erasure))) _ q in
     let (x, y) = and-both (leb v (length (s .defectList))) _ t in
     record { long-defect = leb-true _ _ d; long-erasure = leb-true _ _ r; long-defects = leb-true _ _ x; long-erasures = leb-true _ _ y }
-
-pub record CodeSound (g : CodeGraph) : Type 0 where
-  pub graph : GraphSound (g .vertices) (g .edges) (g .endsA) (g .endsB)
-  pub boundaries : boundariesSound (g .vertices) (g .boundary) ≡ true
-
-pub code-sound-of : (g : CodeGraph) → codeSound g ≡ true → CodeSound g
-unfolding codeSound
-code-sound-of g p =
-    let (a, b) = and-both (graphSound (g .vertices) (g .edges) (g .endsA) (g .endsB)) _ p in
-    record { graph = graph-says (g .vertices) (g .edges) (g .endsA) (g .endsB) a; boundaries = b }
 
 pub fits-of : (g : CodeGraph) (d : List ℕ) → GraphLong g → CodeSound g → g .vertices ≤ length d → Fits (g .vertices) (g .edges) (g .endsA) (g .endsB) (g .boundary) d
 fits-of g d l s h = record {

@@ -16,14 +16,16 @@ use Rattle.columns.proofs.Tests.{and-both}
 use Rattle.columns.proofs.Refusals.{met, goes-on}
 use Rattle.columns.proofs.Counting.{length-each}
 use Rattle.sampling_generator.specs.declared.DeterministicRng.{DeterministicRng}
-use Rattle.sampling_calls.specs.Records.{CodeGraph, graphLong, codeSound, SyndromeColumns, syndromeLong}
+use Rattle.columns_room.specs.Graph.{CodeGraph, graphLong, codeSound}
+use Rattle.sampling_calls.specs.Records.{SyndromeColumns, syndromeLong}
 use Rattle.sampling_flips.specs.Flip.{flipEach}
 use Rattle.sampling_edges.specs.Draws.{isErased, hasError, sampledErasures, sampledErrors}
 use Rattle.sampling_edges.specs.Steps.{Sampled}
 use Rattle.sampling_calls.specs.Sampling.{sampledDefects, probabilitiesSound, samplingRefusal}
 use Rattle.sampling_flips.proofs.Flipping.{length-flipEach}
 use Rattle.columns_marks.proofs.Listing.{chosen-below}
-use Rattle.sampling_calls.proofs.Accepting.{GraphLong, graph-long-of, SyndromeLong, syndrome-long-of, CodeSound, code-sound-of, flipEach-over}
+use Rattle.columns_room.proofs.Graph.{GraphLong, graph-long-of, CodeSound, code-sound-of}
+use Rattle.sampling_calls.proofs.Accepting.{SyndromeLong, syndrome-long-of, flipEach-over}
 
 pub record SamplingMet (g : CodeGraph) (p pe : List Float) (s : SyndromeColumns) : Type 0 where
   pub long : GraphLong g

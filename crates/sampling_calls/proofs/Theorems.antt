@@ -17,7 +17,8 @@ use Rattle.sampling_generator.specs.declared.DeterministicRng.{DeterministicRng
 use Rattle.sampling_generator.specs.Random.{seedFromU64}
 use Rattle.columns_neighbors.specs.Lists.{chosen}
 use Rattle.columns_answers.specs.declared.SyndromeCounts.{SyndromeCounts}
-use Rattle.sampling_calls.specs.Records.{CodeGraph, SyndromeColumns}
+use Rattle.columns_room.specs.Graph.{CodeGraph}
+use Rattle.sampling_calls.specs.Records.{SyndromeColumns}
 use Rattle.sampling_flips.specs.Flip.{flipEach}
 use Rattle.columns_answers.specs.Counts.{syndromeSaid}
 use Rattle.sampling_calls.specs.Errors.{SyndromeLeft}

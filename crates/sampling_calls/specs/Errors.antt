@@ -7,7 +7,8 @@ use lib.ListN.{length, take}
 use Rattle.columns.specs.Lists.{after}
 use Rattle.columns.specs.Questions.{ask, allBelow, marksSound}
 use Rattle.columns_answers.specs.declared.SyndromeCounts.{SyndromeCounts}
-use Rattle.sampling_calls.specs.Records.{CodeGraph, graphLong, codeSound, SyndromeColumns, syndromeLong}
+use Rattle.columns_room.specs.Graph.{CodeGraph, graphLong, codeSound}
+use Rattle.sampling_calls.specs.Records.{SyndromeColumns, syndromeLong}
 use Rattle.columns_marks.specs.Marks.{listed}
 use Rattle.sampling_flips.specs.Flip.{flipEach}
 use Rattle.columns_answers.specs.Said.{Answered}

@@ -6,7 +6,8 @@ use lib.ListN.{getD, take}
 use lib.Ieee.{Float}
 use Rattle.columns.specs.Places.{zeroFloat}
 use Rattle.columns_answers.specs.declared.SyndromeCounts.{SyndromeCounts}
-use Rattle.sampling_calls.specs.Records.{CodeGraph, SyndromeColumns}
+use Rattle.columns_room.specs.Graph.{CodeGraph}
+use Rattle.sampling_calls.specs.Records.{SyndromeColumns}
 use Rattle.columns_answers.specs.Counts.{syndromeSaid}
 use Rattle.sampling_calls.specs.Sampling.{GeneratedRandomErrors}
 

@@ -12,7 +12,8 @@ use Rattle.weights_recipe.specs.Probabilities.{isProbability, isErasureProbabil
 use Rattle.sampling_flips.specs.Flip.{flipEach}
 use Rattle.sampling_edges.specs.Draws.{sampledErasures, sampledErrors}
 use Rattle.columns_answers.specs.declared.SyndromeCounts.{SyndromeCounts}
-use Rattle.sampling_calls.specs.Records.{CodeGraph, graphLong, codeSound, SyndromeColumns, syndromeLong}
+use Rattle.columns_room.specs.Graph.{CodeGraph, graphLong, codeSound}
+use Rattle.sampling_calls.specs.Records.{SyndromeColumns, syndromeLong}
 use Rattle.sampling_calls.specs.Errors.{SyndromeLeft}
 
 -- the defect bytes: errors on the edges that the draws say, over no defects

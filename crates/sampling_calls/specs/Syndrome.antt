@@ -10,7 +10,7 @@ use Rattle.columns.specs.Lists.{after}
 use Rattle.columns.specs.Questions.{ask, allBelow}
 use Rattle.columns_neighbors.specs.Lists.{chosen}
 use Rattle.columns_answers.specs.declared.ListCount.{ListCount}
-use Rattle.sampling_calls.specs.Records.{CodeGraph, graphLong, codeSound}
+use Rattle.columns_room.specs.Graph.{CodeGraph, graphLong, codeSound}
 use Rattle.columns_answers.specs.Said.{Answered}
 use Rattle.columns_answers.specs.Counts.{listSaid}
 

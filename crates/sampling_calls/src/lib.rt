@@ -2,7 +2,8 @@
 pub mod questions;
 
 ghost use mathlib.Core.Path.{_≡_};
-ghost use Rattle.sampling_calls.specs.Records.{codeGraph, syndromeColumns};
+ghost use Rattle.columns_room.specs.Graph.{codeGraph};
+ghost use Rattle.sampling_calls.specs.Records.{syndromeColumns};
 ghost use Prim.Native.Nat.{ℕ, _<_, _≤_};
 ghost use lib.ListN.{length, getD};
 ghost use Rattle.columns.specs.Lists.{over};

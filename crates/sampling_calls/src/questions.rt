@@ -1,50 +1,19 @@
 // Questions 6, 7 and 9 of the columns that the calls are lent, and the first one of each call that is not met.
 ghost use mathlib.Core.Path.{_≡_};
-ghost use Rattle.sampling_calls.specs.Records.{codeGraph, graphLong, codeSound, syndromeColumns, syndromeLong};
+ghost use Rattle.columns_room.specs.Graph.{codeGraph};
+ghost use Rattle.sampling_calls.specs.Records.{syndromeColumns, syndromeLong};
 ghost use Rattle.sampling_calls.specs.Errors.{errorsRefusal};
 ghost use Rattle.sampling_calls.specs.Sampling.{probabilitiesSound, samplingRefusal};
 ghost use Rattle.sampling_calls.specs.Syndrome.{syndromeRefusal};
 use columns::questions::asked;
 use columns::questions::at_most;
 use columns::questions::both;
-use columns::questions::boundaries_sound;
 use columns::questions::each_below;
 use columns::questions::marks_sound;
-use columns_neighbors::sound::graph_sound;
+use columns_room::code_sound;
+use columns_room::graph_long;
 use weights_questions::are_erasure_probabilities;
 use weights_questions::are_probabilities;
-
-// Question 6, of ends and boundary bytes.
-pub fn graph_long(
-    vertex_num: u32,
-    edge_num: u32,
-    ends_a: &[u32],
-    ends_b: &[u32],
-    boundary: &[u8],
-) -> bool
-    ensures { λ r. ⌜ r ≡ graphLong (codeGraph «vertex_num» «edge_num» (now («ends_a» .entry)) (now («ends_b» .entry)) (now (boundary .entry))) ⌝ }
-{
-    let n = edge_num as usize;
-    let a = at_most(n, ends_a.len());
-    let b = at_most(n, ends_b.len());
-    let m = at_most(vertex_num as usize, boundary.len());
-    both(a, both(b, m))
-}
-
-// Question 7, of counts, ends and boundary bytes.
-pub fn code_sound(
-    vertex_num: u32,
-    edge_num: u32,
-    ends_a: &[u32],
-    ends_b: &[u32],
-    boundary: &[u8],
-) -> bool
-    ensures { λ r. ⌜ r ≡ codeSound (codeGraph «vertex_num» «edge_num» (now («ends_a» .entry)) (now («ends_b» .entry)) (now (boundary .entry))) ⌝ }
-{
-    let graph = graph_sound(vertex_num, edge_num, ends_a, ends_b);
-    let m = boundaries_sound(boundary, vertex_num as usize);
-    both(graph, m)
-}
 
 // Question 6, of defect and erasure bytes and of both lists.
 pub fn syndrome_long(

@@ -4,7 +4,6 @@ use mathlib.Core.Logic.{_⊎_, inl, inr}
 use mathlib.Core.Bool.{Bool, true, not, cond}
 use mathlib.Core.List.{List}
 use Prim.Native.Nat.{ℕ, zero, suc, _+_, _*_, _≤_, _<_}
-use native.Mathlib.Numerals.{add-one}
 use native.Mathlib.Omega.{arith}
 use lib.ListN.{length, getD, take, drop, length-take}
 use lib.Seq.{getD-take}
@@ -12,17 +11,16 @@ use borrow.Author.Tests.{ne-eqb, not-true}
 use Rattle.columns.specs.Questions.{every}
 use Rattle.columns.proofs.Counting.{length-each, getD-each}
 use Rattle.columns.proofs.Tests.{every-at}
-use Rattle.columns_neighbors.specs.Lists.{hits, neighbours, lists, degrees, chosen, endsAt}
+use Rattle.columns_neighbors.specs.Lists.{hits, neighbours, lists, degrees, chosen, endsAt, sumTo, listAt}
 use Rattle.columns_pairs.specs.Pairs.{samePair, pairsApart}
 use Rattle.columns_neighbors.specs.Sound.{graphSound}
 use Rattle.columns_pairs.proofs.PairTests.{at-apart}
 use Rattle.columns_neighbors.proofs.Ends.{GraphSound, graph-says}
-use Rattle.columns_neighbors.proofs.Placing.{length-hit, length-more, length-within, lists-more, lists-count, list-of, neighbours-chosen}
+use Rattle.columns_neighbors.proofs.Placing.{length-hit, length-more, length-within, lists-count, list-of, neighbours-chosen, sum-starts}
 use Rattle.columns_marks.proofs.Listing.{chosen-ascends}
 use Rattle.sanity_verdicts.specs.declared.Verdict.the-variants.{Sound, DuplicateEdge, EdgeTwice, Refused}
-use Rattle.sanity_verdicts.specs.Sanity.{edgeNumbered, vertexNumbered, firstOf, duplicate, twice, atVertex, listAt, total, verdict}
+use Rattle.sanity_verdicts.specs.Sanity.{edgeNumbered, vertexNumbered, firstOf, duplicate, twice, atVertex, verdict}
 use Rattle.sanity_verdicts.proofs.Scans.{first-all, found-false, or-sound}
-use Rattle.sanity_verdicts.proofs.Sums.{total-none, total-more}
 use Rattle.sanity_lists.proofs.Stamping.{some-edges}
 use Rattle.sanity_calls.proofs.Verdicts.{sanityAnswer, scanned, long-from}
 
@@ -68,15 +66,10 @@ module _ (v e : ℕ) (a b lengths numbers : List ℕ) (sound : graphSound v e a 
   unfolding degrees
   length-at u h = sym (getD-take v lengths u 0 h) ∙ ap (λ (l : List ℕ). getD l u 0) lengths-are ∙ getD-each v (λ u. length (neighbours a b e u)) 0 u h
 
-  start-at : (u : ℕ) → u ≤ v → total (take u lengths) ≡ length (lists a b e u)
-  unfolding lists Rattle.columns.specs.Lists.joined
-  start-at zero h = total-none lengths
-  start-at (suc u) h =
-      ap (λ (k : ℕ). total (take k lengths)) (sym (add-one u)) ∙ total-more lengths u (omega (arith, lengths-long))
-      ∙ (λ i. start-at u (omega arith) i + length-at u h i) ∙ sym (lists-more a b e u) ∙ ap (λ (k : ℕ). length (lists a b e k)) (add-one u)
+  start-at : (u : ℕ) → u ≤ v → sumTo u lengths ≡ length (lists a b e u)
+  start-at = sum-starts a b e v lengths length-at
 
   list-at : (u : ℕ) → u < v → listAt lengths numbers u ≡ neighbours a b e u
-  unfolding listAt
   list-at u h = (λ i. take (length-at u h i) (drop (start-at u (omega arith) i) numbers)) ∙ list-of a b e v u numbers numbers-are h
 
   no-duplicate : (k : ℕ) → k < e → duplicate a b k ≡ Sound

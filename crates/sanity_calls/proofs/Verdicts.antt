@@ -5,7 +5,7 @@ use mathlib.Core.List.{List}
 use Prim.Native.Nat.{ℕ, zero, suc, _*_, _≤_, _<_}
 use native.Mathlib.Omega.{arith}
 use lib.Dec.{eqb, leb}
-use lib.ListN.{length, getD, take}
+use lib.ListN.{length, getD}
 use borrow.Author.Tests.{eq-eqb, ne-eqb, leb-true, le-leb}
 use Rattle.columns.specs.Questions.{ask}
 use Rattle.columns.proofs.Tests.{and-both, both-and}
@@ -14,7 +14,10 @@ use Rattle.columns_answers.proofs.Said.{accepts-of, refuses-of}
 use Rattle.columns_pairs.specs.Pairs.{samePair}
 use Rattle.sanity_verdicts.specs.declared.Verdict.{Verdict}
 use Rattle.sanity_verdicts.specs.declared.Verdict.the-variants.{Sound, Empty, DuplicateEdge, NoEdges, EdgeTwice, Refused}
-use Rattle.sanity_verdicts.specs.Sanity.{edgeNumbered, vertexNumbered, said, orElse, firstOf, foundIf, duplicate, twice, atVertex, listAt, total, verdict, sanityLong, SanityChecked}
+use Rattle.columns_neighbors.specs.Lists.{sumTo, listAt}
+use Rattle.columns_room.specs.Room.{twoLong, listsLong}
+use Rattle.columns_room.proofs.Refusals.{two-long, lists-long}
+use Rattle.sanity_verdicts.specs.Sanity.{edgeNumbered, vertexNumbered, said, orElse, firstOf, foundIf, duplicate, twice, atVertex, verdict, sanityLong, SanityChecked}
 
 -- ---- a verdict is no refusal
 
@@ -90,21 +93,21 @@ module _ (v e : ℕ) (a b lengths numbers : List ℕ) where
     pub b-long : e ≤ length b
     pub lengths-long : v ≤ length lengths
     pub twice-long : 2 * e ≤ length numbers
-    pub sum-long : total (take v lengths) ≤ length numbers
+    pub sum-long : sumTo v lengths ≤ length numbers
 
   pub long-of : sanityLong v e a b lengths numbers ≡ true → Long
   unfolding sanityLong
   long-of h =
-      let (p, q) = and-both (leb e (length a) && (leb e (length b) && leb v (length lengths))) _ h in
-      let (x, p₁) = and-both (leb e (length a)) _ p in
-      let (y, z) = and-both (leb e (length b)) _ p₁ in
-      let (s, t) = and-both (leb (2 * e) (length numbers)) _ q in
-      record { a-long = leb-true _ _ x; b-long = leb-true _ _ y; lengths-long = leb-true _ _ z; twice-long = leb-true _ _ s; sum-long = leb-true _ _ t }
+      let (p, q) = and-both (twoLong e (length a) (length b) && leb v (length lengths)) _ h in
+      let (x, z) = and-both (twoLong e (length a) (length b)) _ p in
+      let (s, t) = lists-long v e lengths numbers q in
+      let (y, w) = two-long e _ _ x in
+      record { a-long = y; b-long = w; lengths-long = leb-true _ _ z; twice-long = s; sum-long = t }
 
   pub long-from : Long → sanityLong v e a b lengths numbers ≡ true
-  unfolding sanityLong
+  unfolding sanityLong twoLong listsLong
   long-from l =
-      both-and (both-and (le-leb _ _ (l .a-long)) (both-and (le-leb _ _ (l .b-long)) (le-leb _ _ (l .lengths-long))))
+      both-and (both-and (both-and (le-leb _ _ (l .a-long)) (le-leb _ _ (l .b-long))) (le-leb _ _ (l .lengths-long)))
       (both-and (le-leb _ _ (l .twice-long)) (le-leb _ _ (l .sum-long)))
 
   not-refused : said (verdict v e a b lengths numbers) .accepted ≡ true

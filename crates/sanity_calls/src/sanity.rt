@@ -1,35 +1,17 @@
 // Whether a graph is reasonable.
 ghost use mathlib.Core.Path.{_≡_};
-ghost use Prim.Native.Nat.{_+_, _≤_};
-ghost use lib.ListN.{length, take};
-ghost use lib.Dec.{leb};
-ghost use Rattle.sanity_verdicts.specs.Sanity.{total, orElse, verdict, sanityLong, SanityChecked};
+ghost use Prim.Native.Nat.{_≤_};
+ghost use lib.ListN.{length};
+ghost use Rattle.columns_neighbors.specs.Lists.{sumTo};
+ghost use Rattle.sanity_verdicts.specs.Sanity.{orElse, verdict, sanityLong, SanityChecked};
 use columns::questions::at_most;
 use columns::questions::both;
-use columns::questions::lesser;
-use columns::wide;
+use columns_room::lists_long;
+use columns_room::two_long;
 use sanity_lists::vertices_checked;
 use sanity_pairs::duplicates;
 use sanity_verdicts::Verdict;
 use sanity_verdicts::is_sound;
-
-// Whether the first n lengths, or all where there are fewer, sum up to at most the room.
-fn lists_fit(lengths: &[u32], n: usize, room: usize) -> bool
-    ensures { λ r. ⌜ r ≡ leb (total (take n (now (lengths .entry)))) room ⌝ }
-{
-    let m = lesser(n, lengths.len());
-    let mut left = room;
-    let mut i: usize = 0;
-    while i < m {
-        let len = wide(lengths[i]);
-        if left < len {
-            return false;
-        }
-        left -= len;
-        i += 1;
-    }
-    true
-}
 
 // Question 6.
 fn sanity_long(
@@ -42,14 +24,10 @@ fn sanity_long(
 ) -> bool
     ensures { λ r. ⌜ r ≡ sanityLong «vertex_num» «edge_num» (now («ends_a» .entry)) (now («ends_b» .entry)) (now («list_lengths» .entry)) (now («neighbor_numbers» .entry)) ⌝ }
 {
-    let v = vertex_num as usize;
-    let e = edge_num as usize;
-    let a = at_most(e, ends_a.len());
-    let b = at_most(e, ends_b.len());
-    let l = at_most(v, list_lengths.len());
-    let twice = at_most(2 * e, neighbor_numbers.len());
-    let sum = lists_fit(list_lengths, v, neighbor_numbers.len());
-    both(both(a, both(b, l)), both(twice, sum))
+    let ends = two_long(edge_num as usize, ends_a.len(), ends_b.len());
+    let lengths = at_most(vertex_num as usize, list_lengths.len());
+    let lists = lists_long(vertex_num, edge_num, list_lengths, neighbor_numbers);
+    both(both(ends, lengths), lists)
 }
 
 // What comes first: a finding, or what comes next.
@@ -68,7 +46,7 @@ fn verdict_of(
     list_lengths: &[u32],
     neighbor_numbers: &[u32],
 ) -> Verdict
-    requires { ⌜ («edge_num» ≤ length (now «ends_a»)) × («edge_num» ≤ length (now «ends_b»)) × («vertex_num» ≤ length (now «list_lengths»)) × (total (take «vertex_num» (now «list_lengths»)) ≤ length (now «neighbor_numbers»)) ⌝ }
+    requires { ⌜ («edge_num» ≤ length (now «ends_a»)) × («edge_num» ≤ length (now «ends_b»)) × («vertex_num» ≤ length (now «list_lengths»)) × (sumTo «vertex_num» (now «list_lengths») ≤ length (now «neighbor_numbers»)) ⌝ }
     ensures { λ r. ⌜ r ≡ verdict «vertex_num» «edge_num» (now («ends_a» .entry)) (now («ends_b» .entry)) (now («list_lengths» .entry)) (now («neighbor_numbers» .entry)) ⌝ }
 {
     if vertex_num == 0 {

@@ -11,7 +11,8 @@ use lib.ListN.{length, getD, set, take, drop, length-set, length-take, length-dr
 use lib.Seq.{getD-set-same, getD-set-other, getD-take, getD-drop}
 use Rattle.sanity_verdicts.specs.declared.Verdict.{Verdict}
 use Rattle.sanity_verdicts.specs.declared.Verdict.the-variants.{Sound, NoEdges, EdgeTwice}
-use Rattle.sanity_verdicts.specs.Sanity.{edgeNumbered, vertexNumbered, firstOf, foundIf, twice, atVertex, listAt, total}
+use Rattle.sanity_verdicts.specs.Sanity.{edgeNumbered, vertexNumbered, firstOf, foundIf, twice, atVertex}
+use Rattle.columns_neighbors.specs.Lists.{sumTo, listAt}
 use Rattle.sanity_verdicts.specs.Steps.{isSound}
 use Rattle.sanity_lists.specs.Steps.{Seen, Stamped, Below}
 use Rattle.sanity_verdicts.proofs.Scans.{first-next, first-stop, first-all, first-any, found-false}
@@ -147,7 +148,6 @@ unfolding atVertex
 some-edges list len v f = ap (λ (t : Bool). cond t (NoEdges (vertexNumbered v)) (twice list v)) (sym (ne-eqb len 0 f))
 
 -- the finding at vertex v, from where its list starts and its length
-pub vertex-is : (lengths numbers : List ℕ) (v : ℕ) {len start : ℕ} {r : Verdict} → len ≡ getD lengths v 0 → start ≡ total (take v lengths)
+pub vertex-is : (lengths numbers : List ℕ) (v : ℕ) {len start : ℕ} {r : Verdict} → len ≡ getD lengths v 0 → start ≡ sumTo v lengths
     → r ≡ atVertex (part numbers start len) len v → r ≡ atVertex (listAt lengths numbers v) (getD lengths v 0) v
-unfolding listAt
 vertex-is lengths numbers v {len} {start} {r} p q e = e ∙ λ i. atVertex (take (p i) (drop (q i) numbers)) (p i) v

@@ -2,7 +2,8 @@
 ghost use mathlib.Core.Path.{_≡_};
 ghost use Prim.Native.Nat.{_+_, _<_, _≤_};
 ghost use lib.ListN.{length, getD, take, drop};
-ghost use Rattle.sanity_verdicts.specs.Sanity.{firstOf, twice, atVertex, listAt, total};
+ghost use Rattle.sanity_verdicts.specs.Sanity.{firstOf, twice, atVertex};
+ghost use Rattle.columns_neighbors.specs.Lists.{sumTo, listAt};
 ghost use Rattle.sanity_lists.specs.Steps.{Seen, Stamped, Below};
 use columns::EdgeIndex;
 use columns::VertexIndex;
@@ -83,7 +84,7 @@ fn at_vertex(numbers: &[u32], start: usize, len: usize, v: u32, mark: &mut [u32]
 
 // The first finding among n vertices; mark holds 0 alone.
 fn vertices_in(lengths: &[u32], numbers: &[u32], n: u32, mark: &mut [u32]) -> Verdict
-    requires { ⌜ (n ≤ length (now lengths)) × (total (take n (now lengths)) ≤ length (now numbers)) ⌝ }
+    requires { ⌜ (n ≤ length (now lengths)) × (sumTo n (now lengths) ≤ length (now numbers)) ⌝ }
     requires { ⌜ Below 0 (now mark) ⌝ }
     ensures { λ r. ⌜ r ≡ firstOf n (λ u. atVertex (listAt (now (lengths .entry)) (now (numbers .entry)) u) (getD (now (lengths .entry)) u 0) u) ⌝ }
 {
@@ -102,7 +103,7 @@ fn vertices_in(lengths: &[u32], numbers: &[u32], n: u32, mark: &mut [u32]) -> Ve
 }
 
 pub fn vertices_checked(lengths: &[u32], numbers: &[u32], n: u32) -> Verdict
-    requires { ⌜ (n ≤ length (now lengths)) × (total (take n (now lengths)) ≤ length (now numbers)) ⌝ }
+    requires { ⌜ (n ≤ length (now lengths)) × (sumTo n (now lengths) ≤ length (now numbers)) ⌝ }
     ensures { λ r. ⌜ r ≡ firstOf n (λ u. atVertex (listAt (now (lengths .entry)) (now (numbers .entry)) u) (getD (now (lengths .entry)) u 0) u) ⌝ }
 {
     let mut mark = [0u32; 32768];

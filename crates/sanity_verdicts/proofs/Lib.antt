@@ -1,3 +1,2 @@
--- Scans: the first finding. Sums: sums of list lengths.
+-- Scans: the first finding.
 pub mod Scans
-pub mod Sums

@@ -1,15 +1,17 @@
 -- The verdict of sanity_check, as the Rust gives it.
-use Prim.Native.Nat.{ℕ, zero, suc, _+_, _*_}
+use Prim.Native.Nat.{ℕ, zero, suc}
 use mathlib.Core.Path.{_≡_}
 use mathlib.Core.Bool.{Bool, _&&_, _||_, cond}
-use mathlib.Core.List.{List, [], _∷_}
+use mathlib.Core.List.{List}
 use lib.Dec.{eqb, leb}
-use lib.ListN.{length, getD, take, drop}
+use lib.ListN.{length, getD}
 use Rattle.columns.specs.Questions.{ask}
 use Rattle.columns_answers.specs.Said.{Said, accepts, refuses, Answered}
 use Rattle.columns.specs.declared.EdgeIndex.{EdgeIndex}
 use Rattle.columns.specs.declared.VertexIndex.{VertexIndex}
 use Rattle.columns_pairs.specs.Pairs.{samePair}
+use Rattle.columns_neighbors.specs.Lists.{listAt}
+use Rattle.columns_room.specs.Room.{twoLong, listsLong}
 use Rattle.sanity_verdicts.specs.declared.Verdict.{Verdict}
 use Rattle.sanity_verdicts.specs.declared.Verdict.the-variants.{Sound, Empty, DuplicateEdge, NoEdges, EdgeTwice, Refused}
 
@@ -62,15 +64,6 @@ duplicate a b k = firstOf k (λ j. foundIf (samePair a b j k) (DuplicateEdge (ed
 
 -- ---- the vertices, in order
 
--- Questions at the door, 6, the list lengths' sum: the sum of a list.
-unfoldable pub total : List ℕ → ℕ
-total [] = 0
-total (x ∷ xs) = x + total xs
-
--- Records, on neighbour lists: the list of vertex v; the lists stand one after another.
-unfoldable pub listAt : (lengths numbers : List ℕ) (v : ℕ) → List ℕ
-listAt lengths numbers v = take (getD lengths v 0) (drop (total (take v lengths)) numbers)
-
 -- Six builders, sanity_check, sentence 1, verdict 4: the first number of a list that stands there before: that edge and the vertex.
 unfoldable pub twice : (list : List ℕ) (v : ℕ) → Verdict
 twice list v = firstOf (length list) (λ i. firstOf i (λ j. foundIf (eqb (getD list j 0) (getD list i 0)) (EdgeTwice (edgeNumbered (getD list i 0)) (vertexNumbered v))))
@@ -90,9 +83,7 @@ verdict v e a b lengths numbers =
 -- Questions at the door, 6: ends as long as the edges, list lengths as long as the vertices,
 -- neighbour numbers as long as twice the edges and as the sum of the list lengths.
 unfoldable pub sanityLong : (v e : ℕ) (a b lengths numbers : List ℕ) → Bool
-sanityLong v e a b lengths numbers =
-    (leb e (length a) && (leb e (length b) && leb v (length lengths)))
-    && (leb (2 * e) (length numbers) && leb (total (take v lengths)) (length numbers))
+sanityLong v e a b lengths numbers = (twoLong e (length a) (length b) && leb v (length lengths)) && listsLong v e lengths numbers
 
 -- Six builders, sanity_check; Questions at the door, 7, last sentence: only 6 is asked;
 -- the call's case, and in document 01's numbers the question, the verdict and its values.

@@ -8,7 +8,7 @@ use Rattle.columns_room.proofs.edge_columns_long.Tie as tie
 
 returns : tie.Need-returns
 unfolding edgeColumnsLong
-returns c = c .both2 .ensures ∙ (λ i. (c .before .before .before .before .at-most .ensures) i && (c .before .both .ensures ∙ (λ i. (c .before .before .before .at-most2 .ensures) i && (c .before .before .at-most3 .ensures) i)) i)
+returns c = c .both .ensures ∙ (λ i. (c .before .before .two-long .ensures) i && (c .before .at-most .ensures) i)
 
 pub edge-columns-long-spec : {M : Type 1} → statement M
-edge-columns-long-spec = tie.close (tie.spec (λ c κs. tt) (λ c κs. tt) (λ c. search needs) (λ c κs. tt) (λ c κs. tt) (λ c κs. tt) returns)
+edge-columns-long-spec = tie.close (tie.spec (λ c κs. tt) (λ c. search needs) (λ c κs. tt) (λ c κs. tt) returns)

@@ -4,11 +4,6 @@ use Rattle.reorder_calls.proofs.Accepting.{build-met, built-refused, bu
 use borrow.Author.Needs.{needs}
 use Rattle.reorder_calls.proofs.build_old_to_new.Statement.{statement}
 use Rattle.reorder_calls.proofs.build_old_to_new.Tie as tie
-use Rattle.reorder_calls.proofs.build_old_to_new.Reads as reads
-use Rattle.reorder_calls.proofs.build_old_to_new.Lts as lts
-use Rattle.columns.proofs.done_of.Reads as done-of-reads
-use Rattle.reorder_calls.proofs.build_refusal.Reads as build-refusal-reads
-use Rattle.reorder_orders.proofs.place_numbers.Reads as place-numbers-reads
 
 returns : tie.Need-returns
 returns c = let a = c .before .before .before .before .before .before .args in built-refused (a .order .now) (a .column .now) (c .before .before .build-refusal .ensures) (c .before .if1 .taken) (c .done-of .ensures)

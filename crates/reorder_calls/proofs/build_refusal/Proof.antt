@@ -5,10 +5,6 @@ use Rattle.reorder_calls.proofs.Accepting.{build-6, build-11, build-on}
 use borrow.Author.Needs.{needs}
 use Rattle.reorder_calls.proofs.build_refusal.Statement.{statement}
 use Rattle.reorder_calls.proofs.build_refusal.Tie as tie
-use Rattle.reorder_calls.proofs.build_refusal.Reads as reads
-use Rattle.reorder_calls.proofs.build_refusal.Lts as lts
-use Rattle.columns.proofs.questions.each_below.Reads as each-below-reads
-use Rattle.reorder_orders.proofs.order_questions.Reads as order-questions-reads
 
 returns : tie.Need-returns
 returns c = let a = c .before .before .before .args in build-6 (a .order .now) (a .column .now) (omega arith)

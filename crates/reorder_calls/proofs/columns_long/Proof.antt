@@ -4,13 +4,6 @@ use mathlib.Core.Path.{_∙_}
 use Rattle.reorder_calls.specs.Columns.{reorderLong}
 use Rattle.reorder_calls.proofs.columns_long.Statement.{statement}
 use Rattle.reorder_calls.proofs.columns_long.Tie as tie
-use Rattle.reorder_calls.proofs.columns_long.Reads as reads
-use Rattle.reorder_calls.proofs.columns_long.Lts as lts
-use Rattle.columns.proofs.questions.both.Reads as both-reads
-use Rattle.reorder_calls.proofs.ends_long.Reads as ends-long-reads
-use Rattle.reorder_calls.proofs.lists_long.Reads as lists-long-reads
-use Rattle.reorder_calls.proofs.positions_long.Reads as positions-long-reads
-use Rattle.reorder_calls.proofs.vertex_long.Reads as vertex-long-reads
 
 returns : tie.Need-returns
 unfolding reorderLong

@@ -4,11 +4,6 @@ use mathlib.Core.Path.{_∙_}
 use Rattle.reorder_calls.specs.Columns.{reorderSound}
 use Rattle.reorder_calls.proofs.columns_sound.Statement.{statement}
 use Rattle.reorder_calls.proofs.columns_sound.Tie as tie
-use Rattle.reorder_calls.proofs.columns_sound.Reads as reads
-use Rattle.reorder_calls.proofs.columns_sound.Lts as lts
-use Rattle.columns.proofs.questions.both.Reads as both-reads
-use Rattle.columns.proofs.questions.marks_sound.Reads as marks-sound-reads
-use Rattle.sampling_calls.proofs.questions.code_sound.Reads as code-sound-reads
 
 returns : tie.Need-returns
 unfolding reorderSound

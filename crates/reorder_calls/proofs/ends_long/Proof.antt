@@ -4,10 +4,6 @@ use mathlib.Core.Path.{_∙_}
 use Rattle.reorder_calls.specs.Columns.{endsLong}
 use Rattle.reorder_calls.proofs.ends_long.Statement.{statement}
 use Rattle.reorder_calls.proofs.ends_long.Tie as tie
-use Rattle.reorder_calls.proofs.ends_long.Reads as reads
-use Rattle.reorder_calls.proofs.ends_long.Lts as lts
-use Rattle.columns.proofs.questions.at_most.Reads as at-most-reads
-use Rattle.columns.proofs.questions.both.Reads as both-reads
 
 returns : tie.Need-returns
 unfolding endsLong

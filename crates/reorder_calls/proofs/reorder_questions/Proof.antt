@@ -3,9 +3,6 @@ use borrow.Author.Tests.{not-true, not-false}
 use Rattle.reorder_orders.proofs.Asking.{stops, passes}
 use Rattle.reorder_calls.proofs.reorder_questions.Statement.{statement}
 use Rattle.reorder_calls.proofs.reorder_questions.Tie as tie
-use Rattle.reorder_calls.proofs.reorder_questions.Reads as reads
-use Rattle.reorder_calls.proofs.reorder_questions.Lts as lts
-use Rattle.reorder_calls.proofs.vertex_order_questions.Reads as vertex-order-questions-reads
 
 returns : tie.Need-returns
 returns c = stops (c .before .before .args .long) 6 _ (not-true _ (c .if1 .taken))

@@ -5,11 +5,6 @@ use Rattle.reorder_calls.specs.Columns.{reorderRefusal}
 use Rattle.reorder_calls.proofs.Accepting.{sound-few}
 use Rattle.reorder_calls.proofs.reorder_refusal.Statement.{statement}
 use Rattle.reorder_calls.proofs.reorder_refusal.Tie as tie
-use Rattle.reorder_calls.proofs.reorder_refusal.Reads as reads
-use Rattle.reorder_calls.proofs.reorder_refusal.Lts as lts
-use Rattle.reorder_calls.proofs.columns_long.Reads as columns-long-reads
-use Rattle.reorder_calls.proofs.columns_sound.Reads as columns-sound-reads
-use Rattle.reorder_calls.proofs.reorder_questions.Reads as reorder-questions-reads
 
 reorder-questions-requires : tie.Need-reorder-questions-requires
 reorder-questions-requires c κs =

@@ -3,21 +3,14 @@ use mathlib.Core.Path.{_≡_, sym, ap, _∙_}
 use Prim.Native.Nat.{ℕ, _≤_, _<_}
 use native.Mathlib.Omega.{arith}
 use lib.ListN.{length}
-use Rattle.columns_neighbors.specs.Steps.{sumTo}
+use Rattle.columns_neighbors.specs.Lists.{sumTo}
 use Rattle.reorder_calls.specs.Columns.{ReorderColumns, reorderColumns, reorderRefusal}
 use Rattle.reorder_calls.proofs.Accepting.{ReorderMet, reorder-met, reordered-refused, reordered-accepted}
 use borrow.Author.Needs.{needs}
 use Rattle.reorder_calls.proofs.reorder_vertices.Statement.{statement}
 use Rattle.reorder_calls.proofs.reorder_vertices.Tie as tie
-use Rattle.reorder_calls.proofs.reorder_vertices.Reads as reads
-use Rattle.reorder_calls.proofs.reorder_vertices.Lts as lts
-use Rattle.columns.proofs.done_of.Reads as done-of-reads
-use Rattle.reorder_calls.proofs.lists.move_lists.Reads as move-lists-reads
-use Rattle.reorder_columns.proofs.move_positions.Reads as move-positions-reads
 use Rattle.reorder_columns.proofs.move_u32.Reads as move-u32-reads
 use Rattle.reorder_columns.proofs.move_u8.Reads as move-u8-reads
-use Rattle.reorder_orders.proofs.rename_ends.Reads as rename-ends-reads
-use Rattle.reorder_calls.proofs.reorder_refusal.Reads as reorder-refusal-reads
 
 returns : tie.Need-returns
 returns c =

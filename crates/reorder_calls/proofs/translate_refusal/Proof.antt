@@ -9,11 +9,6 @@ use Rattle.reorder_calls.proofs.Accepting.{translate-6, translate-11, t
 use borrow.Author.Needs.{needs}
 use Rattle.reorder_calls.proofs.translate_refusal.Statement.{statement}
 use Rattle.reorder_calls.proofs.translate_refusal.Tie as tie
-use Rattle.reorder_calls.proofs.translate_refusal.Reads as reads
-use Rattle.reorder_calls.proofs.translate_refusal.Lts as lts
-use Rattle.columns.proofs.questions.both.Reads as both-reads
-use Rattle.columns.proofs.questions.each_below.Reads as each-below-reads
-use Rattle.reorder_orders.proofs.order_questions.Reads as order-questions-reads
 
 returns : tie.Need-returns
 returns c = let a = c .before .before .before .before .args in translate-6 (a .order .now) (a .list .now) (a .column .now) (omega arith)

@@ -4,10 +4,6 @@ use Rattle.reorder_calls.proofs.Accepting.{TranslateMet, translate-met,
 use borrow.Author.Needs.{needs}
 use Rattle.reorder_calls.proofs.translated_defect_to_reordered.Statement.{statement}
 use Rattle.reorder_calls.proofs.translated_defect_to_reordered.Tie as tie
-use Rattle.reorder_calls.proofs.translated_defect_to_reordered.Reads as reads
-use Rattle.reorder_calls.proofs.translated_defect_to_reordered.Lts as lts
-use Rattle.reorder_orders.proofs.translate.Reads as translate-reads
-use Rattle.reorder_calls.proofs.translate_refusal.Reads as translate-refusal-reads
 
 translate-requires : tie.Need-translate-requires
 translate-requires c κs =

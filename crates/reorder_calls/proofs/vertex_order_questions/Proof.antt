@@ -6,10 +6,6 @@ use Rattle.columns.specs.Questions.{allBelow}
 use Rattle.reorder_calls.proofs.Accepting.{order-stops, order-on}
 use Rattle.reorder_calls.proofs.vertex_order_questions.Statement.{statement}
 use Rattle.reorder_calls.proofs.vertex_order_questions.Tie as tie
-use Rattle.reorder_calls.proofs.vertex_order_questions.Reads as reads
-use Rattle.reorder_calls.proofs.vertex_order_questions.Lts as lts
-use Rattle.columns.proofs.questions.each_below.Reads as each-below-reads
-use Rattle.reorder_orders.proofs.order_questions.Reads as order-questions-reads
 
 returns : tie.Need-returns
 returns c = let a = c .before .before .args in order-stops (a .vertex-num) (a .order .now) (c .if1 .taken)

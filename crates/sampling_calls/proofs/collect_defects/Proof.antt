@@ -5,17 +5,13 @@ use Prim.Native.Nat.{ℕ, _≤_, _<_}
 use native.Mathlib.Omega.{arith}
 use lib.ListN.{length}
 use Rattle.columns.specs.Lists.{over}
-use Rattle.sampling_calls.specs.Records.{CodeGraph, codeGraph}
+use Rattle.columns_room.specs.Graph.{CodeGraph, codeGraph}
 use Rattle.columns_marks.specs.Marks.{listed}
 use Rattle.sampling_flips.proofs.Flipping.{length-flipEach}
 use Rattle.sampling_calls.proofs.Accepting.{listed-syndrome}
 use borrow.Author.Needs.{needs}
 use Rattle.sampling_calls.proofs.collect_defects.Statement.{statement}
 use Rattle.sampling_calls.proofs.collect_defects.Tie as tie
-use Rattle.sampling_calls.proofs.collect_defects.Reads as reads
-use Rattle.sampling_calls.proofs.collect_defects.Lts as lts
-use Rattle.sampling_flips.proofs.flip_all.Reads as flip-all-reads
-use Rattle.columns_marks.proofs.list_set.Reads as list-set-reads
 
 list-set-requires : tie.Need-list-set-requires
 list-set-requires c κs =

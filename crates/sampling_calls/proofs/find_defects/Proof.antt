@@ -5,9 +5,6 @@ use native.Mathlib.Omega.{arith}
 use borrow.Author.Needs.{needs}
 use Rattle.sampling_calls.proofs.find_defects.Statement.{statement}
 use Rattle.sampling_calls.proofs.find_defects.Tie as tie
-use Rattle.sampling_calls.proofs.find_defects.Reads as reads
-use Rattle.sampling_calls.proofs.find_defects.Lts as lts
-use Rattle.sampling_calls.proofs.collect_defects.Reads as collect-defects-reads
 
 collect-defects-requires : tie.Need-collect-defects-requires
 collect-defects-requires c κs =

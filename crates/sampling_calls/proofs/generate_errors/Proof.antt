@@ -4,7 +4,8 @@ use Prim.Native.Nat.{ℕ, _≤_, _<_}
 use native.Mathlib.Omega.{arith}
 use lib.ListN.{length, take}
 use lib.Seq.{length-take-le}
-use Rattle.sampling_calls.specs.Records.{CodeGraph, codeGraph, SyndromeColumns, syndromeColumns}
+use Rattle.columns_room.specs.Graph.{CodeGraph, codeGraph}
+use Rattle.sampling_calls.specs.Records.{SyndromeColumns, syndromeColumns}
 use Rattle.sampling_flips.specs.Flip.{flipEach}
 use Rattle.sampling_calls.specs.Errors.{errorsRefusal}
 use Rattle.sampling_flips.specs.Steps.{Fits}
@@ -13,11 +14,6 @@ use Rattle.sampling_calls.proofs.Accepting.{ErrorsMet, errors-met, fits
 use borrow.Author.Needs.{needs}
 use Rattle.sampling_calls.proofs.generate_errors.Statement.{statement}
 use Rattle.sampling_calls.proofs.generate_errors.Tie as tie
-use Rattle.sampling_calls.proofs.generate_errors.Reads as reads
-use Rattle.sampling_calls.proofs.generate_errors.Lts as lts
-use Rattle.sampling_calls.proofs.questions.errors_refusal.Reads as errors-refusal-reads
-use Rattle.sampling_flips.proofs.flip_all.Reads as flip-all-reads
-use Rattle.columns_marks.proofs.list_set.Reads as list-set-reads
 
 flip-all-requires : tie.Need-flip-all-requires
 flip-all-requires c κs =

@@ -5,7 +5,8 @@ use native.Mathlib.Omega.{arith}
 use lib.ListN.{length}
 use lib.Seq.{length-sets}
 use Rattle.sampling_generator.specs.Random.{seedFromU64}
-use Rattle.sampling_calls.specs.Records.{CodeGraph, codeGraph, SyndromeColumns, syndromeColumns}
+use Rattle.columns_room.specs.Graph.{CodeGraph, codeGraph}
+use Rattle.sampling_calls.specs.Records.{SyndromeColumns, syndromeColumns}
 use Rattle.sampling_edges.specs.Draws.{sampledErasures}
 use Rattle.sampling_calls.specs.Sampling.{samplingRefusal, sampledDefects}
 use Rattle.sampling_calls.proofs.Accepting.{fits-of, left-refused, left-accepted}
@@ -13,13 +14,8 @@ use Rattle.sampling_calls.proofs.Draws.{SamplingMet, sampling-met, samp
 use borrow.Author.Needs.{needs}
 use Rattle.sampling_calls.proofs.generate_random_errors.Statement.{statement}
 use Rattle.sampling_calls.proofs.generate_random_errors.Tie as tie
-use Rattle.sampling_calls.proofs.generate_random_errors.Reads as reads
-use Rattle.sampling_calls.proofs.generate_random_errors.Lts as lts
 use Rattle.columns_stores.proofs.fill_u8.Reads as fill-u8-reads
 use Rattle.sampling_generator.proofs.DeterministicRng.seed_from_u64.Reads as seed-from-u64-reads
-use Rattle.sampling_calls.proofs.questions.sampling_refusal.Reads as sampling-refusal-reads
-use Rattle.columns_marks.proofs.list_set.Reads as list-set-reads
-use Rattle.sampling_edges.proofs.sample_edges.Reads as sample-edges-reads
 
 sample-edges-requires : tie.Need-sample-edges-requires
 sample-edges-requires c κs =

@@ -1,14 +1,10 @@
 -- `sampling_calls::syndrome_of` meets its contract. Assumes nothing.
 use mathlib.Core.Path.{sym, _∙_}
-use Rattle.sampling_calls.specs.Records.{CodeGraph, codeGraph}
+use Rattle.columns_room.specs.Graph.{CodeGraph, codeGraph}
 use Rattle.sampling_calls.proofs.Accepting.{SyndromeMet, syndrome-met, syndrome-refused, syndrome-accepted}
 use borrow.Author.Needs.{needs}
 use Rattle.sampling_calls.proofs.syndrome_of.Statement.{statement}
 use Rattle.sampling_calls.proofs.syndrome_of.Tie as tie
-use Rattle.sampling_calls.proofs.syndrome_of.Reads as reads
-use Rattle.sampling_calls.proofs.syndrome_of.Lts as lts
-use Rattle.sampling_calls.proofs.questions.syndrome_refusal.Reads as syndrome-refusal-reads
-use Rattle.sampling_calls.proofs.find_defects.Reads as find-defects-reads
 
 find-defects-requires : tie.Need-find-defects-requires
 find-defects-requires c κs =

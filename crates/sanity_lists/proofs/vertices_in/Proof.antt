@@ -1,17 +1,18 @@
 -- `sanity_lists::vertices_in` meets its contract. Invariant: no finding at the first v vertices; start is where the list of v starts; no stamp is above v. Assumes nothing.
-use mathlib.Core.Path.{_≡_, sym, ap, _∙_}
+use mathlib.Core.Path.{_≡_, refl, sym, ap, _∙_}
 use mathlib.Core.List.{List}
 use Prim.Native.Nat.{ℕ, _+_, _-_, _≤_, _<_}
 use native.Mathlib.Omega.{arith}
-use lib.ListN.{length, getD, take}
+use lib.ListN.{length, getD}
 use borrow.Author.Tests.{not-true, not-false}
 use Rattle.sanity_verdicts.specs.declared.Verdict.{Verdict}
 use Rattle.sanity_verdicts.specs.declared.Verdict.the-variants.{Sound}
-use Rattle.sanity_verdicts.specs.Sanity.{firstOf, atVertex, listAt, total}
+use Rattle.sanity_verdicts.specs.Sanity.{firstOf, atVertex}
+use Rattle.columns_neighbors.specs.Lists.{sumTo, listAt}
 use Rattle.sanity_verdicts.specs.Steps.{isSound}
 use Rattle.sanity_lists.specs.Steps.{Below}
 use Rattle.sanity_verdicts.proofs.Scans.{sound-of, first-none, first-next, first-stop}
-use Rattle.sanity_verdicts.proofs.Sums.{total-none, total-more, total-part}
+use Rattle.columns_neighbors.proofs.Placing.{sum-more, sum-ascends}
 use Rattle.sanity_lists.proofs.Stamping.{vertex-is}
 use borrow.Author.Needs.{needs}
 use Rattle.sanity_lists.proofs.vertices_in.Statement.{statement}
@@ -22,20 +23,21 @@ abbrev finding : List ℕ → List ℕ → ℕ → Verdict
 finding lengths numbers u = atVertex (listAt lengths numbers u) (getD lengths u 0) u
 
 -- the list of vertex v ends within the column
-room : (lengths numbers : List ℕ) (n v : ℕ) {start len : ℕ} → v < n → n ≤ length lengths → total (take n lengths) ≤ length numbers → start ≡ total (take v lengths) → len ≡ getD lengths v 0 → start + len ≤ length numbers
-room lengths numbers n v h l t p q = omega (arith, total-more lengths v (omega arith), total-part lengths (v + 1) n (omega arith))
+room : (lengths numbers : List ℕ) (n v : ℕ) {start len : ℕ} → v < n → sumTo n lengths ≤ length numbers → start ≡ sumTo v lengths → len ≡ getD lengths v 0 → start + len ≤ length numbers
+room lengths numbers n v h t p q = omega (arith, sum-more v lengths, sum-ascends (v + 1) n lengths (omega arith))
 
 abbrev Inv-loop : tie.InvT-loop
 Inv-loop lengths numbers n mark₀ start₀ v₀ mark start v =
-    (v ≤ n) × Below v mark × (start ≡ total (take v lengths)) × (firstOf v (finding lengths numbers) ≡ Sound)
+    (v ≤ n) × Below v mark × (start ≡ sumTo v lengths) × (firstOf v (finding lengths numbers) ≡ Sound)
 
 abbrev μ-loop : tie.MeasureT-loop
 μ-loop lengths numbers n mark₀ start₀ v₀ mark start v = n - v
 
 loop-holds : tie.Need-loop-holds Inv-loop μ-loop
+unfolding sumTo
 loop-holds c =
     let s = c .before .before .before in
-    (omega arith, s .pre .1, sym (total-none (s .args .lengths .now)), first-none (finding (s .args .lengths .now) (s .args .numbers .now)))
+    (omega arith, s .pre .1, refl, first-none (finding (s .args .lengths .now) (s .args .numbers .now)))
 
 shared-slice-read-wide : tie.Need-shared-slice-read-wide Inv-loop μ-loop
 shared-slice-read-wide c = omega (arith, c .before .before .before .before .before .before .pre .0 .0)
@@ -44,7 +46,7 @@ at-vertex-requires : tie.Need-at-vertex-requires Inv-loop μ-loop
 at-vertex-requires c κs =
     let s = c .before .before .before .before .before .before .before .before in
     let l = c .before .before .before .before .loop in
-    ((room (s .args .lengths .now) (s .args .numbers .now) (s .args .n) (l .v) (omega arith) (s .pre .0 .0) (s .pre .0 .1) (l .inv .2) (c .before .wide .ensures .0), omega arith), l .inv .1)
+    ((room (s .args .lengths .now) (s .args .numbers .now) (s .args .n) (l .v) (omega arith) (s .pre .0 .1) (l .inv .2) (c .before .wide .ensures .0), omega arith), l .inv .1)
 
 same-length : tie.Need-same-length Inv-loop μ-loop
 same-length c = c .before .before .before .before .at-vertex .ensures .1 .len ∙ sym (c .before .before .before .before .before .before .before .before .before .before .before .before .before .pre .1 .len)
@@ -60,7 +62,7 @@ add-start : tie.Need-add-start Inv-loop μ-loop
 add-start c =
     let s = c .before .before .before .before .before .before .before .before .before .before .before .before .before in
     let l = c .before .before .before .before .before .before .before .before .before .loop in
-    omega (arith, room (s .args .lengths .now) (s .args .numbers .now) (s .args .n) (l .v) (omega arith) (s .pre .0 .0) (s .pre .0 .1) (l .inv .2) (c .before .before .before .before .before .before .wide .ensures .0))
+    omega (arith, room (s .args .lengths .now) (s .args .numbers .now) (s .args .n) (l .v) (omega arith) (s .pre .0 .1) (l .inv .2) (c .before .before .before .before .before .before .wide .ensures .0))
 
 loop-again : tie.Need-loop-again Inv-loop μ-loop
 loop-again c =
@@ -68,7 +70,7 @@ loop-again c =
     let l = c .before .before .before .before .before .before .before .before .before .loop in
     let is = vertex-is (s .args .lengths .now) (s .args .numbers .now) (l .v) (c .before .before .before .before .before .before .wide .ensures .0) (l .inv .2) (c .before .before .before .before .at-vertex .ensures .0) in
     let none = sym is ∙ sound-of _ (sym (c .before .is-sound .ensures) ∙ not-false _ (c .if1 .left)) in
-    (omega arith, c .before .before .before .before .at-vertex .ensures .1, omega (arith, l .inv .2, c .before .before .before .before .before .before .wide .ensures .0, total-more (s .args .lengths .now) (l .v) (omega (arith, s .pre .0 .0))), first-next (finding (s .args .lengths .now) (s .args .numbers .now)) (l .v) (l .inv .3) none)
+    (omega arith, c .before .before .before .before .at-vertex .ensures .1, omega (arith, l .inv .2, c .before .before .before .before .before .before .wide .ensures .0, sum-more (l .v) (s .args .lengths .now)), first-next (finding (s .args .lengths .now) (s .args .numbers .now)) (l .v) (l .inv .3) none)
 
 same-length-2 : tie.Need-same-length-2 Inv-loop μ-loop
 same-length-2 c = c .before .loop .inv .1 .len ∙ sym (c .before .before .before .before .before .pre .1 .len)

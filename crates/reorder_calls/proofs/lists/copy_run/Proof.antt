@@ -8,8 +8,6 @@ use lib.Seq.{sets}
 use Rattle.reorder_calls.proofs.Moving.{run-more}
 use Rattle.reorder_calls.proofs.lists.copy_run.Statement.{statement}
 use Rattle.reorder_calls.proofs.lists.copy_run.Tie as tie
-use Rattle.reorder_calls.proofs.lists.copy_run.Reads as reads
-use Rattle.reorder_calls.proofs.lists.copy_run.Lts as lts
 
 abbrev Inv-loop : tie.InvT-loop
 Inv-loop from start count to₀ at i₀ to i = (i ≤ count) × (to ≡ sets to₀ at (take i (drop start from))) × (length to ≡ length to₀)

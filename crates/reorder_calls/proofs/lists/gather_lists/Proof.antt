@@ -6,16 +6,11 @@ use native.Mathlib.Omega.{arith}
 use lib.ListN.{getD, length}
 use lib.Seq.{sets, length-sets}
 use Rattle.columns.specs.Lists.{joined}
-use Rattle.columns_neighbors.specs.Steps.{sumTo}
-use Rattle.reorder_calls.specs.Columns.{listAt}
+use Rattle.columns_neighbors.specs.Lists.{sumTo, listAt}
 use Rattle.reorder_orders.proofs.Permutation.{order-below}
 use Rattle.reorder_calls.proofs.Moving.{list-fits, list-room, lists-more, lists-count, lists-end}
 use Rattle.reorder_calls.proofs.lists.gather_lists.Statement.{statement}
 use Rattle.reorder_calls.proofs.lists.gather_lists.Tie as tie
-use Rattle.reorder_calls.proofs.lists.gather_lists.Reads as reads
-use Rattle.reorder_calls.proofs.lists.gather_lists.Lts as lts
-use Rattle.reorder_calls.proofs.lists.copy_run.Reads as copy-run-reads
-use Rattle.columns.proofs.wide.Reads as wide-reads
 
 abbrev Inv-loop : tie.InvT-loop
 Inv-loop order lengths starts from to₀ at₀ k₀ to at k = (k ≤ length order) × (at ≡ length (joined k (λ j. listAt lengths from (getD order j 0)))) × (to ≡ sets to₀ 0 (joined k (λ j. listAt lengths from (getD order j 0)))) × (length to ≡ length to₀)

@@ -4,14 +4,11 @@ use mathlib.Core.Path.{_≡_, refl, sym, ap, _∙_}
 use Prim.Native.Nat.{ℕ, _≤_, _<_, _-_, _+_}
 use native.Mathlib.Omega.{arith}
 use lib.ListN.{getD, length, length-set}
-use Rattle.columns_neighbors.specs.Steps.{sumTo}
+use Rattle.columns_neighbors.specs.Lists.{sumTo}
 use Rattle.columns_neighbors.proofs.Placing.{sum-more, sum-ascends}
 use Rattle.reorder_calls.proofs.Moving.{starts-more}
 use Rattle.reorder_calls.proofs.lists.list_starts.Statement.{statement}
 use Rattle.reorder_calls.proofs.lists.list_starts.Tie as tie
-use Rattle.reorder_calls.proofs.lists.list_starts.Reads as reads
-use Rattle.reorder_calls.proofs.lists.list_starts.Lts as lts
-use Rattle.columns.proofs.wide.Reads as wide-reads
 
 abbrev Inv-loop : tie.InvT-loop
 Inv-loop lengths n starts₀ sum₀ i₀ starts sum i = (i ≤ n) × (sum ≡ sumTo i lengths) × ((u : ℕ) → u < i → getD starts u 0 ≡ sumTo u lengths) × (length starts ≡ length starts₀)

@@ -11,11 +11,7 @@ use Rattle.reorder_calls.proofs.Moving.{lists-copy}
 use borrow.Author.Needs.{needs}
 use Rattle.reorder_calls.proofs.lists.move_lists_in.Statement.{statement}
 use Rattle.reorder_calls.proofs.lists.move_lists_in.Tie as tie
-use Rattle.reorder_calls.proofs.lists.move_lists_in.Reads as reads
-use Rattle.reorder_calls.proofs.lists.move_lists_in.Lts as lts
 use Rattle.columns_stores.proofs.copy_u32.Reads as copy-u32-reads
-use Rattle.reorder_calls.proofs.lists.gather_lists.Reads as gather-lists-reads
-use Rattle.reorder_calls.proofs.lists.list_starts.Reads as list-starts-reads
 
 gather-lists-requires : tie.Need-gather-lists-requires
 gather-lists-requires c κs =

@@ -4,11 +4,6 @@ use mathlib.Core.Path.{_∙_}
 use Rattle.sampling_calls.specs.Sampling.{probabilitiesSound}
 use Rattle.sampling_calls.proofs.questions.probabilities_sound.Statement.{statement}
 use Rattle.sampling_calls.proofs.questions.probabilities_sound.Tie as tie
-use Rattle.sampling_calls.proofs.questions.probabilities_sound.Reads as reads
-use Rattle.sampling_calls.proofs.questions.probabilities_sound.Lts as lts
-use Rattle.columns.proofs.questions.both.Reads as both-reads
-use Rattle.weights_questions.proofs.are_erasure_probabilities.Reads as are-erasure-probabilities-reads
-use Rattle.weights_questions.proofs.are_probabilities.Reads as are-probabilities-reads
 
 returns : tie.Need-returns
 unfolding probabilitiesSound

@@ -4,10 +4,6 @@ use mathlib.Core.Path.{_∙_}
 use Rattle.sampling_calls.specs.Records.{syndromeLong}
 use Rattle.sampling_calls.proofs.questions.syndrome_long.Statement.{statement}
 use Rattle.sampling_calls.proofs.questions.syndrome_long.Tie as tie
-use Rattle.sampling_calls.proofs.questions.syndrome_long.Reads as reads
-use Rattle.sampling_calls.proofs.questions.syndrome_long.Lts as lts
-use Rattle.columns.proofs.questions.at_most.Reads as at-most-reads
-use Rattle.columns.proofs.questions.both.Reads as both-reads
 
 returns : tie.Need-returns
 unfolding syndromeLong

@@ -5,14 +5,6 @@ use mathlib.Core.Path.{_∙_}
 use Rattle.sampling_calls.specs.Syndrome.{syndromeRefusal}
 use Rattle.sampling_calls.proofs.questions.syndrome_refusal.Statement.{statement}
 use Rattle.sampling_calls.proofs.questions.syndrome_refusal.Tie as tie
-use Rattle.sampling_calls.proofs.questions.syndrome_refusal.Reads as reads
-use Rattle.sampling_calls.proofs.questions.syndrome_refusal.Lts as lts
-use Rattle.columns.proofs.questions.asked.Reads as asked-reads
-use Rattle.columns.proofs.questions.at_most.Reads as at-most-reads
-use Rattle.columns.proofs.questions.both.Reads as both-reads
-use Rattle.columns.proofs.questions.each_below.Reads as each-below-reads
-use Rattle.sampling_calls.proofs.questions.code_sound.Reads as code-sound-reads
-use Rattle.sampling_calls.proofs.questions.graph_long.Reads as graph-long-reads
 
 returns : tie.Need-returns
 unfolding syndromeRefusal

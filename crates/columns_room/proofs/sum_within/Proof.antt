@@ -1,19 +1,15 @@
--- `reorder_calls::lists::sum_within` meets its contract: after i turns the sum is that of the first i lengths. Assumes nothing.
+-- `columns_room::sum_within` meets its contract: after i turns the sum is that of the first i lengths. Assumes nothing.
 use borrow.Author.Needs.{needs}
 use mathlib.Core.Path.{_≡_, refl, sym, ap, _∙_}
 use Prim.Native.Nat.{ℕ, _≤_, _<_, _-_, _+_, min}
 use native.Mathlib.Omega.{arith}
 use borrow.Author.Tests.{le-leb, lt-leb}
 use lib.ListN.{length}
-use Rattle.columns_neighbors.specs.Steps.{sumTo}
+use Rattle.columns_neighbors.specs.Lists.{sumTo}
 use Rattle.columns_neighbors.proofs.Placing.{sum-more, sum-ascends}
-use Rattle.reorder_calls.proofs.Moving.{sum-end}
-use Rattle.reorder_calls.proofs.lists.sum_within.Statement.{statement}
-use Rattle.reorder_calls.proofs.lists.sum_within.Tie as tie
-use Rattle.reorder_calls.proofs.lists.sum_within.Reads as reads
-use Rattle.reorder_calls.proofs.lists.sum_within.Lts as lts
-use Rattle.columns.proofs.questions.lesser.Reads as lesser-reads
-use Rattle.columns.proofs.wide.Reads as wide-reads
+use Rattle.columns_room.proofs.Sums.{sum-end}
+use Rattle.columns_room.proofs.sum_within.Statement.{statement}
+use Rattle.columns_room.proofs.sum_within.Tie as tie
 
 abbrev Inv-loop : tie.InvT-loop
 Inv-loop lengths n limit m sum₀ i₀ sum i = (i ≤ m) × (m ≡ min n (length lengths)) × (sum ≡ sumTo i lengths) × (sum ≤ limit)

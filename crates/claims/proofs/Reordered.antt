@@ -1,0 +1,101 @@
+-- Reordering keeps syndromes. Assumes nothing.
+use mathlib.Core.Path.{_≡_, refl, sym, ap, _∙_, subst}
+use mathlib.Core.Logic.{⊎-elim, _↔_}
+use mathlib.Core.Bool.{Bool, true, false, _&&_, cond}
+use mathlib.Core.List.{List, [], _∷_, List·Memᴰ, List·Memᴰ·not-nil, List·Memᴰ·append-cases, List·Memᴰ·eq-of-singleton, List·Memᴰ·head, Memᴰ·cast, Memᴰ·append-left, Memᴰ·append-right, Memᴰ·map, Memᴰ·of-map}
+use Prim.Native.Nat.{ℕ, zero, suc, _%_, _<_}
+use native.Mathlib.Decide.{ℕ-discrete}
+use native.Mathlib.Omega.{arith}
+use lib.ListN.{length, getD}
+use lib.Dec.{eqb}
+use borrow.Author.Tests.{eq-eqb, ne-eqb}
+use Rattle.columns.specs.Lists.{joined, when}
+use Rattle.columns.specs.declared.Done.{Done}
+use Rattle.columns_answers.specs.Done.{said}
+use Rattle.columns_neighbors.specs.Lists.{chosen}
+use Rattle.columns_room.specs.Graph.{CodeGraph, codeGraph}
+use Rattle.sampling_calls.specs.Syndrome.{hit, endsIn, isDefectOf, syndromeOf}
+use Rattle.reorder_orders.specs.Order.{newNumber, renamed}
+use Rattle.reorder_orders.proofs.Permutation.{order-below, new-below, new-of-old, new-differ}
+use Rattle.reorder_calls.specs.Columns.{ReorderColumns, ReorderedVertices}
+use Rattle.reorder_calls.proofs.Theorems.{Renumbered, renumbered}
+
+-- the numbers that pass a test, as a set
+chosen-in : (test : ℕ → Bool) (n x : ℕ) → x < n → test x ≡ true → List·Memᴰ x (chosen n test)
+unfolding chosen joined
+chosen-in test zero x h p = absurd (omega arith)
+chosen-in test (suc n) x h p = elim (ℕ-discrete x n) [
+  | yes q ↦ Memᴰ·append-right (chosen n test) (subst (λ (b : Bool). List·Memᴰ x (when b n)) (sym (ap test (sym q) ∙ p)) (List·Memᴰ·head q))
+  | no q ↦ Memᴰ·append-left (when (test n) n) (chosen-in test n x (omega arith) p)
+]
+
+chosen-out : (test : ℕ → Bool) (n x : ℕ) → List·Memᴰ x (chosen n test) → (x < n) × (test x ≡ true)
+unfolding chosen joined
+chosen-out test zero x m = absurd (List·Memᴰ·not-nil m)
+chosen-out test (suc n) x m = ⊎-elim
+    (λ (w : List·Memᴰ x (chosen n test)). let r = chosen-out test n x w in (omega (arith, r .0), r .1))
+    (λ (w : List·Memᴰ x (when (test n) n)). one (test n) refl w)
+    (List·Memᴰ·append-cases (chosen n test) m)
+  where
+    one : (b : Bool) → test n ≡ b → List·Memᴰ x (when b n) → (x < suc n) × (test x ≡ true)
+    one true p w = let q = List·Memᴰ·eq-of-singleton w in (omega arith, ap test q ∙ p)
+    one false p w = absurd (List·Memᴰ·not-nil w)
+
+module _ (v e : ℕ) (order : List ℕ) (before last : ReorderColumns) (r : Renumbered v e order before last) where
+  in-order : (u : ℕ) → u < v → u < length order
+  in-order u h = omega (arith, r .many)
+
+  new-in : (u : ℕ) → u < v → newNumber order u < v
+  new-in u h = omega (arith, new-below order (r .order-is) u (in-order u h), r .many)
+
+  same-old : (x y : ℕ) → x < v → y < v → newNumber order x ≡ newNumber order y → x ≡ y
+  same-old x y h g = new-differ order (r .order-is) x y (in-order x h) (in-order y g)
+
+  abbrev oldCode : CodeGraph
+  oldCode = codeGraph v e (before .endsA) (before .endsB) (before .boundary)
+
+  abbrev newCode : CodeGraph
+  newCode = codeGraph v e (last .endsA) (last .endsB) (last .boundary)
+
+  hit-new : (u x : ℕ) {x′ : ℕ} → u < v → x < v → x′ ≡ newNumber order x → hit (newNumber order u) x′ ≡ hit u x
+  hit-new u x {x′} h g p = elim (ℕ-discrete x u) [
+    | yes q ↦ ap (λ (t : Bool). cond t 1 0) (eq-eqb x′ (newNumber order u) (p ∙ ap (newNumber order) q) ∙ sym (eq-eqb x u q))
+    | no q ↦ ap (λ (t : Bool). cond t 1 0) (ne-eqb x′ (newNumber order u) (λ r. q (same-old x u g h (sym p ∙ r))) ∙ sym (ne-eqb x u q))
+  ]
+
+  ends-kept : (ks : List ℕ) (u : ℕ) → u < v → ((i : ℕ) → i < length ks → getD ks i 0 < e)
+      → endsIn (last .endsA) (last .endsB) ks (newNumber order u) ≡ endsIn (before .endsA) (before .endsB) ks u
+  unfolding endsIn
+  ends-kept [] u h named = refl
+  ends-kept (i ∷ ks) u h named =
+      let b : i < e = named 0 (omega arith) in
+      omega (arith, hit-new u (getD (before .endsA) i 0) h (r .in-a i b) (r .endsA-renamed i b), hit-new u (getD (before .endsB) i 0) h (r .in-b i b) (r .endsB-renamed i b), ends-kept ks u h (λ n l. named (suc n) (omega arith)))
+
+  defect-kept : (ks : List ℕ) (u : ℕ) → u < v → ((i : ℕ) → i < length ks → getD ks i 0 < e) → isDefectOf newCode ks (newNumber order u) ≡ isDefectOf oldCode ks u
+  unfolding isDefectOf
+  defect-kept ks u h named =
+      ap (λ (n : ℕ). eqb n 0 && eqb (endsIn (last .endsA) (last .endsB) ks (newNumber order u) % 2) 1) (r .boundary-kept u h)
+      ∙ ap (λ (n : ℕ). eqb (getD (before .boundary) u 0) 0 && eqb (n % 2) 1) (ends-kept ks u h named)
+
+  kept : (ks : List ℕ) → ((i : ℕ) → i < length ks → getD ks i 0 < e) → (x : ℕ)
+      → List·Memᴰ x (syndromeOf newCode ks) ↔ List·Memᴰ x (renamed order (syndromeOf oldCode ks))
+  unfolding syndromeOf
+  kept ks named x = (
+    (λ m.
+        let c = chosen-out (isDefectOf newCode ks) v x m in
+        let u = getD order x 0 in
+        let h : u < v = omega (arith, order-below order (r .order-is) x (in-order x (c .0)), r .many) in
+        let q : newNumber order u ≡ x = new-of-old order (r .order-is) x (in-order x (c .0)) in
+        Memᴰ·cast (sym q) (Memᴰ·map (newNumber order) (chosen-in (isDefectOf oldCode ks) v u h (sym (defect-kept ks u h named) ∙ ap (isDefectOf newCode ks) q ∙ c .1)))),
+    (λ m.
+        let w = Memᴰ·of-map (newNumber order) (chosen v (isDefectOf oldCode ks)) m in
+        let c = chosen-out (isDefectOf oldCode ks) v (w .0) (w .1) in
+        Memᴰ·cast (sym (w .2)) (chosen-in (isDefectOf newCode ks) v (newNumber order (w .0)) (new-in (w .0) (c .0)) (defect-kept ks (w .0) (c .0) named ∙ c .1))),
+  )
+
+-- the syndrome of a graph after an accepted reordering is the translated syndrome of the graph before it, as sets
+pub syndrome-kept : (v e : ℕ) (order : List ℕ) (before last : ReorderColumns) (answer : Done) → ReorderedVertices v e order before answer last → said answer .number ≡ 0
+    → (ks : List ℕ) → ((i : ℕ) → i < length ks → getD ks i 0 < e) → (x : ℕ)
+    → List·Memᴰ x (syndromeOf (codeGraph v e (last .endsA) (last .endsB) (last .boundary)) ks)
+    ↔ List·Memᴰ x (renamed order (syndromeOf (codeGraph v e (before .endsA) (before .endsB) (before .boundary)) ks))
+syndrome-kept v e order before last answer call accepted = kept v e order before last (renumbered v e order before last answer call accepted)

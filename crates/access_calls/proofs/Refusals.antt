@@ -2,16 +2,16 @@
 use mathlib.Core.Path.{_≡_, subst}
 use mathlib.Core.Bool.{Bool, _&&_}
 use mathlib.Core.List.{List}
-use Prim.Native.Nat.{ℕ, suc, _+_, _≤_, _<_}
+use Prim.Native.Nat.{ℕ, _≤_, _<_}
 use lib.ListN.{length, getD}
 use lib.Dec.{leb}
 use borrow.Author.Tests.{leb-true}
 use Rattle.columns.specs.Questions.{allBelow, halfWeightsSound}
 use Rattle.columns.proofs.Tests.{and-both, within-first, below-at}
-use Rattle.columns_neighbors.specs.Sound.{graphSound}
-use Rattle.columns_room.specs.Room.{threeLong}
+use Rattle.columns_room.specs.Graph.{codeGraph, codeSound}
+use Rattle.columns_room.specs.Room.{twoLong, threeLong}
 use Rattle.columns.proofs.Refusals.{met, goes-on}
-use Rattle.columns_room.proofs.Refusals.{both-long, three-long}
+use Rattle.columns_room.proofs.Refusals.{both-long, two-long, three-long}
 use Rattle.access_calls.specs.Calls.{Code, Initializer, initializerLong, initializerSound, initializerRefusal, Syndrome, setSyndromeRefusal, countsSound, getSyndromeRefusal, setMarksRefusal, SetMarks, getMarksRefusal, GotMarks}
 use Rattle.columns.specs.declared.Done.{Done}
 use Rattle.columns_answers.specs.declared.ListCount.{ListCount}
@@ -38,9 +38,8 @@ initializer-met v e c to z =
     let (q, r) = and-both (threeLong e (length (to .endsA)) (length (to .endsB)) (length (to .weight))) _ l₁ in
     let from = three-long e _ _ _ p in
     let into = three-long e _ _ _ q in
-    let last = both-long v (length (c .boundary)) v (length (to .virtual)) r in
-    let (g, s₁) = and-both (graphSound v e (c .endsA) (c .endsB)) _ sound in
-    let (h, m) = and-both (halfWeightsSound e (c .halfWeight)) _ s₁ in
+    let last = two-long v _ _ r in
+    let (g, h) = and-both (codeSound (codeGraph v e (c .endsA) (c .endsB) (c .boundary))) (halfWeightsSound e (c .halfWeight)) sound in
     record {
       a = from .0;
       b = from .1;
@@ -79,7 +78,7 @@ set-syndrome-met v e lists column z =
 -- ---- get_defect_vertices, get_erasures
 
 pub get-met : (sound : Bool) (n : ℕ) (column list : List ℕ) → getMarksRefusal sound n column list ≡ 0 → (n ≤ length column) × (n ≤ length list)
-get-met sound n column list z = both-long n _ n _ (met (leb n (length column) && leb n (length list)) 5 _ z)
+get-met sound n column list z = two-long n _ _ (met (twoLong n (length column) (length list)) 5 _ z)
 
 pub get-tested : {a b : Bool} {n : ℕ} {column before list : List ℕ} {answer : ListCount} → a ≡ b → GotMarks a n column before list answer → GotMarks b n column before list answer
 get-tested {a} {b} {n} {column} {before} {list} {answer} e s = subst (λ (t : Bool). GotMarks t n column before list answer) e s
@@ -87,9 +86,9 @@ get-tested {a} {b} {n} {column} {before} {list} {answer} e s = subst (λ (t : Bo
 -- ---- get_syndrome
 
 pub get-syndrome-met : (v e : ℕ) (column lists : Syndrome) → getSyndromeRefusal v e column lists ≡ 0
-    → ((v ≤ length (column .defects)) × (e ≤ length (column .erasures))) × ((v ≤ length (lists .defects)) × (e ≤ length (lists .erasures)))
+    → ((v ≤ length (column .defects)) × (v ≤ length (lists .defects))) × ((e ≤ length (column .erasures)) × (e ≤ length (lists .erasures)))
 get-syndrome-met v e column lists z =
-    let bytes = leb v (length (column .defects)) && leb e (length (column .erasures)) in
-    let rooms = leb v (length (lists .defects)) && leb e (length (lists .erasures)) in
-    let (p, q) = and-both bytes rooms (met (bytes && rooms) 5 _ z) in
-    (both-long v _ e _ p, both-long v _ e _ q)
+    let defects = twoLong v (length (column .defects)) (length (lists .defects)) in
+    let erasures = twoLong e (length (column .erasures)) (length (lists .erasures)) in
+    let (p, q) = and-both defects erasures (met (defects && erasures) 5 _ z) in
+    (two-long v _ _ p, two-long e _ _ q)

@@ -3,7 +3,6 @@ use Prim.Native.Nat.{ℕ}
 use mathlib.Core.Path.{_≡_}
 use mathlib.Core.Bool.{Bool, _&&_}
 use mathlib.Core.List.{List}
-use lib.Dec.{leb}
 use lib.ListN.{length, replicate}
 use lib.Ieee.{Float}
 use Rattle.columns.specs.Lists.{after}
@@ -12,11 +11,11 @@ use Rattle.columns_answers.specs.Said.{Answered}
 use Rattle.columns_answers.specs.Done.{said}
 use Rattle.columns.specs.Places.{zeroFloat}
 use Rattle.columns.specs.declared.Done.{Done}
-use Rattle.columns_room.specs.Room.{edgeColumnsLong}
+use Rattle.columns_room.specs.Room.{threeLong, edgeColumnsLong}
 use Rattle.columns_neighbors.specs.Lists.{lists, degrees}
 use Rattle.columns_neighbors.specs.Sound.{graphSound}
 
--- the vertex columns and the neighbour numbers
+-- Records, on vertices and on neighbour lists: the vertex columns and the neighbour numbers.
 pub record Vertices : Type 0 where
   pub i : List Float
   pub j : List Float
@@ -26,27 +25,28 @@ pub record Vertices : Type 0 where
   pub lengths : List ℕ
   pub numbers : List ℕ
 
+-- Records, on vertices and on neighbour lists: these columns together.
 abbrev pub vertices : List Float → List Float → List Float → List ℕ → List ℕ → List ℕ → List ℕ → Vertices
 vertices i j t boundary defect lengths numbers =
     record { i = i; j = j; t = t; boundary = boundary; defect = defect; lengths = lengths; numbers = numbers }
 
--- 6: vertex columns as long as the vertices
+-- Questions at the door, 6: vertex columns as long as the vertices.
 unfoldable pub vertexColumnsLong : ℕ → Vertices → Bool
 vertexColumnsLong v c =
-    (leb v (length (c .i)) && (leb v (length (c .j)) && leb v (length (c .t))))
-    && (leb v (length (c .boundary)) && (leb v (length (c .defect)) && leb v (length (c .lengths))))
+    threeLong v (length (c .i)) (length (c .j)) (length (c .t)) && threeLong v (length (c .boundary)) (length (c .defect)) (length (c .lengths))
 
--- questions 6 and 7, in order
+-- Questions at the door, 6 and 7, in order, of `fill_vertices`; the vertex columns are only written, so 7 asks the counts and the ends.
 abbrev pub fillRefusal : (v e : ℕ) (a b : List ℕ) → Vertices → ℕ
 fillRefusal v e a b c = ask (vertexColumnsLong v c && edgeColumnsLong e a b (c .numbers)) 6 (ask (graphSound v e a b) 7 0)
 
--- the call: its answer, and what stands in the columns that it writes, before it and afterwards
-pub record FilledVertices (v e : ℕ) (a b : List ℕ) (before column : Vertices) (answer : Done) : Type 0 where
-  pub answers : Answered (said answer) (fillRefusal v e a b before) tt tt
-  pub i-after : column .i ≡ after (fillRefusal v e a b before) (replicate v zeroFloat) (before .i)
-  pub j-after : column .j ≡ after (fillRefusal v e a b before) (replicate v zeroFloat) (before .j)
-  pub t-after : column .t ≡ after (fillRefusal v e a b before) (replicate v zeroFloat) (before .t)
-  pub boundary-after : column .boundary ≡ after (fillRefusal v e a b before) (replicate v 0) (before .boundary)
-  pub defect-after : column .defect ≡ after (fillRefusal v e a b before) (replicate v 0) (before .defect)
-  pub lengths-after : column .lengths ≡ after (fillRefusal v e a b before) (degrees a b e v) (before .lengths)
-  pub numbers-after : column .numbers ≡ after (fillRefusal v e a b before) (lists a b e v) (before .numbers)
+-- Taken over, the trait `ExampleCode`; Six builders, on new edges:
+-- new vertices at position 0, inner, without defect, and their neighbour lists; the answer, and each column afterwards.
+pub record FilledVertices (v e : ℕ) (a b : List ℕ) (c₀ c : Vertices) (answer : Done) : Type 0 where
+  pub answers : Answered (said answer) (fillRefusal v e a b c₀) tt tt
+  pub i-after : c .i ≡ after (fillRefusal v e a b c₀) (replicate v zeroFloat) (c₀ .i)
+  pub j-after : c .j ≡ after (fillRefusal v e a b c₀) (replicate v zeroFloat) (c₀ .j)
+  pub t-after : c .t ≡ after (fillRefusal v e a b c₀) (replicate v zeroFloat) (c₀ .t)
+  pub boundary-after : c .boundary ≡ after (fillRefusal v e a b c₀) (replicate v 0) (c₀ .boundary)
+  pub defect-after : c .defect ≡ after (fillRefusal v e a b c₀) (replicate v 0) (c₀ .defect)
+  pub lengths-after : c .lengths ≡ after (fillRefusal v e a b c₀) (degrees a b e v) (c₀ .lengths)
+  pub numbers-after : c .numbers ≡ after (fillRefusal v e a b c₀) (lists a b e v) (c₀ .numbers)

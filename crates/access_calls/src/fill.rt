@@ -9,11 +9,11 @@ ghost use Rattle.access_calls.specs.Fill.{vertices, vertexColumnsLong, f
 use columns::Done;
 use columns::done_of;
 use columns::questions::asked;
-use columns::questions::at_most;
 use columns::questions::both;
 use columns_neighbors::lists::fill_lists;
 use columns_neighbors::sound::graph_sound;
 use columns_room::edge_columns_long;
+use columns_room::three_long;
 use columns_stores::fill_f64;
 use columns_stores::fill_u8;
 
@@ -31,13 +31,9 @@ fn vertex_columns_long(
     ensures { λ r. ⌜ r ≡ vertexColumnsLong «vertex_num» (vertices (now («pos_i» .entry)) (now («pos_j» .entry)) (now («pos_t» .entry)) (now (boundary .entry)) (now (defect .entry)) (now («list_lengths» .entry)) (now («neighbor_numbers» .entry))) ⌝ }
 {
     let n = vertex_num as usize;
-    let i = at_most(n, pos_i.len());
-    let j = at_most(n, pos_j.len());
-    let t = at_most(n, pos_t.len());
-    let b = at_most(n, boundary.len());
-    let d = at_most(n, defect.len());
-    let l = at_most(n, list_lengths.len());
-    both(both(i, both(j, t)), both(b, both(d, l)))
+    let positions = three_long(n, pos_i.len(), pos_j.len(), pos_t.len());
+    let others = three_long(n, boundary.len(), defect.len(), list_lengths.len());
+    both(positions, others)
 }
 
 // The first question of fill_vertices that is not met, or 0.

@@ -12,7 +12,6 @@ use columns::done_of;
 use columns::questions::asked;
 use columns::questions::at_most;
 use columns::questions::both;
-use columns::questions::boundaries_sound;
 use columns::questions::each_below;
 use columns::questions::edge_count_sound;
 use columns::questions::half_weights_sound;
@@ -22,8 +21,9 @@ pub use columns_answers::ListCount;
 pub use columns_answers::SyndromeCounts;
 use columns_marks::list_set;
 use columns_marks::set_marks;
-use columns_neighbors::sound::graph_sound;
+use columns_room::code_sound;
 use columns_room::three_long;
+use columns_room::two_long;
 use columns_stores::copy_u32;
 pub use fill::fill_vertices;
 ghost use mathlib.Core.Path.{_≡_};
@@ -51,13 +51,12 @@ fn initializer_long(
     let e = edge_num as usize;
     let from = three_long(e, ends_a.len(), ends_b.len(), half_weight.len());
     let to = three_long(e, to_a.len(), to_b.len(), to_weight.len());
-    let bytes = at_most(n, boundary.len());
-    let list = at_most(n, to_virtual.len());
-    both(from, both(to, both(bytes, list)))
+    let vertices = two_long(n, boundary.len(), to_virtual.len());
+    both(from, both(to, vertices))
 }
 
 // Question 7 of get_initializer.
-fn code_sound(
+fn initializer_sound(
     vertex_num: u32,
     edge_num: u32,
     ends_a: &[u32],
@@ -67,10 +66,9 @@ fn code_sound(
 ) -> bool
     ensures { λ r. ⌜ r ≡ initializerSound «vertex_num» «edge_num» (code (now («ends_a» .entry)) (now («ends_b» .entry)) (now («half_weight» .entry)) (now (boundary .entry))) ⌝ }
 {
-    let graph = graph_sound(vertex_num, edge_num, ends_a, ends_b);
+    let code = code_sound(vertex_num, edge_num, ends_a, ends_b, boundary);
     let halves = half_weights_sound(half_weight, edge_num as usize);
-    let bytes = boundaries_sound(boundary, vertex_num as usize);
-    both(graph, both(halves, bytes))
+    both(code, halves)
 }
 
 // The first question of get_initializer that is not met, or 0.
@@ -102,7 +100,7 @@ fn initializer_refusal(
         to_weight,
         to_virtual,
     );
-    let sound = code_sound(vertex_num, edge_num, ends_a, ends_b, half_weight, boundary);
+    let sound = initializer_sound(vertex_num, edge_num, ends_a, ends_b, half_weight, boundary);
     asked(long, 6, asked(sound, 7, 0))
 }
 
@@ -239,10 +237,9 @@ pub fn set_syndrome(
 fn get_named(sound: bool, n: u32, column: &[u8], list: &mut [u32]) -> ListCount
     ensures { λ r. ⌜ GotMarks sound n (now (column .entry)) (now (list .entry)) (now (list .exit)) r ⌝ }
 {
-    let long_c = at_most(n as usize, column.len());
-    let long_l = at_most(n as usize, list.len());
+    let long = two_long(n as usize, column.len(), list.len());
     let bytes = marks_sound(column, n as usize);
-    let number = asked(both(long_c, long_l), 6, asked(both(sound, bytes), 7, 0));
+    let number = asked(long, 6, asked(both(sound, bytes), 7, 0));
     if number == 0 {
         return ListCount::Count(list_set(column, n, list));
     }
@@ -278,14 +275,11 @@ fn get_syndrome_refusal(
 {
     let n = vertex_num as usize;
     let e = edge_num as usize;
-    let bytes = both(at_most(n, defect.len()), at_most(e, erasure.len()));
-    let lists = both(
-        at_most(n, defect_list.len()),
-        at_most(e, erasure_list.len()),
-    );
+    let defects = two_long(n, defect.len(), defect_list.len());
+    let erasures = two_long(e, erasure.len(), erasure_list.len());
     let counts = counts_sound(vertex_num, edge_num);
     let marks = both(marks_sound(defect, n), marks_sound(erasure, e));
-    asked(both(bytes, lists), 6, asked(both(counts, marks), 7, 0))
+    asked(both(defects, erasures), 6, asked(both(counts, marks), 7, 0))
 }
 
 // The defects and the erasures, each ascending.

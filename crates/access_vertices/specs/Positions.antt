@@ -12,25 +12,27 @@ use Rattle.columns_answers.specs.Done.{said}
 use Rattle.columns.specs.declared.Done.{Done}
 use Rattle.columns_room.specs.Room.{threeLong}
 
--- the three columns of positions
+-- Records, on vertices: the three columns of positions.
 pub record Positions : Type 0 where
   pub i : List Float
   pub j : List Float
   pub t : List Float
 
+-- Records, on vertices: the three columns together.
 abbrev pub positions : List Float → List Float → List Float → Positions
 positions i j t = record { i = i; j = j; t = t }
 
+-- Questions at the door, 6: positions as long as the vertices.
 abbrev pub positionsLong : ℕ → Positions → Bool
 positionsLong v p = threeLong v (length (p .i)) (length (p .j)) (length (p .t))
 
--- questions 6 and 7, in order
+-- Questions at the door, 6 and 7, in order, of `get_positions`; 7 asks the count alone.
 abbrev pub positionsRefusal : ℕ → Positions → Positions → ℕ
 positionsRefusal v from to = ask (positionsLong v from && positionsLong v to) 6 (ask (vertexCountSound v) 7 0)
 
--- the call: its answer, and the columns that it copies into, before it and afterwards
-pub record GotPositions (v : ℕ) (from before column : Positions) (answer : Done) : Type 0 where
-  pub answers : Answered (said answer) (positionsRefusal v from before) tt tt
-  pub i-after : column .i ≡ after (positionsRefusal v from before) (take v (from .i)) (before .i)
-  pub j-after : column .j ≡ after (positionsRefusal v from before) (take v (from .j)) (before .j)
-  pub t-after : column .t ≡ after (positionsRefusal v from before) (take v (from .t)) (before .t)
+-- Taken over, the trait `ExampleCode`: the position of every vertex is copied; the answer, and the columns that it copies into afterwards.
+pub record GotPositions (v : ℕ) (from to₀ to : Positions) (answer : Done) : Type 0 where
+  pub answers : Answered (said answer) (positionsRefusal v from to₀) tt tt
+  pub i-after : to .i ≡ after (positionsRefusal v from to₀) (take v (from .i)) (to₀ .i)
+  pub j-after : to .j ≡ after (positionsRefusal v from to₀) (take v (from .j)) (to₀ .j)
+  pub t-after : to .t ≡ after (positionsRefusal v from to₀) (take v (from .t)) (to₀ .t)

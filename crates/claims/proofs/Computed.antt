@@ -3,7 +3,7 @@ use mathlib.Core.Path.{_≡_, refl, ap, _∙_}
 use mathlib.Core.Bool.{true, _&&_}
 use mathlib.Core.List.{List, [], _∷_, map}
 use mathlib.Core.Option.{Option, some}
-use Prim.Native.Nat.{ℕ, zero, suc, _^_, _≤_}
+use Prim.Native.Nat.{ℕ, zero, suc, _≤_}
 use native.Mathlib.Omega.{arith}
 use lib.ListN.{length, getD, take, replicate, getD-replicate, length-replicate}
 use lib.Dec.{leb}
@@ -31,6 +31,7 @@ use Rattle.weights_recipe.specs.Rounding.{halfWeight}
 use Rattle.weights_calls.proofs.Theorems.{zero-among}
 use Rattle.columns_pairs.specs.Pairs.{endsDiffer, pairsApart}
 use Rattle.columns_neighbors.specs.Sound.{endsInRange, graphSound, logSound}
+use Rattle.columns_room.specs.Room.{threeLong}
 use Rattle.engine_columns.specs.Questions.{columnsLong, engineLong, columnsSound, engineSound}
 use Rattle.engine_walks.specs.Settling as S
 use Rattle.engine_walks.specs.Settling.{firstLeast, start, changes, byStatus, offer, relaxEdge, relax, stopped, next, settle}
@@ -126,15 +127,15 @@ unfolding each firstLeast start changes byStatus offer relaxEdge relax S.takeVer
 crossing-3 = refl
 
 erased-2000 : crossingAfter (fed (loadErasures (1 ∷ [])) ∷ []) ≡ some 2000
-unfolding all
+unfolding all threeLong
 erased-2000 = ap (crossingOf (fed (loadErasures (1 ∷ [])) ∷ [])) columns ∙ by-parts (tallyAfter (fed (loadErasures (1 ∷ [])) ∷ []) (tallyOf 4 3 written)) (1000 ∷ 0 ∷ 1000 ∷ []) 2000 refl refl crossing-2000
 
 reset-3000 : crossingAfter (fed (loadErasures (1 ∷ [])) ∷ fed reset ∷ []) ≡ some 3000
-unfolding all
+unfolding all threeLong
 reset-3000 = ap (crossingOf (fed (loadErasures (1 ∷ [])) ∷ fed reset ∷ [])) columns ∙ by-parts (tallyAfter (fed (loadErasures (1 ∷ [])) ∷ fed reset ∷ []) (tallyOf 4 3 written)) (1000 ∷ 1000 ∷ 1000 ∷ []) 3000 refl refl crossing-3000
 
 ones-3 : crossingAfter (fed (loadWeights (0 ∷ 1 ∷ 2 ∷ []) (1 ∷ 1 ∷ 1 ∷ [])) ∷ []) ≡ some 3
-unfolding all
+unfolding all threeLong
 ones-3 = ap (crossingOf (fed (loadWeights (0 ∷ 1 ∷ 2 ∷ []) (1 ∷ 1 ∷ 1 ∷ [])) ∷ [])) columns ∙ by-parts (tallyAfter (fed (loadWeights (0 ∷ 1 ∷ 2 ∷ []) (1 ∷ 1 ∷ 1 ∷ [])) ∷ []) (tallyOf 4 3 written)) (1 ∷ 1 ∷ 1 ∷ []) 3 refl refl crossing-3
 
 -- ---- the questions of a path from 2 to 2
@@ -143,14 +144,14 @@ abbrev engineOf : GraphColumns → Engine
 engineOf c = engine (counts 4 3 0) (c .endsA) (c .endsB) (c .weights) (c .boundary) (0 ∷ 0 ∷ 0 ∷ []) (0 ∷ 0 ∷ 0 ∷ [])
 
 refusal-0 : pathAsked (engineOf written) true 3 2 4 4 ≡ 0
-unfolding all every endsDiffer pairsApart endsInRange graphSound logSound columnsLong engineLong columnsSound engineSound
+unfolding all every endsDiffer pairsApart endsInRange graphSound logSound threeLong columnsLong engineLong columnsSound engineSound
 refusal-0 = refl
 
 asked-0 : pathAsked listingEngine true 3 2 4 4 ≡ 0
 asked-0 = (λ i. pathAsked (engineOf (columns i)) true 3 2 4 4) ∙ refusal-0
 
 refusal-16 : pathAsked (engineOf written) true 2 2 4 4 ≡ 16
-unfolding all every endsDiffer pairsApart endsInRange graphSound logSound columnsLong engineLong columnsSound engineSound
+unfolding all every endsDiffer pairsApart endsInRange graphSound logSound threeLong columnsLong engineLong columnsSound engineSound
 refusal-16 = refl
 
 sixteen : pathRefusal (pathAsked listingEngine true 2 2 4 4) (path (Q.graphIn listingEngine) (Q.weightsIn listingEngine) 2 2) ≡ 16
@@ -158,7 +159,7 @@ sixteen = (λ i. pathRefusal (pathAsked (engineOf (columns i)) true 2 2 4 4) (pa
     ∙ (λ i. pathRefusal (refusal-16 i) (path (Q.graphIn listingEngine) (Q.weightsIn listingEngine) 2 2))
 
 pub starred : StarredExamples
-unfolding edgesOf layered each joined rows width layerEdges gapEdges rotatedLayer rotatedRow rotatedEdge rotatedPlace rotatedGap straightRows straightEdges rowEdges planarLayer planarRow planarGap circuitGap circuitRow circuitCell verticesOf layerVertices vertexOf rotatedVertex rotatedBoundary layerVertexNum layerEdgeNum gapEdgeNum kindKnown distanceSound roundsSound codeRefusal all every endsDiffer pairsApart endsInRange graphSound logSound columnsLong engineLong columnsSound engineSound firstLeast start changes byStatus offer relaxEdge relax S.takeVertex stopped next settle readBack stepInto pathIn path fromLeft nearestRight crossing
+unfolding edgesOf layered each joined rows width layerEdges gapEdges rotatedLayer rotatedRow rotatedEdge rotatedPlace rotatedGap straightRows straightEdges rowEdges planarLayer planarRow planarGap circuitGap circuitRow circuitCell verticesOf layerVertices vertexOf rotatedVertex rotatedBoundary layerVertexNum layerEdgeNum gapEdgeNum kindKnown distanceSound roundsSound codeRefusal all every endsDiffer pairsApart endsInRange graphSound logSound threeLong columnsLong engineLong columnsSound engineSound firstLeast start changes byStatus offer relaxEdge relax S.takeVertex stopped next settle readBack stepInto pathIn path fromLeft nearestRight crossing
 starred = record {
   kind-5-edges = refl;
   kind-5-boundary = refl;

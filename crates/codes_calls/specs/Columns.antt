@@ -7,6 +7,7 @@ use lib.Ieee.{Float}
 use Rattle.columns.specs.Lists.{after}
 unfoldable pub use Rattle.columns_room.specs.Room.{longEnough}
 
+-- Records, on vertices, edges and neighbour lists: the columns of a code.
 pub record CodeColumns : Type 0 where
   -- edge columns
   pub endsA : List ℕ
@@ -25,28 +26,30 @@ pub record CodeColumns : Type 0 where
   -- the neighbour lists, one after another
   pub neighborNumbers : List ℕ
 
--- the least of six lengths
+-- The least of six lengths.
 abbrev pub shortest : (a b c d e f : ℕ) → ℕ
 shortest a b c d e f = min a (min b (min c (min d (min e f))))
 
+-- Questions at the door, 6: the length of the shortest edge column.
 abbrev pub edgeRoom : CodeColumns → ℕ
 edgeRoom c = shortest (length (c .endsA)) (length (c .endsB)) (length (c .p)) (length (c .pe)) (length (c .halfWeight)) (length (c .erasure))
 
+-- Questions at the door, 6: the length of the shortest vertex column.
 abbrev pub vertexRoom : CodeColumns → ℕ
 vertexRoom c = shortest (length (c .posI)) (length (c .posJ)) (length (c .posT)) (length (c .boundary)) (length (c .defect)) (length (c .listLengths))
 
--- the columns as they were lent and as they are handed back; q is the question's number, and `new` what is written where it is 0
-pub record HandedBack (q : ℕ) (new lent back : CodeColumns) : Type 0 where
-  pub ends-a : back .endsA ≡ after q (new .endsA) (lent .endsA)
-  pub ends-b : back .endsB ≡ after q (new .endsB) (lent .endsB)
-  pub p : back .p ≡ after q (new .p) (lent .p)
-  pub pe : back .pe ≡ after q (new .pe) (lent .pe)
-  pub half-weight : back .halfWeight ≡ after q (new .halfWeight) (lent .halfWeight)
-  pub erasure : back .erasure ≡ after q (new .erasure) (lent .erasure)
-  pub pos-i : back .posI ≡ after q (new .posI) (lent .posI)
-  pub pos-j : back .posJ ≡ after q (new .posJ) (lent .posJ)
-  pub pos-t : back .posT ≡ after q (new .posT) (lent .posT)
-  pub boundary : back .boundary ≡ after q (new .boundary) (lent .boundary)
-  pub defect : back .defect ≡ after q (new .defect) (lent .defect)
-  pub list-lengths : back .listLengths ≡ after q (new .listLengths) (lent .listLengths)
-  pub neighbor-numbers : back .neighborNumbers ≡ after q (new .neighborNumbers) (lent .neighborNumbers)
+-- Questions at the door, sentence 2: the columns of a code before a call and afterwards; q is the question's number, and `new` what is written where it is 0.
+pub record HandedBack (q : ℕ) (new c₀ c : CodeColumns) : Type 0 where
+  pub ends-a : c .endsA ≡ after q (new .endsA) (c₀ .endsA)
+  pub ends-b : c .endsB ≡ after q (new .endsB) (c₀ .endsB)
+  pub p : c .p ≡ after q (new .p) (c₀ .p)
+  pub pe : c .pe ≡ after q (new .pe) (c₀ .pe)
+  pub half-weight : c .halfWeight ≡ after q (new .halfWeight) (c₀ .halfWeight)
+  pub erasure : c .erasure ≡ after q (new .erasure) (c₀ .erasure)
+  pub pos-i : c .posI ≡ after q (new .posI) (c₀ .posI)
+  pub pos-j : c .posJ ≡ after q (new .posJ) (c₀ .posJ)
+  pub pos-t : c .posT ≡ after q (new .posT) (c₀ .posT)
+  pub boundary : c .boundary ≡ after q (new .boundary) (c₀ .boundary)
+  pub defect : c .defect ≡ after q (new .defect) (c₀ .defect)
+  pub list-lengths : c .listLengths ≡ after q (new .listLengths) (c₀ .listLengths)
+  pub neighbor-numbers : c .neighborNumbers ≡ after q (new .neighborNumbers) (c₀ .neighborNumbers)

@@ -13,20 +13,21 @@ use Rattle.codes_calls.specs.declared.Created.{Created}
 use Rattle.codes_calls.specs.declared.Created.the-variants.{Code, Refused}
 use Rattle.codes_calls.specs.Columns.{CodeColumns, edgeRoom, vertexRoom, longEnough, HandedBack}
 
--- document 01's number for each case, and the values: 0 where the call was refused
+-- Expected forms by place, last paragraph: document 01's number and values for each case of `Created`; the values are how many vertices and how many edges.
 abbrev pub said : Created → Said (ℕ × ℕ)
 said (Code vertices edges) = accepts (vertices, edges)
 said (Refused number) = refuses number (0, 0)
 
--- questions 2 to 6 in order: the number of the first that is answered no, 0 if there is none
+-- Questions at the door, 2 to 6, in order, of `create_code`, by the columns' lengths.
 unfoldable pub createRefusal : (kind d rounds vertexRoom edgeRoom numbers : ℕ) → ℕ
 createRefusal kind d rounds vertexRoom edgeRoom numbers =
     codeRefusal kind d rounds (ask (longEnough (vertexNum kind d rounds) (edgeNum kind d rounds) vertexRoom edgeRoom numbers) 6 0)
 
+-- Questions at the door, 2 to 6, in order, of `create_code`.
 abbrev pub refusalIn : (kind d rounds : ℕ) → CodeColumns → ℕ
 refusalIn kind d rounds c = createRefusal kind d rounds (vertexRoom c) (edgeRoom c) (length (c .neighborNumbers))
 
--- the columns of a new code: p, pe, half weight and erasure 0, no defect, neighbour lists in vertex order
+-- Six builders, on edge order and on new edges: the columns of a new code: p, pe, half weight and erasure 0, no defect, neighbour lists in vertex order.
 abbrev pub newColumns : (kind d rounds : ℕ) → CodeColumns
 newColumns kind d rounds = record {
   endsA = firsts (edgesOf kind d rounds);
@@ -44,10 +45,11 @@ newColumns kind d rounds = record {
   neighborNumbers = lists (firsts (edgesOf kind d rounds)) (seconds (edgesOf kind d rounds)) (edgeNum kind d rounds) (vertexNum kind d rounds);
 }
 
--- the answer of `create_code`, and its columns; q is the question's number
-pub record CodeCreated (kind d rounds q : ℕ) (lent back : CodeColumns) (r : Created) : Type 0 where
+-- Six builders: the answer of `create_code`, and its columns afterwards; q is the question's number.
+pub record CodeCreated (kind d rounds q : ℕ) (c₀ c : CodeColumns) (r : Created) : Type 0 where
   pub answer : Answered (said r) q (vertexNum kind d rounds, edgeNum kind d rounds) (0, 0)
-  pub columns : HandedBack q (newColumns kind d rounds) lent back
+  pub columns : HandedBack q (newColumns kind d rounds) c₀ c
 
-abbrev pub CreateCode : (kind d rounds : ℕ) (lent back : CodeColumns) (r : Created) → Type 0
-CreateCode kind d rounds lent back r = CodeCreated kind d rounds (refusalIn kind d rounds lent) lent back r
+-- Six builders: what `create_code` answers and leaves.
+abbrev pub CreateCode : (kind d rounds : ℕ) (c₀ c : CodeColumns) (r : Created) → Type 0
+CreateCode kind d rounds c₀ c r = CodeCreated kind d rounds (refusalIn kind d rounds c₀) c₀ c r

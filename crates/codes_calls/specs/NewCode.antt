@@ -16,8 +16,7 @@ use Rattle.columns_answers.specs.Said.{Answered}
 use Rattle.codes_calls.specs.CreateCode.{said, newColumns}
 use Rattle.codes_calls.specs.Probabilities.{probabilities, diagonalOf}
 
--- questions 2 to 6 and 8 to 10 in order: the number of the first that is answered no, 0 if there is none.
--- 9 asks of p and of the diagonal probability, 10 of the weights of the code's edges.
+-- Questions at the door, 2 to 6 and 8 to 10, in order, by the columns' lengths: 9 asks of p and of the diagonal probability, 10 of the weights of the code's edges.
 unfoldable pub newRefusal : (kind d rounds : ℕ) (p : Float) (diagonal : DiagonalProbability) (max vertexRoom edgeRoom numbers : ℕ) → ℕ
 newRefusal kind d rounds p diagonal max vertexRoom edgeRoom numbers =
     codeRefusal kind d rounds
@@ -26,10 +25,11 @@ newRefusal kind d rounds p diagonal max vertexRoom edgeRoom numbers =
     (ask (isProbability p && isDiagonalProbability diagonal) 9
     (ask (someAbove (edgeWeights (probabilities kind d rounds p diagonal))) 10 0))))
 
+-- Questions at the door, 2 to 6 and 8 to 10, in order.
 abbrev pub newRefusalIn : (kind d rounds : ℕ) (p : Float) (diagonal : DiagonalProbability) (max : ℕ) → CodeColumns → ℕ
 newRefusalIn kind d rounds p diagonal max c = newRefusal kind d rounds p diagonal max (vertexRoom c) (edgeRoom c) (length (c .neighborNumbers))
 
--- the columns: those of `create_code`, with the edges' p and half weights
+-- Weights, on the diagonal probability and on half weights: the columns of `create_code`, with the edges' p and half weights.
 abbrev pub weightedColumns : (kind d rounds : ℕ) (p : Float) (diagonal : DiagonalProbability) (max : ℕ) → CodeColumns
 weightedColumns kind d rounds p diagonal max = record {
   endsA = newColumns kind d rounds .endsA;
@@ -47,17 +47,19 @@ weightedColumns kind d rounds p diagonal max = record {
   neighborNumbers = newColumns kind d rounds .neighborNumbers;
 }
 
--- the answer and the columns of a code with a diagonal probability, by the question's number q
-pub record Weighted (kind d rounds : ℕ) (p : Float) (diagonal : DiagonalProbability) (max q : ℕ) (lent back : CodeColumns) (r : Created) : Type 0 where
+-- Weights: the answer of a call that builds a code with a diagonal probability, and its columns afterwards; q is the question's number.
+pub record Weighted (kind d rounds : ℕ) (p : Float) (diagonal : DiagonalProbability) (max q : ℕ) (c₀ c : CodeColumns) (r : Created) : Type 0 where
   pub answer : Answered (said r) q (vertexNum kind d rounds, edgeNum kind d rounds) (0, 0)
-  pub columns : HandedBack q (weightedColumns kind d rounds p diagonal max) lent back
+  pub columns : HandedBack q (weightedColumns kind d rounds p diagonal max) c₀ c
 
-abbrev pub WeightedCode : (kind d rounds : ℕ) (p : Float) (diagonal : DiagonalProbability) (max : ℕ) (lent back : CodeColumns) (r : Created) → Type 0
-WeightedCode kind d rounds p diagonal max lent back r = Weighted kind d rounds p diagonal max (newRefusalIn kind d rounds p diagonal max lent) lent back r
+-- Weights, on the diagonal probability: what such a call answers and leaves, where the diagonal probability is absent or a number.
+abbrev pub WeightedCode : (kind d rounds : ℕ) (p : Float) (diagonal : DiagonalProbability) (max : ℕ) (c₀ c : CodeColumns) (r : Created) → Type 0
+WeightedCode kind d rounds p diagonal max c₀ c r = Weighted kind d rounds p diagonal max (newRefusalIn kind d rounds p diagonal max c₀) c₀ c r
 
--- `new`; `new_diagonal` builds kind 4, for which question 2 is met
-abbrev pub NewCode : (kind d rounds : ℕ) (p : Float) (max : ℕ) (lent back : CodeColumns) (r : Created) → Type 0
-NewCode kind d rounds p max lent back r = WeightedCode kind d rounds p (diagonalOf kind p) max lent back r
+-- Weights, on the diagonal probability, sentence 2: what `new` answers and leaves.
+abbrev pub NewCode : (kind d rounds : ℕ) (p : Float) (max : ℕ) (c₀ c : CodeColumns) (r : Created) → Type 0
+NewCode kind d rounds p max c₀ c r = WeightedCode kind d rounds p (diagonalOf kind p) max c₀ c r
 
-abbrev pub NewDiagonal : (d rounds : ℕ) (p : Float) (diagonal : DiagonalProbability) (max : ℕ) (lent back : CodeColumns) (r : Created) → Type 0
-NewDiagonal d rounds p diagonal max lent back r = WeightedCode 4 d rounds p diagonal max lent back r
+-- Weights, on the diagonal probability, sentence 1: what `new_diagonal` answers and leaves; it builds kind 4, for which question 2 is met.
+abbrev pub NewDiagonal : (d rounds : ℕ) (p : Float) (diagonal : DiagonalProbability) (max : ℕ) (c₀ c : CodeColumns) (r : Created) → Type 0
+NewDiagonal d rounds p diagonal max c₀ c r = WeightedCode 4 d rounds p diagonal max c₀ c r

@@ -10,7 +10,7 @@ use Rattle.codes_writers.specs.Edges.{firsts, seconds, boundaries, positionsI, 
 use Rattle.codes_layers.specs.Codes.{edgesOf, verticesOf}
 use Rattle.codes_layers.specs.Counts.{vertexNum, edgeNum}
 
--- n places in each edge column
+-- Questions at the door, 6: n places in each edge column.
 pub record EdgeColumnsLong (n : ℕ) (a b : List ℕ) (p pe : List Float) (h er : List ℕ) : Type 0 where
   pub long-a : n ≤ length a
   pub long-b : n ≤ length b
@@ -19,7 +19,7 @@ pub record EdgeColumnsLong (n : ℕ) (a b : List ℕ) (p pe : List Float) (h er 
   pub long-h : n ≤ length h
   pub long-er : n ≤ length er
 
--- the edge columns hold the new code
+-- Six builders, on edge order and on new edges: the edge columns hold the new code.
 pub record EdgeColumnsFilled (kind d rounds : ℕ) (a₀ b₀ : List ℕ) (p₀ pe₀ : List Float) (h₀ er₀ a b : List ℕ) (p pe : List Float) (h er : List ℕ) (r : ℕ) : Type 0 where
   pub in-a : a ≡ over (firsts (edgesOf kind d rounds)) a₀
   pub in-b : b ≡ over (seconds (edgesOf kind d rounds)) b₀
@@ -29,7 +29,7 @@ pub record EdgeColumnsFilled (kind d rounds : ℕ) (a₀ b₀ : List ℕ) (p₀ 
   pub in-er : er ≡ over (replicate (edgeNum kind d rounds) 0) er₀
   pub count : r ≡ edgeNum kind d rounds
 
--- n places in each vertex column but the list lengths
+-- Questions at the door, 6: n places in each vertex column but the list lengths.
 pub record VertexColumnsLong (n : ℕ) (i j t : List Float) (m df : List ℕ) : Type 0 where
   pub long-i : n ≤ length i
   pub long-j : n ≤ length j
@@ -37,7 +37,7 @@ pub record VertexColumnsLong (n : ℕ) (i j t : List Float) (m df : List ℕ) : 
   pub long-m : n ≤ length m
   pub long-df : n ≤ length df
 
--- these columns hold the new code
+-- Six builders, on edge order and on new edges: these columns hold the new code.
 pub record VertexColumnsFilled (kind d rounds : ℕ) (i₀ j₀ t₀ : List Float) (m₀ df₀ : List ℕ) (i j t : List Float) (m df : List ℕ) (r : ℕ) : Type 0 where
   pub in-i : i ≡ over (positionsI (verticesOf kind d rounds)) i₀
   pub in-j : j ≡ over (positionsJ (verticesOf kind d rounds)) j₀

@@ -5,6 +5,6 @@ use mathlib.Core.Logic.{_⊎_}
 use Rattle.weights_diagonal.specs.declared.DiagonalProbability.{DiagonalProbability}
 use Rattle.weights_diagonal.specs.declared.DiagonalProbability.the-variants.{None}
 
--- only kind 4 has a diagonal probability
+-- Weights, on the diagonal probability, sentence 1: only kind 4 has a diagonal probability.
 abbrev pub DiagonalKind : (kind : ℕ) → DiagonalProbability → Type 0
 DiagonalKind kind diagonal = (kind ≡ 4) ⊎ (diagonal ≡ None)

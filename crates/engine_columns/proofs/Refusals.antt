@@ -12,6 +12,8 @@ use Rattle.columns.specs.Questions.{ask, allBelow, allWithin, weightsSound, bou
 use Rattle.columns.proofs.Tests.{and-both, both-and, below-at, below-first}
 use Rattle.columns_answers.proofs.Said.{accepts-of, refuses-of}
 use Rattle.columns_neighbors.specs.Sound.{graphSound, logSound}
+use Rattle.columns_room.specs.Room.{threeLong}
+use Rattle.columns_room.proofs.Refusals.{three-long}
 use Rattle.engine_columns.specs.declared.EngineCounts.{EngineCounts}
 use Rattle.engine_columns.specs.declared.EngineAnswer.{EngineAnswer}
 use Rattle.engine_columns.specs.declared.EngineAnswer.the-variants.{Counts, Refused}
@@ -41,14 +43,13 @@ module _ (v e : ℕ) (a b w m : List ℕ) where
   pub columns-long-of : columnsLong v e a b w m ≡ true → ColumnsLong v e a b w m
   unfolding columnsLong
   columns-long-of h =
-      let (p, h₁) = and-both (leb e (length a)) _ h in
-      let (q, h₂) = and-both (leb e (length b)) _ h₁ in
-      let (r, s) = and-both (leb e (length w)) _ h₂ in
-      record { endsA = leb-true _ _ p; endsB = leb-true _ _ q; weights = leb-true _ _ r; boundary = leb-true _ _ s }
+      let (t, s) = and-both (threeLong e (length a) (length b) (length w)) _ h in
+      let (p, q, r) = three-long e _ _ _ t in
+      record { endsA = p; endsB = q; weights = r; boundary = leb-true _ _ s }
 
   pub columns-long-from : ColumnsLong v e a b w m → columnsLong v e a b w m ≡ true
-  unfolding columnsLong
-  columns-long-from l = both-and (le-leb _ _ (l .endsA)) (both-and (le-leb _ _ (l .endsB)) (both-and (le-leb _ _ (l .weights)) (le-leb _ _ (l .boundary))))
+  unfolding columnsLong threeLong
+  columns-long-from l = both-and (both-and (le-leb _ _ (l .endsA)) (both-and (le-leb _ _ (l .endsB)) (le-leb _ _ (l .weights)))) (le-leb _ _ (l .boundary))
 
 pub record Long (n : ℕ) (e : Engine) : Type 0 where
   pub columns : ColumnsLong (e .counts .vertices) (e .counts .edges) (e .endsA) (e .endsB) (e .weights) (e .boundary)

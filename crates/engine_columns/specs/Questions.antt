@@ -6,11 +6,12 @@ use lib.ListN.{length}
 use lib.Dec.{leb}
 use Rattle.columns.specs.Questions.{weightsSound, boundariesSound}
 use Rattle.columns_neighbors.specs.Sound.{graphSound, logSound}
+use Rattle.columns_room.specs.Room.{threeLong}
 use Rattle.engine_columns.specs.Records.{Engine}
 
 -- Questions at the door, 6: ends, weights and boundary bytes as long as their counts.
 unfoldable pub columnsLong : (v e : ℕ) (a b w m : List ℕ) → Bool
-columnsLong v e a b w m = leb e (length a) && (leb e (length b) && (leb e (length w) && leb v (length m)))
+columnsLong v e a b w m = threeLong e (length a) (length b) (length w) && leb v (length m)
 
 -- Questions at the door, 6, of an engine graph: these columns, and a log with room for n entries more.
 unfoldable pub engineLong : ℕ → Engine → Bool

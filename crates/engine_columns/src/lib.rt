@@ -10,6 +10,7 @@ use columns::questions::has_room;
 use columns::questions::weights_sound;
 use columns_neighbors::sound::graph_sound;
 use columns_neighbors::sound::log_sound;
+use columns_room::three_long;
 
 // How many vertices, edges and log entries the engine's columns hold. A log may hold more entries than there are edges.
 pub struct EngineCounts {
@@ -35,12 +36,10 @@ pub fn columns_long(
 ) -> bool
     ensures { λ r. ⌜ r ≡ columnsLong vertices edges (now («ends_a» .entry)) (now («ends_b» .entry)) (now (weights .entry)) (now (boundary .entry)) ⌝ }
 {
-    let n = edges as usize;
-    let a = at_most(n, ends_a.len());
-    let b = at_most(n, ends_b.len());
-    let w = at_most(n, weights.len());
-    let m = at_most(vertices as usize, boundary.len());
-    both(a, both(b, both(w, m)))
+    let e = edges as usize;
+    let edge_columns = three_long(e, ends_a.len(), ends_b.len(), weights.len());
+    let bytes = at_most(vertices as usize, boundary.len());
+    both(edge_columns, bytes)
 }
 
 // Question 6, with room in the log for n entries more.

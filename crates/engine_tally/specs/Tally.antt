@@ -7,6 +7,7 @@ use lib.ListN.{length, take}
 use lib.Dec.{leb, eqb}
 use Rattle.columns.specs.Limits.{weightLimit}
 use Rattle.columns.specs.Questions.{ask, allBelow, allWithin}
+use Rattle.columns_room.specs.Room.{threeLong}
 use Rattle.engine_columns.specs.declared.EngineCounts.{EngineCounts}
 use Rattle.engine_columns.specs.Records.{Engine, counts}
 use Rattle.engine_log.specs.Load.{loaded, erased, given}
@@ -56,7 +57,7 @@ tallyOf v e handed = record {
 -- Engine, Tally, sentence 7; Questions at the door, 6: from the lengths, with room in the log for n entries more.
 abbrev pub tallyLong : ℕ → Lengths → EngineCounts → Bool
 tallyLong n k c =
-    (leb (c .edges) (k .endsA) && (leb (c .edges) (k .endsB) && (leb (c .edges) (k .weights) && leb (c .vertices) (k .boundary))))
+    (threeLong (c .edges) (k .endsA) (k .endsB) (k .weights) && leb (c .vertices) (k .boundary))
     && (leb (c .entries + n) (k .logEdges) && leb (c .entries + n) (k .logWeights))
 
 -- Engine, Tally, sentence 7: the tally's answer to the questions of a load or a reset; 7 is always met.

@@ -2,7 +2,7 @@
 use mathlib.Core.Path.{_≡_, refl, sym, ap, _∙_}
 use mathlib.Core.Bool.{Bool, true, _&&_}
 use mathlib.Core.List.{List}
-use Prim.Native.Nat.{ℕ, _*_, _≤_, _<_}
+use Prim.Native.Nat.{ℕ, _≤_, _<_}
 use native.Mathlib.Omega.{arith}
 use lib.ListN.{length, getD, take}
 use Rattle.columns.specs.Places.{zeroFloat}
@@ -24,10 +24,10 @@ use Rattle.reorder_orders.specs.Order.{noneTwice, oldToNew, renamed, moved}
 use Rattle.reorder_calls.specs.Numbers.{buildRefusal, BuiltOldToNew, translateRefusal, TranslatedDefects}
 use Rattle.columns_neighbors.specs.Lists.{sumTo}
 use Rattle.columns_room.specs.Graph.{codeGraph, codeSound}
-use Rattle.columns_room.specs.Room.{listsLong}
-use Rattle.columns_room.proofs.Refusals.{lists-long}
+use Rattle.columns_room.specs.Room.{twoLong, threeLong, listsLong}
+use Rattle.columns_room.proofs.Refusals.{three-long, lists-long}
 use Rattle.columns_room.proofs.Graph.{CodeSound, code-sound-of}
-use Rattle.reorder_calls.specs.Columns.{ReorderColumns, movedLists, endsLong, vertexLong, positionsLong, reorderLong, reorderSound, orderRefusal, reorderRefusal, ReorderedVertices}
+use Rattle.reorder_calls.specs.Columns.{ReorderColumns, movedLists, reorderLong, reorderSound, orderRefusal, reorderRefusal, ReorderedVertices}
 use Rattle.reorder_orders.specs.Steps.{IsOrder}
 use Rattle.reorder_orders.proofs.Asking.{stops, passes}
 
@@ -180,19 +180,17 @@ pub record ReorderMet (v e : ℕ) (order : List ℕ) (c : ReorderColumns) : Type
   pub marks : marksSound v (c .defect) ≡ true
 
 pub reorder-met : (v e : ℕ) (order : List ℕ) (c : ReorderColumns) → reorderRefusal v e order c ≡ 0 → ReorderMet v e order c
-unfolding reorderRefusal reorderLong endsLong vertexLong positionsLong reorderSound
+unfolding reorderRefusal reorderLong reorderSound
 reorder-met v e order c z =
     let seven = reorderSound v e (c .endsA) (c .endsB) (c .boundary) (c .defect) in
     let rest = orderRefusal v order in
     let z₇ = goes-on (reorderLong v e c) 5 (ask seven 7 rest) z in
-    let (ends, x) = and-both (endsLong e (c .endsA) (c .endsB)) _ (met (reorderLong v e c) 5 (ask seven 7 rest) z) in
-    let (vertices, y) = and-both (vertexLong v (c .boundary) (c .defect) (c .lengths)) _ x in
-    let (positions, w) = and-both (positionsLong v (c .posI) (c .posJ) (c .posT)) _ y in
+    let (ends, x) = and-both (twoLong e (length (c .endsA)) (length (c .endsB))) _ (met (reorderLong v e c) 5 (ask seven 7 rest) z) in
+    let (vertices, y) = and-both (threeLong v (length (c .boundary)) (length (c .defect)) (length (c .lengths))) _ x in
+    let (positions, w) = and-both (threeLong v (length (c .posI)) (length (c .posJ)) (length (c .posT))) _ y in
     let (numbers, scratch) = and-both (listsLong v e (c .lengths) (c .numbers)) _ w in
-    let (m, dl) = and-both (leb v (length (c .boundary))) _ vertices in
-    let (d, l) = and-both (leb v (length (c .defect))) _ dl in
-    let (i, jt) = and-both (leb v (length (c .posI))) _ positions in
-    let (j, t) = and-both (leb v (length (c .posJ))) _ jt in
+    let (m, d, l) = three-long v _ _ _ vertices in
+    let (i, j, t) = three-long v _ _ _ positions in
     let (ok, marks) = and-both (codeSound (codeGraph v e (c .endsA) (c .endsB) (c .boundary))) (marksSound v (c .defect)) (met seven 6 rest z₇) in
     let code = code-sound-of (codeGraph v e (c .endsA) (c .endsB) (c .boundary)) ok in
     let (o, n) = order-met v order (code .graph .few-vertices) (goes-on seven 6 rest z₇) in
@@ -200,12 +198,12 @@ reorder-met v e order c z =
       order-is = o;
       many = n;
       sound = code;
-      long-boundary = leb-true _ _ m;
-      long-defect = leb-true _ _ d;
-      long-lengths = leb-true _ _ l;
-      long-i = leb-true _ _ i;
-      long-j = leb-true _ _ j;
-      long-t = leb-true _ _ t;
+      long-boundary = m;
+      long-defect = d;
+      long-lengths = l;
+      long-i = i;
+      long-j = j;
+      long-t = t;
       long-numbers = lists-long v e _ _ numbers .1;
       long-scratch = lists-long v e _ _ scratch .1;
       marks = marks;

@@ -17,7 +17,7 @@ use Rattle.reorder_orders.specs.Order.{noneTwice, oldToNew, renamed}
 
 -- ---- build_old_to_new
 
--- questions 6, 11, 13 and 14
+-- Questions at the door, 6, 11, 13 and 14, in order, of `build_old_to_new`; there are no vertex columns, so 11 asks of the order list's own length.
 unfoldable pub buildRefusal : (order column : List ℕ) → ℕ
 buildRefusal order column =
     ask (leb (length order) (length column)) 6
@@ -25,18 +25,19 @@ buildRefusal order column =
     (ask (allBelow (length order) order) 13
     (ask (noneTwice order) 14 0)))
 
+-- Sampling, syndromes, reordering, paragraph 2, sentence 5: the answer, and the new number of each old vertex.
 pub record BuiltOldToNew (order column₀ : List ℕ) (answer : Done) (column : List ℕ) : Type 0 where
   pub answers : Answered (said answer) (buildRefusal order column₀) tt tt
   pub column-is : column ≡ after (buildRefusal order column₀) (oldToNew order) column₀
 
 -- ---- translated_defect_to_reordered
 
--- document 01's number for each case, and how many numbers were translated, 0 at a refusal
+-- Expected forms by place, last paragraph: document 01's number and values for each case of `TranslatedAnswer`; the value is how many numbers were translated.
 abbrev pub countSaid : TranslatedAnswer → Said ℕ
 countSaid (Count n) = accepts n
 countSaid (Refused number) = refuses number 0
 
--- questions 6, 11, 13 of both lists, and 14
+-- Questions at the door, 6, 11, 13 of both lists, and 14, in order, of `translated_defect_to_reordered`.
 unfoldable pub translateRefusal : (order list column : List ℕ) → ℕ
 translateRefusal order list column =
     ask (leb (length list) (length column)) 6
@@ -44,7 +45,7 @@ translateRefusal order list column =
     (ask (allBelow (length order) order && allBelow (length order) list) 13
     (ask (noneTwice order) 14 0)))
 
--- a translated list keeps its order
+-- Sampling, syndromes, reordering, paragraph 2, sentence 4: a translated list keeps its order; the answer, and the column afterwards.
 pub record TranslatedDefects (order list column₀ : List ℕ) (answer : TranslatedAnswer) (column : List ℕ) : Type 0 where
   pub answers : Answered (countSaid answer) (translateRefusal order list column₀) (length list) 0
   pub column-is : column ≡ after (translateRefusal order list column₀) (renamed order list) column₀

@@ -5,17 +5,18 @@ ghost use mathlib.Core.Path.{_≡_};
 ghost use mathlib.Core.Bool.{true};
 ghost use Prim.Native.Nat.{_≤_};
 ghost use Rattle.columns.specs.Questions.{ask};
-ghost use Rattle.reorder_calls.specs.Columns.{reorderColumns, endsLong, vertexLong, positionsLong, reorderLong, reorderSound, orderRefusal, reorderRefusal, ReorderedVertices};
+ghost use Rattle.reorder_calls.specs.Columns.{reorderColumns, reorderLong, reorderSound, orderRefusal, reorderRefusal, ReorderedVertices};
 ghost use Rattle.reorder_calls.specs.Numbers.{buildRefusal, BuiltOldToNew, translateRefusal, TranslatedDefects};
 use columns::Done;
 use columns::VERTEX_LIMIT;
 use columns::done_of;
-use columns::questions::at_most;
 use columns::questions::both;
 use columns::questions::each_below;
 use columns::questions::marks_sound;
 use columns_room::code_sound;
 use columns_room::lists_long;
+use columns_room::three_long;
+use columns_room::two_long;
 use lists::move_lists;
 use reorder_columns::move_positions;
 use reorder_columns::move_u8;
@@ -106,39 +107,13 @@ fn columns_long(
 ) -> bool
     ensures { λ r. ⌜ r ≡ reorderLong «vertex_num» «edge_num» (reorderColumns (now («ends_a» .entry)) (now («ends_b» .entry)) (now (boundary .entry)) (now (defect .entry)) (now (is .entry)) (now (js .entry)) (now (ts .entry)) (now (lengths .entry)) (now (numbers .entry)) (now (scratch .entry))) ⌝ }
 {
-    let ends = ends_long(edge_num, ends_a, ends_b);
-    let vertices = vertex_long(vertex_num, boundary, defect, lengths);
-    let positions = positions_long(vertex_num, is, js, ts);
+    let n = vertex_num as usize;
+    let ends = two_long(edge_num as usize, ends_a.len(), ends_b.len());
+    let vertices = three_long(n, boundary.len(), defect.len(), lengths.len());
+    let positions = three_long(n, is.len(), js.len(), ts.len());
     let lists = lists_long(vertex_num, edge_num, lengths, numbers);
     let copies = lists_long(vertex_num, edge_num, lengths, scratch);
     both(ends, both(vertices, both(positions, both(lists, copies))))
-}
-
-fn ends_long(edge_num: u32, a: &[u32], b: &[u32]) -> bool
-    ensures { λ r. ⌜ r ≡ endsLong «edge_num» (now (a .entry)) (now (b .entry)) ⌝ }
-{
-    let n = edge_num as usize;
-    both(at_most(n, a.len()), at_most(n, b.len()))
-}
-
-fn vertex_long(vertex_num: u32, boundary: &[u8], defect: &[u8], lengths: &[u32]) -> bool
-    ensures { λ r. ⌜ r ≡ vertexLong «vertex_num» (now (boundary .entry)) (now (defect .entry)) (now (lengths .entry)) ⌝ }
-{
-    let n = vertex_num as usize;
-    let m = at_most(n, boundary.len());
-    let d = at_most(n, defect.len());
-    let l = at_most(n, lengths.len());
-    both(m, both(d, l))
-}
-
-fn positions_long(vertex_num: u32, is: &[f64], js: &[f64], ts: &[f64]) -> bool
-    ensures { λ r. ⌜ r ≡ positionsLong «vertex_num» (now (is .entry)) (now (js .entry)) (now (ts .entry)) ⌝ }
-{
-    let n = vertex_num as usize;
-    let i = at_most(n, is.len());
-    let j = at_most(n, js.len());
-    let t = at_most(n, ts.len());
-    both(i, both(j, t))
 }
 
 // Question 7, of counts, ends, boundary and defect bytes.

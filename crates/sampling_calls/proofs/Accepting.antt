@@ -2,7 +2,7 @@
 use mathlib.Core.Path.{_≡_, sym, ap, _∙_}
 use mathlib.Core.Bool.{Bool, true, _&&_}
 use mathlib.Core.List.{List, _++_}
-use Prim.Native.Nat.{ℕ, zero, suc, _+_, _%_, _≤_, _<_, min}
+use Prim.Native.Nat.{ℕ, _+_, _%_, _≤_, _<_}
 use native.Mathlib.Nat.{zero-add}
 use native.Mathlib.Decide.{ℕ-discrete}
 use native.Mathlib.Omega.{arith}
@@ -21,6 +21,8 @@ use Rattle.columns_answers.specs.declared.SyndromeCounts.{SyndromeCounts}
 use Rattle.columns_answers.specs.declared.SyndromeCounts.the-variants as syndrome
 use Rattle.columns_answers.specs.declared.ListCount.{ListCount}
 use Rattle.columns_answers.specs.declared.ListCount.the-variants as list
+use Rattle.columns_room.specs.Room.{twoLong}
+use Rattle.columns_room.proofs.Refusals.{two-long}
 use Rattle.columns_room.proofs.Graph.{GraphLong, graph-long-of, CodeSound, code-sound-of}
 use Rattle.columns_room.specs.Graph.{CodeGraph, graphLong, codeSound}
 use Rattle.sampling_calls.specs.Records.{SyndromeColumns, syndromeLong}
@@ -45,10 +47,10 @@ pub record SyndromeLong (v e : ℕ) (s : SyndromeColumns) : Type 0 where
 pub syndrome-long-of : (v e : ℕ) (s : SyndromeColumns) → syndromeLong v e s ≡ true → SyndromeLong v e s
 unfolding syndromeLong
 syndrome-long-of v e s p =
-    let (d, q) = and-both (leb v (length (s .defect))) _ p in
-    let (r, t) = and-both (leb e (length (s .erasure))) _ q in
-    let (x, y) = and-both (leb v (length (s .defectList))) _ t in
-    record { long-defect = leb-true _ _ d; long-erasure = leb-true _ _ r; long-defects = leb-true _ _ x; long-erasures = leb-true _ _ y }
+    let (q, r) = and-both (twoLong v (length (s .defect)) (length (s .defectList))) _ p in
+    let (d, x) = two-long v _ _ q in
+    let (t, y) = two-long e _ _ r in
+    record { long-defect = d; long-erasure = t; long-defects = x; long-erasures = y }
 
 pub fits-of : (g : CodeGraph) (d : List ℕ) → GraphLong g → CodeSound g → g .vertices ≤ length d → Fits (g .vertices) (g .edges) (g .endsA) (g .endsB) (g .boundary) d
 fits-of g d l s h = record {

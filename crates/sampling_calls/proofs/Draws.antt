@@ -4,8 +4,6 @@ use mathlib.Core.Bool.{_&&_, cond}
 use mathlib.Core.List.{List}
 use Prim.Native.Nat.{ℕ, _≤_, _<_}
 use native.Mathlib.Omega.{arith}
-use lib.Dec.{leb}
-use borrow.Author.Tests.{leb-true}
 use lib.ListN.{length, getD, replicate, length-replicate}
 use lib.Seq.{sets, length-sets}
 use lib.Ieee.{Float}
@@ -24,6 +22,8 @@ use Rattle.sampling_edges.specs.Steps.{Sampled}
 use Rattle.sampling_calls.specs.Sampling.{sampledDefects, probabilitiesSound, samplingRefusal}
 use Rattle.sampling_flips.proofs.Flipping.{length-flipEach}
 use Rattle.columns_marks.proofs.Listing.{chosen-below}
+use Rattle.columns_room.specs.Room.{twoLong}
+use Rattle.columns_room.proofs.Refusals.{two-long}
 use Rattle.columns_room.proofs.Graph.{GraphLong, graph-long-of, CodeSound, code-sound-of}
 use Rattle.sampling_calls.proofs.Accepting.{SyndromeLong, syndrome-long-of, flipEach-over}
 
@@ -37,15 +37,15 @@ pub record SamplingMet (g : CodeGraph) (p pe : List Float) (s : SyndromeColumns)
 pub sampling-met : (g : CodeGraph) (p pe : List Float) (s : SyndromeColumns) → samplingRefusal g p pe s ≡ 0 → SamplingMet g p pe s
 unfolding samplingRefusal
 sampling-met g p pe s z =
-    let six = graphLong g && (leb (g .edges) (length p) && (leb (g .edges) (length pe) && syndromeLong (g .vertices) (g .edges) s)) in
+    let six = graphLong g && (twoLong (g .edges) (length p) (length pe) && syndromeLong (g .vertices) (g .edges) s) in
     let last = ask (probabilitiesSound (g .edges) p pe) 9 0 in
     let (l, x) = and-both (graphLong g) _ (met six 5 (ask (codeSound g) 7 last) z) in
-    let (lp, y) = and-both (leb (g .edges) (length p)) _ x in
-    let (lpe, w) = and-both (leb (g .edges) (length pe)) _ y in
+    let (y, w) = and-both (twoLong (g .edges) (length p) (length pe)) _ x in
+    let (lp, lpe) = two-long (g .edges) _ _ y in
     record {
       long = graph-long-of g l;
-      long-p = leb-true _ _ lp;
-      long-pe = leb-true _ _ lpe;
+      long-p = lp;
+      long-pe = lpe;
       lists = syndrome-long-of (g .vertices) (g .edges) s w;
       sound = code-sound-of g (met (codeSound g) 6 last (goes-on six 5 (ask (codeSound g) 7 last) z));
     }

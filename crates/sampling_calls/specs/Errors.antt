@@ -14,27 +14,27 @@ use Rattle.sampling_flips.specs.Flip.{flipEach}
 use Rattle.columns_answers.specs.Said.{Answered}
 use Rattle.columns_answers.specs.Counts.{syndromeSaid}
 
--- what a call that generates errors answers and leaves: `number` is the question's, 0 where all are met;
--- then the defect and erasure bytes are those given, and both lists name the bytes 1, ascending
-pub record SyndromeLeft (number v e : ℕ) (defects erasures : List ℕ) (before : SyndromeColumns) (answer : SyndromeCounts) (last : SyndromeColumns) : Type 0 where
+-- Sampling, syndromes, reordering, paragraph 2, sentence 4: what a call that generates errors answers and leaves: `number` is the question's, 0 where all are met;
+-- then the defect and erasure bytes are those given, and both lists name the bytes 1, ascending.
+pub record SyndromeLeft (number v e : ℕ) (defects erasures : List ℕ) (s₀ : SyndromeColumns) (answer : SyndromeCounts) (s : SyndromeColumns) : Type 0 where
   pub answers : Answered (syndromeSaid answer) number (length (listed v defects), length (listed e erasures)) (0, 0)
-  pub defect-is : last .defect ≡ after number defects (before .defect)
-  pub erasure-is : last .erasure ≡ after number erasures (before .erasure)
-  pub defects-listed : last .defectList ≡ after number (listed v defects) (before .defectList)
-  pub erasures-listed : last .erasureList ≡ after number (listed e erasures) (before .erasureList)
+  pub defect-is : s .defect ≡ after number defects (s₀ .defect)
+  pub erasure-is : s .erasure ≡ after number erasures (s₀ .erasure)
+  pub defects-listed : s .defectList ≡ after number (listed v defects) (s₀ .defectList)
+  pub erasures-listed : s .erasureList ≡ after number (listed e erasures) (s₀ .erasureList)
 
 -- ---- generate_errors
 
--- questions 6, 7 and 13
+-- Questions at the door, 6, 7 and 13, in order, of `generate_errors`.
 unfoldable pub errorsRefusal : CodeGraph → List ℕ → SyndromeColumns → ℕ
 errorsRefusal g list s =
     ask (graphLong g && syndromeLong (g .vertices) (g .edges) s) 6
     (ask (codeSound g && (marksSound (g .vertices) (s .defect) && marksSound (g .edges) (s .erasure))) 7
     (ask (allBelow (g .edges) list) 13 0))
 
--- an error on each listed edge, over the standing defects; the erasures stay
+-- Sampling, syndromes, reordering, paragraph 2, sentence 1: an error on each listed edge, over the standing defects; the erasures stay.
 abbrev pub GeneratedErrors : CodeGraph → List ℕ → SyndromeColumns → SyndromeCounts → SyndromeColumns → Type 0
-GeneratedErrors g list before answer last =
-    SyndromeLeft (errorsRefusal g list before) (g .vertices) (g .edges)
-    (flipEach (g .endsA) (g .endsB) (g .boundary) list (take (g .vertices) (before .defect))) (take (g .edges) (before .erasure))
-    before answer last
+GeneratedErrors g list s₀ answer s =
+    SyndromeLeft (errorsRefusal g list s₀) (g .vertices) (g .edges)
+    (flipEach (g .endsA) (g .endsB) (g .boundary) list (take (g .vertices) (s₀ .defect))) (take (g .edges) (s₀ .erasure))
+    s₀ answer s

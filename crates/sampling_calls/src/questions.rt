@@ -12,6 +12,7 @@ use columns::questions::each_below;
 use columns::questions::marks_sound;
 use columns_room::code_sound;
 use columns_room::graph_long;
+use columns_room::two_long;
 use weights_questions::are_erasure_probabilities;
 use weights_questions::are_probabilities;
 
@@ -26,13 +27,9 @@ pub fn syndrome_long(
 ) -> bool
     ensures { λ r. ⌜ r ≡ syndromeLong «vertex_num» «edge_num» (syndromeColumns (now (defect .entry)) (now (erasure .entry)) (now («defect_list» .entry)) (now («erasure_list» .entry))) ⌝ }
 {
-    let v = vertex_num as usize;
-    let e = edge_num as usize;
-    let d = at_most(v, defect.len());
-    let s = at_most(e, erasure.len());
-    let dl = at_most(v, defect_list.len());
-    let sl = at_most(e, erasure_list.len());
-    both(d, both(s, both(dl, sl)))
+    let defects = two_long(vertex_num as usize, defect.len(), defect_list.len());
+    let erasures = two_long(edge_num as usize, erasure.len(), erasure_list.len());
+    both(defects, erasures)
 }
 
 // The first question of generate_errors that is not met, or 0.
@@ -99,8 +96,7 @@ pub fn sampling_refusal(
         (syndromeColumns (now (defect .entry)) (now (erasure .entry)) (now («defect_list» .entry)) (now («erasure_list» .entry))) ⌝ }
 {
     let graph = graph_long(vertex_num, edge_num, ends_a, ends_b, boundary);
-    let long_p = at_most(edge_num as usize, p.len());
-    let long_pe = at_most(edge_num as usize, pe.len());
+    let probabilities = two_long(edge_num as usize, p.len(), pe.len());
     let marks = syndrome_long(
         vertex_num,
         edge_num,
@@ -112,7 +108,7 @@ pub fn sampling_refusal(
     let sound = code_sound(vertex_num, edge_num, ends_a, ends_b, boundary);
     let probable = probabilities_sound(edge_num, p, pe);
     asked(
-        both(graph, both(long_p, both(long_pe, marks))),
+        both(graph, both(probabilities, marks)),
         6,
         asked(sound, 7, asked(probable, 9, 0)),
     )

@@ -14,6 +14,7 @@ use Rattle.columns.specs.Questions.{ask, all, boundariesSound}
 use Rattle.columns.proofs.Tests.{both-and}
 use Rattle.columns_neighbors.specs.Sound.{graphSound, logSound}
 use Rattle.engine_columns.specs.Records.{Engine, engine, counts}
+use Rattle.columns_room.specs.Room.{threeLong}
 use Rattle.engine_columns.specs.Questions.{columnsLong, engineLong, columnsSound, engineSound}
 use Rattle.engine_walks.specs.Answers.{crossing}
 use Rattle.codes_writers.specs.declared.CodeVertex.{CodeVertex}
@@ -79,9 +80,9 @@ module _ (kind d rounds : ℕ) (p : _) (max v e : ℕ) (a b w m : List ℕ) (s :
   engine-sound le lw = both-and (both-and graph-sound (both-and (s .few-w) boundary-sound)) (no-log le lw)
 
   engine-long : (le lw : List ℕ) → engineLong 0 (the-engine le lw) ≡ true
-  unfolding engineLong columnsLong
+  unfolding engineLong columnsLong threeLong
   engine-long le lw =
-      both-and (both-and (le-leb e (length a) long-a) (both-and (le-leb e (length b) long-b) (both-and (le-leb e (length w) long-w) (le-leb v (length m) long-m))))
+      both-and (both-and (both-and (le-leb e (length a) long-a) (both-and (le-leb e (length b) long-b) (le-leb e (length w) long-w))) (le-leb v (length m) long-m))
       (both-and (le-leb (0 + 0) (length le) (omega arith)) (le-leb (0 + 0) (length lw) (omega arith)))
 
   scratch-long : (out n1 n2 n3 n4 n5 n6 n7 : ℕ) → ScratchRoom out n1 n2 n3 n4 n5 n6 n7 → (leb v out && scratchLong v e n1 n2 n3 n4 n5 n6 n7) ≡ true

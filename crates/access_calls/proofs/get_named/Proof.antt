@@ -9,12 +9,12 @@ use Rattle.access_calls.proofs.get_named.Statement.{statement}
 use Rattle.access_calls.proofs.get_named.Tie as tie
 
 -- the number that the questions give
-number : (c : tie.After-asked2) → let s = c .before .before .before .before .before .before .before .before .before .args in c .asked2 .result ≡ getMarksRefusal (s .sound) (s .n) (s .column .now) (s .list .now)
+number : (c : tie.After-asked2) → let s = c .before .before .before .before .before .before .before .args in c .asked2 .result ≡ getMarksRefusal (s .sound) (s .n) (s .column .now) (s .list .now)
 number c = cc
 
 list-set-requires : tie.Need-list-set-requires
 list-set-requires c κs =
-    let s = c .before .before .before .before .before .before .before .before .before .before .before .args in
+    let s = c .before .before .before .before .before .before .before .before .before .args in
     get-met (s .sound) (s .n) (s .column .now) (s .list .now) (sym (number (c .before .before)) ∙ c .before .if1 .taken)
 
 same-length : tie.Need-same-length
@@ -22,7 +22,7 @@ same-length c = c .before .list .given
 
 returns : tie.Need-returns
 returns c =
-    let s = c .before .before .before .before .before .before .before .before .before .before .before .before .before .before .args in
+    let s = c .before .before .before .before .before .before .before .before .before .before .before .before .args in
     let q = getMarksRefusal (s .sound) (s .n) (s .column .now) (s .list .now) in
     let vs = listed (s .n) (s .column .now) in
     let z : q ≡ 0 = sym (number (c .before .before .before .before .before)) ∙ c .before .before .before .before .if1 .taken in
@@ -34,7 +34,7 @@ returns c =
 
 returns-2 : tie.Need-returns-2
 returns-2 c =
-    let s = c .before .before .before .before .before .before .before .before .before .before .args in
+    let s = c .before .before .before .before .before .before .before .before .args in
     let q = getMarksRefusal (s .sound) (s .n) (s .column .now) (s .list .now) in
     let vs = listed (s .n) (s .column .now) in
     let d = number (c .before) in
@@ -45,4 +45,4 @@ returns-2 c =
     }
 
 pub get-named-spec : {M : Type 1} → statement M
-get-named-spec = tie.close (tie.spec (λ c κs. tt) (λ c κs. tt) (λ c κs. tt) (λ c κs. tt) (λ c κs. tt) (λ c κs. tt) (λ c κs. tt) list-set-requires same-length returns returns-2)
+get-named-spec = tie.close (tie.spec (λ c κs. tt) (λ c κs. tt) (λ c κs. tt) (λ c κs. tt) (λ c κs. tt) list-set-requires same-length returns returns-2)

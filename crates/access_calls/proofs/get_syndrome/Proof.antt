@@ -17,7 +17,7 @@ list-set-requires c κs =
     let v = s .vertex-num in
     let e = s .edge-num in
     let m = get-syndrome-met v e bytes lists (sym (c .before .before .get-syndrome-refusal .ensures) ∙ c .before .if1 .taken) in
-    (m .0 .0, m .1 .0)
+    m .0
 
 list-set-requires-2 : tie.Need-list-set-requires-2
 list-set-requires-2 c κs =
@@ -27,7 +27,7 @@ list-set-requires-2 c κs =
     let v = s .vertex-num in
     let e = s .edge-num in
     let m = get-syndrome-met v e bytes lists (sym (c .before .before .before .before .before .before .get-syndrome-refusal .ensures) ∙ c .before .before .before .before .before .if1 .taken) in
-    (m .0 .1, m .1 .1)
+    m .1
 
 same-length : tie.Need-same-length
 same-length c = c .before .before .before .before .before .defect-list .given

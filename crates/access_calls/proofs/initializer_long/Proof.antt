@@ -7,7 +7,7 @@ use Rattle.access_calls.proofs.initializer_long.Tie as tie
 
 returns : tie.Need-returns
 unfolding initializerLong
-returns c = c .both3 .ensures ∙ (λ i. (c .before .before .before .before .before .before .three-long .ensures) i && (c .before .both2 .ensures ∙ (λ i. (c .before .before .before .before .before .three-long2 .ensures) i && (c .before .before .both .ensures ∙ (λ i. (c .before .before .before .before .at-most .ensures) i && (c .before .before .before .at-most2 .ensures) i)) i)) i)
+returns c = c .both2 .ensures ∙ (λ i. (c .before .before .before .before .three-long .ensures) i && (c .before .both .ensures ∙ (λ i. (c .before .before .before .three-long2 .ensures) i && (c .before .before .two-long .ensures) i)) i)
 
 pub initializer-long-spec : {M : Type 1} → statement M
-initializer-long-spec = tie.close (tie.spec (λ c κs. tt) (λ c κs. tt) (λ c κs. tt) (λ c κs. tt) (λ c κs. tt) (λ c κs. tt) (λ c κs. tt) returns)
+initializer-long-spec = tie.close (tie.spec (λ c κs. tt) (λ c κs. tt) (λ c κs. tt) (λ c κs. tt) (λ c κs. tt) returns)

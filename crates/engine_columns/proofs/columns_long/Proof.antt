@@ -7,7 +7,7 @@ use Rattle.engine_columns.proofs.columns_long.Tie as tie
 
 returns : tie.Need-returns
 unfolding columnsLong
-returns c = c .both3 .ensures ∙ (λ i. (c .before .before .before .before .before .before .at-most .ensures) i && (c .before .both2 .ensures ∙ (λ i. (c .before .before .before .before .before .at-most2 .ensures) i && (c .before .before .both .ensures ∙ (λ i. (c .before .before .before .before .at-most3 .ensures) i && (c .before .before .before .at-most4 .ensures) i)) i)) i)
+returns c = c .both .ensures ∙ (λ i. (c .before .before .three-long .ensures) i && (c .before .at-most .ensures) i)
 
 pub columns-long-spec : {M : Type 1} → statement M
-columns-long-spec = tie.close (tie.spec (λ c κs. tt) (λ c κs. tt) (λ c κs. tt) (λ c κs. tt) (λ c κs. tt) (λ c κs. tt) (λ c κs. tt) returns)
+columns-long-spec = tie.close (tie.spec (λ c κs. tt) (λ c κs. tt) (λ c κs. tt) returns)

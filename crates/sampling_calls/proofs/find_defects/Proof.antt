@@ -1,6 +1,5 @@
 -- `sampling_calls::find_defects` meets its contract. Assumes nothing.
 use Rattle.columns_pairs.proofs.PairTests.{zeros-at, zeros-room}
-use Prim.Native.Nat.{ℕ}
 use native.Mathlib.Omega.{arith}
 use borrow.Author.Needs.{needs}
 use Rattle.sampling_calls.proofs.find_defects.Statement.{statement}

@@ -7,7 +7,7 @@ use Rattle.access_calls.proofs.fill.vertex_columns_long.Tie as tie
 
 returns : tie.Need-returns
 unfolding vertexColumnsLong
-returns c = c .both5 .ensures ∙ (λ i. (c .before .before .before .both2 .ensures ∙ (λ i. (c .before .before .before .before .before .before .before .before .before .before .at-most .ensures) i && (c .before .before .before .before .both .ensures ∙ (λ i. (c .before .before .before .before .before .before .before .before .before .at-most2 .ensures) i && (c .before .before .before .before .before .before .before .before .at-most3 .ensures) i)) i)) i && (c .before .both4 .ensures ∙ (λ i. (c .before .before .before .before .before .before .before .at-most4 .ensures) i && (c .before .before .both3 .ensures ∙ (λ i. (c .before .before .before .before .before .before .at-most5 .ensures) i && (c .before .before .before .before .before .at-most6 .ensures) i)) i)) i)
+returns c = c .both .ensures ∙ (λ i. (c .before .before .three-long .ensures) i && (c .before .three-long2 .ensures) i)
 
 pub vertex-columns-long-spec : {M : Type 1} → statement M
-vertex-columns-long-spec = tie.close (tie.spec (λ c κs. tt) (λ c κs. tt) (λ c κs. tt) (λ c κs. tt) (λ c κs. tt) (λ c κs. tt) (λ c κs. tt) (λ c κs. tt) (λ c κs. tt) (λ c κs. tt) (λ c κs. tt) returns)
+vertex-columns-long-spec = tie.close (tie.spec (λ c κs. tt) (λ c κs. tt) (λ c κs. tt) returns)

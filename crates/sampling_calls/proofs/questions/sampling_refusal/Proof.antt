@@ -8,7 +8,7 @@ use Rattle.sampling_calls.proofs.questions.sampling_refusal.Tie as tie
 
 returns : tie.Need-returns
 unfolding samplingRefusal
-returns c = c .asked3 .ensures ∙ (λ i. ask ((c .before .before .before .both3 .ensures ∙ (λ i. (c .before .before .before .before .before .before .before .before .before .before .before .graph-long .ensures) i && (c .before .before .before .before .both2 .ensures ∙ (λ i. (c .before .before .before .before .before .before .before .before .before .before .at-most .ensures) i && (c .before .before .before .before .before .both .ensures ∙ (λ i. (c .before .before .before .before .before .before .before .before .before .at-most2 .ensures) i && (c .before .before .before .before .before .before .before .before .syndrome-long .ensures) i)) i)) i)) i) 6 ((c .before .asked2 .ensures ∙ (λ i. ask ((c .before .before .before .before .before .before .before .code-sound .ensures) i) 7 ((c .before .before .asked .ensures ∙ (λ i. ask ((c .before .before .before .before .before .before .probabilities-sound .ensures) i) 9 0)) i))) i))
+returns c = c .asked3 .ensures ∙ (λ i. ask ((c .before .before .before .both2 .ensures ∙ (λ i. (c .before .before .before .before .before .before .before .before .before .graph-long .ensures) i && (c .before .before .before .before .both .ensures ∙ (λ i. (c .before .before .before .before .before .before .before .before .two-long .ensures) i && (c .before .before .before .before .before .before .before .syndrome-long .ensures) i)) i)) i) 6 ((c .before .asked2 .ensures ∙ (λ i. ask ((c .before .before .before .before .before .before .code-sound .ensures) i) 7 ((c .before .before .asked .ensures ∙ (λ i. ask ((c .before .before .before .before .before .probabilities-sound .ensures) i) 9 0)) i))) i))
 
 pub sampling-refusal-spec : {M : Type 1} → statement M
-sampling-refusal-spec = tie.close (tie.spec (λ c κs. tt) (λ c κs. tt) (λ c κs. tt) (λ c κs. tt) (λ c κs. tt) (λ c κs. tt) (λ c κs. tt) (λ c κs. tt) (λ c κs. tt) (λ c κs. tt) (λ c κs. tt) (λ c κs. tt) returns)
+sampling-refusal-spec = tie.close (tie.spec (λ c κs. tt) (λ c κs. tt) (λ c κs. tt) (λ c κs. tt) (λ c κs. tt) (λ c κs. tt) (λ c κs. tt) (λ c κs. tt) (λ c κs. tt) (λ c κs. tt) returns)

@@ -7,7 +7,7 @@ use Rattle.sampling_calls.proofs.questions.syndrome_long.Tie as tie
 
 returns : tie.Need-returns
 unfolding syndromeLong
-returns c = c .both3 .ensures ∙ (λ i. (c .before .before .before .before .before .before .at-most .ensures) i && (c .before .both2 .ensures ∙ (λ i. (c .before .before .before .before .before .at-most2 .ensures) i && (c .before .before .both .ensures ∙ (λ i. (c .before .before .before .before .at-most3 .ensures) i && (c .before .before .before .at-most4 .ensures) i)) i)) i)
+returns c = c .both .ensures ∙ (λ i. (c .before .before .two-long .ensures) i && (c .before .two-long2 .ensures) i)
 
 pub syndrome-long-spec : {M : Type 1} → statement M
-syndrome-long-spec = tie.close (tie.spec (λ c κs. tt) (λ c κs. tt) (λ c κs. tt) (λ c κs. tt) (λ c κs. tt) (λ c κs. tt) (λ c κs. tt) returns)
+syndrome-long-spec = tie.close (tie.spec (λ c κs. tt) (λ c κs. tt) (λ c κs. tt) returns)

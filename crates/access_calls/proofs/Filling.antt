@@ -10,8 +10,8 @@ use borrow.Author.Tests.{leb-true}
 use Rattle.columns.specs.Lists.{after}
 use Rattle.columns.proofs.Columns.{sets-over, after-accepted}
 use Rattle.columns.proofs.Tests.{and-both}
-use Rattle.columns_neighbors.specs.Sound.{graphSound}
-use Rattle.columns_neighbors.proofs.Ends.{GraphSound, graph-says}
+use Rattle.columns_neighbors.specs.Sound.{graphSound, SoundGraph}
+use Rattle.columns_neighbors.proofs.Ends.{graph-says}
 use Rattle.columns.proofs.Refusals.{met, goes-on}
 use Rattle.columns_room.specs.Room.{twoLong, threeLong, edgeColumnsLong}
 use Rattle.columns_room.proofs.Refusals.{three-long}
@@ -25,7 +25,7 @@ pub record FillMet (v e : ℕ) (a b : List ℕ) (c : Vertices) : Type 0 where
   pub defect : v ≤ length (c .defect)
   pub lengths : v ≤ length (c .lengths)
   pub numbers : 2 * e ≤ length (c .numbers)
-  pub sound : GraphSound v e a b
+  pub sound : SoundGraph v e a b
 
 pub fill-met : (v e : ℕ) (a b : List ℕ) (c : Vertices) → fillRefusal v e a b c ≡ 0 → FillMet v e a b c
 unfolding vertexColumnsLong edgeColumnsLong

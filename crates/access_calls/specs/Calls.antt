@@ -13,7 +13,7 @@ use Rattle.columns.specs.declared.Done.{Done}
 use Rattle.columns_room.specs.Graph.{codeGraph, codeSound}
 use Rattle.columns_room.specs.Room.{twoLong, threeLong}
 use Rattle.columns_marks.specs.Marks.{listed, marks}
-use Rattle.access_weights.specs.Weights.{weights}
+use Rattle.access_vertices.specs.Weights.{weights}
 use Rattle.columns_answers.specs.declared.ListCount.{ListCount}
 use Rattle.columns_answers.specs.declared.SyndromeCounts.{SyndromeCounts}
 use Rattle.columns_answers.specs.Counts.{listSaid, syndromeSaid}

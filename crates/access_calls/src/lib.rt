@@ -5,7 +5,7 @@ pub use access_vertices::Truth;
 pub use access_vertices::is_defect;
 pub use access_vertices::is_virtual;
 pub use access_vertices::positions::get_positions;
-use access_weights::store_weights;
+use access_vertices::weights::store_weights;
 use columns::Done;
 use columns::Weight;
 use columns::done_of;
@@ -308,7 +308,7 @@ pub fn get_syndrome(
     if number == 0 {
         let defects = list_set(defect, vertex_num, defect_list);
         let erasures = list_set(erasure, edge_num, erasure_list);
-        return SyndromeCounts::Counts(defects, erasures);
+        return SyndromeCounts::Counts { defects, erasures };
     }
     SyndromeCounts::Refused(number)
 }

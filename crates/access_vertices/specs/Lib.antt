@@ -2,3 +2,5 @@
 pub mod Marked
 -- Positions: what get_positions asks and leaves.
 pub mod Positions
+-- Weights: twice the half weights.
+pub mod Weights

@@ -1,5 +1,6 @@
-// Whether a vertex is virtual, or a defect.
+// Whether a vertex is virtual, or a defect; the positions of vertices, and the weights of edges.
 pub mod positions;
+pub mod weights;
 
 use columns::VertexIndex;
 use columns::questions::asked;

@@ -16,25 +16,30 @@ use Rattle.c_codes.specs.declared.reports.WeighedReport.{WeighedReport}
 use Rattle.c_codes.specs.declared.reports.TruthReport.{TruthReport}
 use Rattle.c_codes.specs.declared.reports.VerdictReport.{VerdictReport}
 
+-- Expected forms by place, last paragraph: the struct holds the number and the values of a `Created`.
 pub record ReportsCreated (a : Created) (r : TwoCounts) : Type 0 where
   pub number : r .number ≡ created.said a .number
   pub first : r .first ≡ created.said a .values .0
   pub second : r .second ≡ created.said a .values .1
 
+-- Expected forms by place, last paragraph: the struct holds the number and the values of a `Count`.
 pub record ReportsCount (a : Count) (r : OneCount) : Type 0 where
   pub number : r .number ≡ count.said a .number
   pub count : r .count ≡ count.said a .values
 
+-- Expected forms by place, last paragraph: the struct holds the number and the values of a `WeightOfP`.
 pub record ReportsWeighed (a : WeightOfP) (r : WeighedReport) : Type 0 where
   pub number : r .number ≡ said a .number
   pub weight : r .weight ≡ said a .values
 
+-- Expected forms by place, last paragraph: the struct holds the number and the values of a `Verdict`.
 pub record ReportsVerdict (a : Verdict) (r : VerdictReport) : Type 0 where
   pub number : r .number ≡ sanity.said a .number
   pub verdict : r .verdict ≡ sanity.said a .values .0
   pub first : r .first ≡ sanity.said a .values .1
   pub second : r .second ≡ sanity.said a .values .2
 
+-- Expected forms by place, last paragraph: the struct holds the number and the values of a `Truth`.
 pub record ReportsTruth (a : Truth) (r : TruthReport) : Type 0 where
   pub number : r .number ≡ marked.said a .number
   pub value : r .value ≡ marked.said a .values

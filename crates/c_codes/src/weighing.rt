@@ -35,20 +35,20 @@ pub extern "C" fn moldingcress_compute_weights(
 
 // Sets the probability of each edge.
 #[no_mangle]
-pub extern "C" fn moldingcress_set_probability(edge_num: u32, p: f64, column: &mut [f64]) -> u32
-    ensures { λ q. ⌜ Reported ReportsDone (λ r. SetEach (isProbability p) «edge_num» p (now (column .entry)) (now (column .exit)) r) q ⌝ }
+pub extern "C" fn moldingcress_set_probability(edge_num: u32, value: f64, p: &mut [f64]) -> u32
+    ensures { λ q. ⌜ Reported ReportsDone (λ r. SetEach (isProbability value) «edge_num» value (now (p .entry)) (now (p .exit)) r) q ⌝ }
 {
-    done_number(weights_calls::set_probability(edge_num, p, column))
+    done_number(weights_calls::set_probability(edge_num, value, p))
 }
 
 // Sets the erasure probability of each edge.
 #[no_mangle]
 pub extern "C" fn moldingcress_set_erasure_probability(
     edge_num: u32,
-    pe: f64,
-    column: &mut [f64],
+    value: f64,
+    pe: &mut [f64],
 ) -> u32
-    ensures { λ q. ⌜ Reported ReportsDone (λ r. SetEach (isErasureProbability pe) «edge_num» pe (now (column .entry)) (now (column .exit)) r) q ⌝ }
+    ensures { λ q. ⌜ Reported ReportsDone (λ r. SetEach (isErasureProbability value) «edge_num» value (now (pe .entry)) (now (pe .exit)) r) q ⌝ }
 {
-    done_number(weights_calls::set_erasure_probability(edge_num, pe, column))
+    done_number(weights_calls::set_erasure_probability(edge_num, value, pe))
 }

@@ -8,7 +8,7 @@ use Rattle.columns.specs.declared.Done.{Done}
 use Rattle.engine_columns.specs.Records.{Engine}
 use Rattle.query_tables.specs.declared.End.{End}
 use Rattle.query_questions.specs.Scratch.{ScratchColumns}
-use Rattle.query_tables.specs.Steps.{TableStep, TableScratch}
+use Rattle.query_tables.specs.Tables.{TableStep, TableScratch}
 
 pub ended : {e : Engine} {scratch : Bool} {source : ℕ} {x y : End} {r : Done} {weights₀ : List ℤ} {previous₀ : List ℕ} {weights : List ℤ} {previous : List ℕ} {s₀ s : ScratchColumns} → x ≡ y
     → TableStep e scratch source x r weights₀ previous₀ weights previous → TableScratch e source x r s₀ s → TableStep e scratch source y r weights₀ previous₀ weights previous × TableScratch e source y r s₀ s

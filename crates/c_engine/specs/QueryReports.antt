@@ -7,13 +7,13 @@ use Rattle.query_crossing_answer.specs.Crossing.{replyNumber, replyWeight}
 use Rattle.c_reports.specs.declared.OneCount.{OneCount}
 use Rattle.c_reports.specs.declared.TwoCounts.{TwoCounts}
 
--- the path's length and total
+-- Expected forms by place, last paragraph: the number, the path's length and total.
 pub record ReportsPath (a : PathAnswer) (r : TwoCounts) : Type 0 where
   pub number : r .number ≡ said a .number
   pub first : r .first ≡ said a .values .0
   pub second : r .second ≡ said a .values .1
 
--- the crossing weight
+-- Expected forms by place, last paragraph: the number and the crossing weight.
 pub record ReportsCrossing (a : CrossingReply) (r : OneCount) : Type 0 where
   pub number : r .number ≡ replyNumber a
   pub count : r .count ≡ replyWeight a

@@ -11,7 +11,7 @@ ghost use Rattle.engine_columns.specs.Records.{engine, counts};
 ghost use Rattle.query_tables.specs.declared.End.the-variants.{None};
 ghost use Rattle.query_questions.specs.Queries.{scratchLong, graphIn, weightsIn};
 ghost use Rattle.query_questions.specs.Scratch.{scratchOf};
-ghost use Rattle.query_tables.specs.Steps.{tableRefusal, TableInside};
+ghost use Rattle.query_tables.specs.Tables.{tableRefusal, TableInside};
 ghost use Rattle.columns_answers.specs.Done.{said};
 ghost use Prim.Native.Nat.{_-_};
 ghost use Rattle.prebuilt_calls.specs.Rows.{RowStep, RowScratch};

@@ -1,7 +1,7 @@
 ghost use Rattle.c_reports.specs.Reports.{Reported, ReportsDone};
 ghost use Rattle.c_reports.specs.Engine.{givenEnd, noEnd};
 ghost use Rattle.query_questions.specs.Queries.{scratchLong};
-ghost use Rattle.query_tables.specs.Steps.{TableStep, TableScratch};
+ghost use Rattle.query_tables.specs.Tables.{TableStep, TableScratch};
 ghost use Rattle.query_questions.specs.Scratch.{scratchOf};
 ghost use Rattle.engine_columns.specs.Records.{engine, counts};
 ghost use lib.ListN.{length};

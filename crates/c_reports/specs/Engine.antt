@@ -7,6 +7,7 @@ use Rattle.query_tables.specs.declared.End.{End}
 use Rattle.query_tables.specs.declared.End.the-variants.{None, At}
 use Rattle.c_reports.specs.declared.engine.EngineReport.{EngineReport}
 
+-- Expected forms by place, last paragraph: the struct holds the number and the values of an `EngineAnswer`.
 pub record ReportsEngine (a : EngineAnswer) (r : EngineReport) : Type 0 where
   pub number : r .number ≡ said a .number
   pub vertices : r .vertices ≡ said a .values .vertices
@@ -15,9 +16,11 @@ pub record ReportsEngine (a : EngineAnswer) (r : EngineReport) : Type 0 where
 
 -- ---- arguments that are enums: whether there is one, any number but 0 for yes, and the value
 
+-- Engine, Settling, sentence 5: no end.
 abbrev pub noEnd : End
 noEnd = None
 
+-- Engine, Settling, sentence 5: an end or none, from whether there is one and its number.
 abbrev pub givenEnd : ℕ → ℕ → End
 givenEnd zero v = None
 givenEnd (suc n) v = At (record { 0 = v })

@@ -10,22 +10,22 @@ use Rattle.columns_answers.specs.Counts.{listSaid, syndromeSaid}
 use Rattle.c_reports.specs.declared.OneCount.{OneCount}
 use Rattle.c_reports.specs.declared.TwoCounts.{TwoCounts}
 
--- a call of the library that meets its contract gave an answer, and r is what is reported of it
+-- Expected forms by place, last paragraph, for C: a call of the library that meets its contract gave an answer, and r is what is reported of it.
 pub record Reported {A : Type 0} {B : Type 0} (Reports : A → B → Type 0) (Call : A → Type 0) (r : B) : Type 0 where
   pub answer : A
   pub called : Call answer
   pub reported : Reports answer r
 
--- an answer that has no value: its number
+-- Expected forms by place, last paragraph: the number of an answer that has no value.
 abbrev pub ReportsDone : Done → ℕ → Type 0
 ReportsDone a r = r ≡ said a .number
 
--- a list handed back: the number, and how many numbers it has
+-- Expected forms by place, last paragraph: the number of a list handed back, and how many numbers it has.
 pub record ReportsList (a : ListCount) (r : OneCount) : Type 0 where
   pub number : r .number ≡ listSaid a .number
   pub count : r .count ≡ listSaid a .values
 
--- a syndrome handed back: the number, how many defects, and how many erasures
+-- Expected forms by place, last paragraph: the number of a syndrome handed back, how many defects, and how many erasures.
 pub record ReportsSyndrome (a : SyndromeCounts) (r : TwoCounts) : Type 0 where
   pub number : r .number ≡ syndromeSaid a .number
   pub first : r .first ≡ syndromeSaid a .values .0

@@ -47,7 +47,7 @@ pub fn syndrome_report(answer: SyndromeCounts) -> TwoCounts
     ensures { λ r. ⌜ ReportsSyndrome answer r ⌝ }
 {
     match answer {
-        SyndromeCounts::Counts(defects, erasures) => TwoCounts {
+        SyndromeCounts::Counts { defects, erasures } => TwoCounts {
             number: 0,
             first: defects,
             second: erasures,

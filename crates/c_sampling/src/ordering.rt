@@ -36,17 +36,17 @@ pub extern "C" fn moldingcress_reorder_vertices(
     ends_b: &mut [u32],
     boundary: &mut [u8],
     defect: &mut [u8],
-    is: &mut [f64],
-    js: &mut [f64],
-    ts: &mut [f64],
-    lengths: &mut [u32],
-    numbers: &mut [u32],
+    pos_i: &mut [f64],
+    pos_j: &mut [f64],
+    pos_t: &mut [f64],
+    list_lengths: &mut [u32],
+    neighbor_numbers: &mut [u32],
     scratch: &mut [u32],
 ) -> u32
     ensures { λ q. ⌜ Reported ReportsDone (λ r. ReorderedVertices «vertex_num» «edge_num» (now (order .entry))
-        (reorderColumns (now («ends_a» .entry)) (now («ends_b» .entry)) (now (boundary .entry)) (now (defect .entry)) (now (is .entry)) (now (js .entry)) (now (ts .entry)) (now (lengths .entry)) (now (numbers .entry)) (now (scratch .entry)))
+        (reorderColumns (now («ends_a» .entry)) (now («ends_b» .entry)) (now (boundary .entry)) (now (defect .entry)) (now («pos_i» .entry)) (now («pos_j» .entry)) (now («pos_t» .entry)) (now («list_lengths» .entry)) (now («neighbor_numbers» .entry)) (now (scratch .entry)))
         r
-        (reorderColumns (now («ends_a» .exit)) (now («ends_b» .exit)) (now (boundary .exit)) (now (defect .exit)) (now (is .exit)) (now (js .exit)) (now (ts .exit)) (now (lengths .exit)) (now (numbers .exit)) (now (scratch .exit)))) q ⌝ }
+        (reorderColumns (now («ends_a» .exit)) (now («ends_b» .exit)) (now (boundary .exit)) (now (defect .exit)) (now («pos_i» .exit)) (now («pos_j» .exit)) (now («pos_t» .exit)) (now («list_lengths» .exit)) (now («neighbor_numbers» .exit)) (now (scratch .exit)))) q ⌝ }
 {
     done_number(reorder_calls::reorder_vertices(
         vertex_num,
@@ -56,11 +56,11 @@ pub extern "C" fn moldingcress_reorder_vertices(
         ends_b,
         boundary,
         defect,
-        is,
-        js,
-        ts,
-        lengths,
-        numbers,
+        pos_i,
+        pos_j,
+        pos_t,
+        list_lengths,
+        neighbor_numbers,
         scratch,
     ))
 }

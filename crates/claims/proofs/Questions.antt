@@ -22,7 +22,7 @@ use Rattle.query_search.proofs.Ranges.{in-range}
 use Rattle.query_tables.specs.declared.End.{End}
 use Rattle.query_tables.specs.declared.End.the-variants.{None, At}
 use Rattle.query_tables.specs.Ends.{endIn, endInRange}
-use Rattle.query_tables.specs.Steps.{tableRefusal}
+use Rattle.query_tables.specs.Tables.{tableRefusal}
 use Rattle.query_tables.proofs.Tables.{table-of}
 use Rattle.query_paths.specs.GetPath.{pathAsked}
 use Rattle.query_paths.proofs.PathAsked.{path-asked}

@@ -14,7 +14,7 @@ use Rattle.query_questions.specs.Scratch.{ScratchColumns}
 use Rattle.query_tables.specs.declared.End.{End}
 use Rattle.query_tables.specs.declared.End.the-variants.{None}
 use Rattle.query_tables.specs.Ends.{endIn}
-use Rattle.query_tables.specs.Steps.{TableStep}
+use Rattle.query_tables.specs.Tables.{TableStep}
 use Rattle.claims.specs.QueriesCalled.{to-end, of-all}
 use Rattle.claims.specs.Met.{scratchFits}
 use Rattle.claims.specs.Queries.{TableSays, AllEdgesIsLeast}

@@ -8,7 +8,7 @@ use lib.ListN.{length, getD, take}
 use Rattle.columns.specs.Lists.{over, after}
 use Rattle.columns.proofs.Columns.{after-accepted, take-over}
 use Rattle.columns.proofs.Counting.{length-each}
-use Rattle.columns_neighbors.specs.Lists.{neighbours, degrees, lists}
+use Rattle.columns_neighbors.specs.Lists.{neighbors, degrees, lists}
 use Rattle.codes_writers.specs.Edges.{Ends, firsts, seconds}
 use Rattle.codes_layers.specs.Codes.{edgesOf}
 use Rattle.codes_layers.specs.Counts.{vertexNum, edgeNum}
@@ -76,7 +76,7 @@ module _ (kind d rounds : ℕ) (ok : Accepted kind d rounds) where
 
     ls-long : length ls ≡ v
     unfolding degrees
-    ls-long = length-each v (λ u. length (neighbours (firsts es) (seconds es) e u))
+    ls-long = length-each v (λ u. length (neighbors (firsts es) (seconds es) e u))
 
     lengths-are : take v (over ls l₀) ≡ degrees a b e v
     lengths-are = take-over ls l₀ v ls-long ∙ sym (degrees-same a b (firsts es) (seconds es) e same-first same-second v)

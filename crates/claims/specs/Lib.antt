@@ -2,6 +2,7 @@
 pub mod Listed
 pub mod Called
 pub mod Demand3
+-- Starred: document 01's checked examples with a star.
 pub mod Starred
 -- SoundCodes: the verdict of `sanity_check` on built codes.
 pub mod SoundCodes

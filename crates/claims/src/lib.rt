@@ -1,4 +1,4 @@
-// Demand 3 as one claim about every list of calls, the contract of a function with nothing to do.
+// What is claimed of several sections together. Each claim is the contract of a function with nothing to do.
 ghost use Rattle.claims.specs.Demand3.{Demand3};
 ghost use Rattle.claims.specs.Starred.{StarredExamples};
 ghost use Rattle.claims.specs.SoundCodes.{CreatedCodesAreSound, NewCodesAreSound};
@@ -11,6 +11,7 @@ pub fn demand_3()
     ensures { λ _. ⌜ Demand3 ⌝ }
 {}
 
+// Document 01's checked examples with a star, as one statement about the definitions.
 pub fn starred_examples()
     ensures { λ _. ⌜ StarredExamples ⌝ }
 {}

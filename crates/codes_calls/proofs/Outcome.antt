@@ -10,7 +10,7 @@ use Rattle.columns.specs.Lists.{over, after}
 use Rattle.columns.proofs.Columns.{after-accepted, after-refused, length-over, over-in}
 use Rattle.columns.proofs.Counting.{each-same, joined-same}
 use Rattle.columns.proofs.Tests.{and-both}
-use Rattle.columns_neighbors.specs.Lists.{neighbours, hits, degrees, lists, ListsFilled}
+use Rattle.columns_neighbors.specs.Lists.{neighbors, hits, degrees, lists, ListsFilled}
 use Rattle.columns_neighbors.specs.Steps.{InRange}
 use Rattle.codes_writers.specs.Edges.{Ends, firsts, seconds}
 use Rattle.codes_layers.specs.Codes.{edgesOf}
@@ -77,17 +77,17 @@ module _ (kind d rounds : ℕ) (lent : CodeColumns) (o : Open kind d rounds lent
 -- ---- neighbour lists read the first places alone
 
 module _ (a b a′ b′ : List ℕ) (e : ℕ) (p : (k : ℕ) → k < e → getD a k 0 ≡ getD a′ k 0) (q : (k : ℕ) → k < e → getD b k 0 ≡ getD b′ k 0) where
-  neighbours-same : (v : ℕ) → neighbours a b e v ≡ neighbours a′ b′ e v
-  unfolding neighbours
-  neighbours-same v = joined-same e _ _ (λ k l. λ i. hits v (p k l i) k ++ hits v (q k l i) k)
+  neighbors-same : (v : ℕ) → neighbors a b e v ≡ neighbors a′ b′ e v
+  unfolding neighbors
+  neighbors-same v = joined-same e _ _ (λ k l. λ i. hits v (p k l i) k ++ hits v (q k l i) k)
 
   pub degrees-same : (n : ℕ) → degrees a b e n ≡ degrees a′ b′ e n
   unfolding degrees
-  degrees-same n = each-same n _ _ (λ v l. ap length (neighbours-same v))
+  degrees-same n = each-same n _ _ (λ v l. ap length (neighbors-same v))
 
   pub lists-same : (n : ℕ) → lists a b e n ≡ lists a′ b′ e n
   unfolding lists
-  lists-same n = joined-same n _ _ (λ v l. neighbours-same v)
+  lists-same n = joined-same n _ _ (λ v l. neighbors-same v)
 
 -- the built ends within their columns
 module _ (kind d rounds : ℕ) (ok : Accepted kind d rounds) where

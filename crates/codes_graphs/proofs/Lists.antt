@@ -10,7 +10,7 @@ use native.Mathlib.Omega.{arith}
 use lib.ListN.{length, getD, List·getD-map}
 use Rattle.columns.specs.Lists.{each, joined, layered, when}
 use Rattle.columns.proofs.Counting.{times-next}
-use Rattle.columns_neighbors.specs.Lists.{neighbours, hits, chosen}
+use Rattle.columns_neighbors.specs.Lists.{neighbors, hits, chosen}
 use Rattle.columns_neighbors.proofs.Placing.{length-more, length-within, length-hit}
 use Rattle.codes_writers.specs.Edges.{Ends, firsts, seconds}
 use Rattle.codes_planar.specs.Planar.{rowEdges, planarRow, planarLayer}
@@ -39,7 +39,7 @@ chosen-ascends n test j k h l =
 
 -- ---- a vertex that ends an edge has a list
 
-pub listed : (a b : List ℕ) (e v k : ℕ) → k < e → (getD a k 0 ≡ v) ⊎ (getD b k 0 ≡ v) → 1 ≤ length (neighbours a b e v)
+pub listed : (a b : List ℕ) (e v k : ℕ) → k < e → (getD a k 0 ≡ v) ⊎ (getD b k 0 ≡ v) → 1 ≤ length (neighbors a b e v)
 listed a b e v k h (inl q) = omega (arith, length-more a b k v, length-within a b (k + 1) e v (omega arith), ap (λ (x : ℕ). length (hits v x k)) q, length-hit v k)
 listed a b e v k h (inr q) = omega (arith, length-more a b k v, length-within a b (k + 1) e v (omega arith), ap (λ (x : ℕ). length (hits v x k)) q, length-hit v k)
 
@@ -150,7 +150,7 @@ module _ (kind d rounds : ℕ) (ok : Accepted kind d rounds) where
       subst (λ (u : ℕ). Touches u (layered rounds (λ t. layerEdges kind d (t * layerSize kind d)) (λ t. gapEdges kind d (t * layerSize kind d)))) v-is
       (record { edge = z .edge; has = has-layer (0, 0) (z .edge) rounds (λ t. layerEdges kind d (t * layerSize kind d)) (λ t. gapEdges kind d (t * layerSize kind d)) t (omega arith) (z .has); ends = z .ends })
 
-  pub vertex-listed : (v : ℕ) → v < vertexNum kind d rounds → 1 ≤ length (neighbours (firsts (edgesOf kind d rounds)) (seconds (edgesOf kind d rounds)) (edgeNum kind d rounds) v)
+  pub vertex-listed : (v : ℕ) → v < vertexNum kind d rounds → 1 ≤ length (neighbors (firsts (edgesOf kind d rounds)) (seconds (edgesOf kind d rounds)) (edgeNum kind d rounds) v)
   vertex-listed v h =
       let z = vertex-touched v h in
       let k : ℕ = z .has .place in

@@ -12,9 +12,10 @@ use Rattle.columns.specs.Questions.{allWithin}
 use Rattle.columns.proofs.Columns.{take-over, over-in}
 use Rattle.columns.proofs.Tests.{at-within}
 use Rattle.columns_neighbors.specs.Lists.{endsAt}
-use Rattle.columns_neighbors.proofs.Ends.{GraphSound, says-graph}
-use Rattle.columns_pairs.proofs.PairTests.{OnePair}
-use Rattle.columns_neighbors.proofs.Placing.{neighbours-chosen}
+use Rattle.columns_neighbors.specs.Sound.{SoundGraph}
+use Rattle.columns_neighbors.proofs.Ends.{says-graph}
+use Rattle.columns_pairs.specs.Pairs.{OnePair}
+use Rattle.columns_neighbors.proofs.Placing.{neighbors-chosen}
 use Rattle.codes_writers.specs.declared.CodeVertex.{CodeVertex}
 use Rattle.codes_writers.specs.Edges.{Ends, firsts, seconds, boundaries}
 use Rattle.codes_layers.specs.Codes.{edgesOf, verticesOf}
@@ -63,7 +64,7 @@ module _ (kind d rounds : ℕ) (ok : Accepted kind d rounds) where
     apart j k h l (inr q) =
         omega (arith, f .rising j (omega (arith, count)), f .rising k (omega (arith, count)), first-over a j (omega arith), second-over b j (omega arith), first-over a k l, second-over b k l, q .0, q .1)
 
-    pub graph-record : GraphSound v e (over (firsts es) a) (over (seconds es) b)
+    pub graph-record : SoundGraph v e (over (firsts es) a) (over (seconds es) b)
     graph-record = record {
       some-vertex = some;
       few-vertices = ok .few-vertices;
@@ -103,7 +104,7 @@ module _ (kind d rounds : ℕ) (ok : Accepted kind d rounds) where
     rising = λ k h. omega (arith, first-is k, second-is k, f .rising k (omega (arith, count)));
     touched = vertex-listed kind d rounds ok;
     ascending = λ u j k h l.
-        let c = neighbours-chosen (firsts es) (seconds es) e u differ-plain in
+        let c = neighbors-chosen (firsts es) (seconds es) e u differ-plain in
         rw c (chosen-ascends e (endsAt (firsts es) (seconds es) u) j k h (omega (arith, ap length c)));
   }
 

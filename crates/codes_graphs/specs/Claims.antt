@@ -7,7 +7,7 @@ use mathlib.Core.Option.{some}
 use lib.ListN.{length, getD, replicate}
 use Rattle.columns.specs.Lists.{over}
 use Rattle.columns.specs.Questions.{boundariesSound, marksSound, halfWeightsSound}
-use Rattle.columns_neighbors.specs.Lists.{neighbours}
+use Rattle.columns_neighbors.specs.Lists.{neighbors}
 use Rattle.columns_neighbors.specs.Sound.{graphSound}
 use Rattle.engine_walks.specs.Answers.{crossing}
 use Rattle.engine_walks.specs.Claims.{IsCrossing, Potential}
@@ -20,7 +20,7 @@ use Rattle.codes_graphs.specs.Graphs.{builtGraph, height}
 
 -- Six builders, on new edges, sentence 2: the neighbour list of a vertex of a built code.
 abbrev pub listOf : (kind d rounds v : ℕ) → List ℕ
-listOf kind d rounds v = neighbours (firsts (edgesOf kind d rounds)) (seconds (edgesOf kind d rounds)) (edgeNum kind d rounds) v
+listOf kind d rounds v = neighbors (firsts (edgesOf kind d rounds)) (seconds (edgesOf kind d rounds)) (edgeNum kind d rounds) v
 
 -- Six builders and Questions at the door, 7: what holds of one built code.
 pub record BuiltCode (kind d rounds : ℕ) : Type 0 where

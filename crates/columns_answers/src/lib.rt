@@ -8,6 +8,6 @@ pub enum ListCount {
 
 // What a call answers that hands back a syndrome: how many defects, and how many erasures.
 pub enum SyndromeCounts {
-    Counts(u32, u32),
+    Counts { defects: u32, erasures: u32 },
     Refused(u32),
 }

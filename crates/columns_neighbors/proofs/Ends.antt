@@ -4,28 +4,17 @@ use mathlib.Core.Bool.{Bool, true, false, _&&_}
 use mathlib.Core.List.{List}
 use Prim.Native.Nat.{ℕ, _≤_, _<_}
 use native.Mathlib.Omega.{arith}
-use lib.ListN.{length, getD, take, length-take}
+use lib.ListN.{length, take, length-take}
 use lib.Seq.{getD-take}
 use lib.Dec.{leb}
 use borrow.Author.Tests.{leb-true, le-leb}
 use Rattle.columns.specs.Limits.{vertexLimit, edgeLimit}
 use Rattle.columns.specs.Questions.{allBelow, vertexCountSound, edgeCountSound}
 use Rattle.columns.proofs.Tests.{and-both, both-and, below-first, at-below}
-use Rattle.columns_neighbors.specs.Sound.{endsInRange, graphSound}
+use Rattle.columns_neighbors.specs.Sound.{endsInRange, graphSound, SoundGraph}
 use Rattle.columns_pairs.specs.Pairs.{endsDiffer, pairsApart, Ascending}
 use Rattle.columns_neighbors.specs.Steps.{InRange}
-use Rattle.columns_pairs.proofs.PairTests.{OnePair, differ-at, at-differ, apart-at, at-apart}
-
-pub record GraphSound (v e : ℕ) (a b : List ℕ) : Type 0 where
-  pub some-vertex : 1 ≤ v
-  pub few-vertices : v ≤ vertexLimit
-  pub few-edges : e ≤ edgeLimit
-  pub long-a : e ≤ length a
-  pub long-b : e ≤ length b
-  pub in-a : InRange a e v
-  pub in-b : InRange b e v
-  pub differ : (k : ℕ) → k < e → getD a k 0 ≡ getD b k 0 → ⊥
-  pub apart : (j k : ℕ) → j < k → k < e → OnePair a b j k → ⊥
+use Rattle.columns_pairs.proofs.PairTests.{differ-at, at-differ, apart-at, at-apart}
 
 module _ (v e : ℕ) (a b : List ℕ) where
   pub range-says : endsInRange v e a b ≡ true → (e ≤ length a) × (e ≤ length b) × InRange a e v × InRange b e v
@@ -36,7 +25,7 @@ module _ (v e : ℕ) (a b : List ℕ) where
       let (ba, bb) = and-both (allBelow v (take e a)) _ p₂ in
       (leb-true e (length a) la, leb-true e (length b) lb, below-first v e a ba (leb-true e (length a) la), below-first v e b bb (leb-true e (length b) lb))
 
-  pub graph-says : graphSound v e a b ≡ true → GraphSound v e a b
+  pub graph-says : graphSound v e a b ≡ true → SoundGraph v e a b
   unfolding graphSound
   graph-says p =
       let (vs, p₁) = and-both (vertexCountSound v) _ p in
@@ -61,7 +50,7 @@ module _ (v e : ℕ) (a b : List ℕ) where
       let i-in : i < e = omega (arith, length-take e xs) in
       rw (getD-take e xs i 0 i-in) (h i i-in))
 
-  pub says-graph : GraphSound v e a b → graphSound v e a b ≡ true
+  pub says-graph : SoundGraph v e a b → graphSound v e a b ≡ true
   unfolding graphSound endsInRange
   says-graph s =
       both-and (both-and (le-leb 1 v (s .some-vertex)) (le-leb v vertexLimit (s .few-vertices)))

@@ -13,16 +13,16 @@ hits v x k = when (eqb x v) k
 
 -- Six builders, on new edges, sentence 2: the neighbour list of vertex v, the numbers of
 -- the edges before number e that end at v, ascending; a and b are the columns of ends.
-unfoldable pub neighbours : (a b : List ℕ) (e v : ℕ) → List ℕ
-neighbours a b e v = joined e (λ k. hits v (getD a k 0) k ++ hits v (getD b k 0) k)
+unfoldable pub neighbors : (a b : List ℕ) (e v : ℕ) → List ℕ
+neighbors a b e v = joined e (λ k. hits v (getD a k 0) k ++ hits v (getD b k 0) k)
 
 -- Records, on neighbour lists: the lists of vertices 0 to n - 1 one after another, in vertex order.
 unfoldable pub lists : (a b : List ℕ) (e n : ℕ) → List ℕ
-lists a b e n = joined n (λ v. neighbours a b e v)
+lists a b e n = joined n (λ v. neighbors a b e v)
 
 -- Records, on neighbour lists: the length of each list.
 unfoldable pub degrees : (a b : List ℕ) (e n : ℕ) → List ℕ
-degrees a b e n = each n (λ v. length (neighbours a b e v))
+degrees a b e n = each n (λ v. length (neighbors a b e v))
 
 -- The numbers below n for which a test holds, ascending.
 unfoldable pub chosen : ℕ → (ℕ → Bool) → List ℕ

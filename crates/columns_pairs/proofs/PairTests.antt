@@ -13,7 +13,7 @@ use lib.Seq.{getD-set-same, getD-set-other}
 use lib.Dec.{eqb}
 use Rattle.columns.specs.Questions.{every}
 use Rattle.columns.proofs.Tests.{every-not, at-every, every-at}
-use Rattle.columns_pairs.specs.Pairs.{samePair, pairsApart, endsDiffer, lowAt, highAt}
+use Rattle.columns_pairs.specs.Pairs.{samePair, pairsApart, endsDiffer, lowAt, highAt, OnePair}
 
 -- two pairs are the same where their smaller and their larger numbers are
 either : (x y u v : ℕ) → min x y ≡ min u v → max x y ≡ max u v → ((x ≡ u) × (y ≡ v)) ⊎ ((x ≡ v) × (y ≡ u))
@@ -109,10 +109,6 @@ differ-at a b e p k h q =
 pub at-differ : (a b : List ℕ) (e : ℕ) → ((k : ℕ) → k < e → getD a k 0 ≡ getD b k 0 → ⊥) → endsDiffer a b e ≡ true
 unfolding endsDiffer
 at-differ a b e f = at-every (λ k. not (eqb (getD a k 0) (getD b k 0))) e (λ k h. ap not (ne-eqb (getD a k 0) (getD b k 0) (f k h)))
-
--- edges j and k join one pair of vertices
-abbrev pub OnePair : (a b : List ℕ) (j k : ℕ) → Type 0
-OnePair a b j k = ((getD a j 0 ≡ getD a k 0) × (getD b j 0 ≡ getD b k 0)) ⊎ ((getD a j 0 ≡ getD b k 0) × (getD b j 0 ≡ getD a k 0))
 
 pub apart-at : (a b : List ℕ) (e : ℕ) → pairsApart a b e ≡ true → (j k : ℕ) → j < k → k < e → OnePair a b j k → ⊥
 unfolding pairsApart

@@ -6,8 +6,8 @@ use lib.ListN.{length}
 use borrow.Author.Tests.{leb-true}
 use Rattle.columns.specs.Questions.{boundariesSound}
 use Rattle.columns.proofs.Tests.{and-both}
-use Rattle.columns_neighbors.specs.Sound.{graphSound}
-use Rattle.columns_neighbors.proofs.Ends.{GraphSound, graph-says}
+use Rattle.columns_neighbors.specs.Sound.{graphSound, SoundGraph}
+use Rattle.columns_neighbors.proofs.Ends.{graph-says}
 use Rattle.columns_room.specs.Room.{twoLong}
 use Rattle.columns_room.specs.Graph.{CodeGraph, graphLong, codeSound}
 use Rattle.columns_room.proofs.Refusals.{two-long}
@@ -25,7 +25,7 @@ graph-long-of g p =
     record { long-a = a; long-b = b; long-boundary = leb-true _ _ m }
 
 pub record CodeSound (g : CodeGraph) : Type 0 where
-  pub graph : GraphSound (g .vertices) (g .edges) (g .endsA) (g .endsB)
+  pub graph : SoundGraph (g .vertices) (g .edges) (g .endsA) (g .endsB)
   pub boundaries : boundariesSound (g .vertices) (g .boundary) ≡ true
 
 pub code-sound-of : (g : CodeGraph) → codeSound g ≡ true → CodeSound g

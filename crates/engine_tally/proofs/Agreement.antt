@@ -13,7 +13,8 @@ use Rattle.columns.specs.Lists.{over}
 use Rattle.columns.specs.Questions.{allBelow, allWithin}
 use Rattle.columns.proofs.Tests.{within-at, at-below, at-within, within-first}
 use Rattle.columns.proofs.Columns.{take-over, over-in, length-over, after-accepted}
-use Rattle.columns_neighbors.proofs.Ends.{GraphSound, graph-says, says-graph}
+use Rattle.columns_neighbors.specs.Sound.{SoundGraph}
+use Rattle.columns_neighbors.proofs.Ends.{graph-says, says-graph}
 use Rattle.engine_columns.specs.declared.EngineCounts.{EngineCounts}
 use Rattle.engine_columns.specs.declared.EngineAnswer.{EngineAnswer}
 use Rattle.engine_columns.specs.Records.{Engine, engine, counts, said}
@@ -178,7 +179,7 @@ copied-at n s d h i l = over-in (take n s) d 0 i (omega (arith, length-take n s)
 copied-length : (n : ℕ) (s d : List ℕ) → n ≤ length s → n ≤ length d → length (over (take n s) d) ≡ length d
 copied-length n s d h g = length-over (take n s) d (omega (arith, length-take n s))
 
-copied-graph : (v e : ℕ) (a b a′ b′ : List ℕ) → e ≤ length a′ → e ≤ length b′ → GraphSound v e a b → GraphSound v e (over (take e a) a′) (over (take e b) b′)
+copied-graph : (v e : ℕ) (a b a′ b′ : List ℕ) → e ≤ length a′ → e ≤ length b′ → SoundGraph v e a b → SoundGraph v e (over (take e a) a′) (over (take e b) b′)
 copied-graph v e a b a′ b′ la lb s =
     let ga = copied-at e a a′ (s .long-a) in
     let gb = copied-at e b b′ (s .long-b) in

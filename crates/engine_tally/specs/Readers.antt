@@ -54,7 +54,7 @@ setByCalls [] numbers k = notNamed
 setByCalls (f ∷ fs) [] k = notNamed
 setByCalls (f ∷ fs) (n ∷ numbers) k = lastOf (setByCalls fs numbers k) (setByCall n (f .call) k)
 
--- Demand 3, sentence 3: the weight that goes with a word, from the opening weight.
+-- Demand 3, sentence 3: the weight that goes with what was set last, from the opening weight.
 abbrev pub weightBy : LastSet → (opening : ℕ) → ℕ
 weightBy (setTo x) opening = x
 weightBy asOpened opening = opening

@@ -9,6 +9,7 @@ use native.Mathlib.Decide.{ℕ-discrete}
 use native.Mathlib.Omega.{arith}
 use lib.Dec.{ltb}
 use borrow.Author.Tests.{ltb-true, ltb-false, lt-ltb, le-ltb}
+use Rattle.engine_walks.specs.Lists.{foundOr}
 use Rattle.engine_walks.specs.Settling.{lesser, firstLeast}
 
 -- of the numbers below n that pass the test t this one has the least x, and is the smaller among equals; or none passes
@@ -56,38 +57,32 @@ module _ (t : ℕ → Bool) (x : ℕ → ℕ) where
           let s = q .2 a (p .0) (p .1) in
           ap (λ k. some k) (le-antisymm (r .1 (s .0)) (s .1 (r .0)))
 
--- ---- as a loop keeps it: n stands for none
-
-abbrev pub orElse : ℕ → Option ℕ → ℕ
-orElse n none = n
-orElse n (some a) = a
-
-module _ (t : ℕ → Bool) (x : ℕ → ℕ) (n i best : ℕ) (h : i < n) (inv : best ≡ orElse n (firstLeast t x i)) where
+module _ (t : ℕ → Bool) (x : ℕ → ℕ) (n i best : ℕ) (h : i < n) (inv : best ≡ foundOr n (firstLeast t x i)) where
   pub best-in : best ≢ n → best < i
   best-in f = go (firstLeast t x i) (first-least t x i) inv
     where
-      go : (o : Option ℕ) → IsFirst t x i o → best ≡ orElse n o → best < i
+      go : (o : Option ℕ) → IsFirst t x i o → best ≡ foundOr n o → best < i
       go none p e = absurd (f e)
       go (some a) p e = omega (arith, p .0)
 
-  pub pass-by : t i ≡ false → best ≡ orElse n (firstLeast t x (suc i))
+  pub pass-by : t i ≡ false → best ≡ foundOr n (firstLeast t x (suc i))
   unfolding firstLeast
   pass-by e = rw e inv
 
-  pub pass-take : t i ≡ true → (best ≡ n) ⊎ (x i < x best) → i ≡ orElse n (firstLeast t x (suc i))
+  pub pass-take : t i ≡ true → (best ≡ n) ⊎ (x i < x best) → i ≡ foundOr n (firstLeast t x (suc i))
   unfolding firstLeast
   pass-take e w = rw e (go (firstLeast t x i) (first-least t x i) inv w)
     where
-      go : (o : Option ℕ) → IsFirst t x i o → best ≡ orElse n o → (best ≡ n) ⊎ (x i < x best)
-          → i ≡ orElse n (lesser x i o)
+      go : (o : Option ℕ) → IsFirst t x i o → best ≡ foundOr n o → (best ≡ n) ⊎ (x i < x best)
+          → i ≡ foundOr n (lesser x i o)
       go none p e w = refl
       go (some a) p e (inl q) = absurd (omega (arith, p .0))
       go (some a) p e (inr l) = rw (lt-ltb (x i) (x a) (subst (λ b. x i < x b) e l))
 
-  pub pass-keep : t i ≡ true → best ≢ n → x best ≤ x i → best ≡ orElse n (firstLeast t x (suc i))
+  pub pass-keep : t i ≡ true → best ≢ n → x best ≤ x i → best ≡ foundOr n (firstLeast t x (suc i))
   unfolding firstLeast
   pass-keep e f l = rw e (go (firstLeast t x i) inv)
     where
-      go : (o : Option ℕ) → best ≡ orElse n o → best ≡ orElse n (lesser x i o)
+      go : (o : Option ℕ) → best ≡ foundOr n o → best ≡ foundOr n (lesser x i o)
       go none q = absurd (f q)
       go (some a) q = rw (le-ltb (x i) (x a) (subst (λ b. x b ≤ x i) q l)) q

@@ -1,6 +1,6 @@
 -- Examples: document 01's listing and small graphs, computed. Sums: laws of lists. LowerBound, UpperBound: potentials, cancelled walks.
 -- LeastWeights, Offers, FirstLeast, Turns, Stopping: settling gives least weights, comes to rest and stops at its end. Tree, Limits: the way back, the size of sums.
--- TableAndPath, LeastCrossing, TwoGraphs: the claims. Neighbours, TurnCases: settling along neighbour lists and case by case, for code.
+-- TableAndPath, LeastCrossing, TwoGraphs: the claims. Neighbors, TurnCases: settling along neighbour lists and case by case, for code.
 pub mod Examples
 pub mod Sums
 pub mod LowerBound
@@ -15,5 +15,5 @@ pub mod Limits
 pub mod TableAndPath
 pub mod LeastCrossing
 pub mod TwoGraphs
-pub mod Neighbours
+pub mod Neighbors
 pub mod TurnCases

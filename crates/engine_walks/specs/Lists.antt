@@ -2,6 +2,7 @@
 use mathlib.Core.Path.{_≡_}
 use mathlib.Core.Bool.{Bool, true, false}
 use mathlib.Core.List.{List, [], _∷_}
+use mathlib.Core.Option.{Option, some, none}
 use Prim.Native.Nat.{ℕ, _+_}
 use lib.Dec.{eqb}
 
@@ -28,3 +29,8 @@ All P (e ∷ s) = P e × All P s
 abbrev pub Distinct : List ℕ → Type 0
 Distinct [] = Unit {0}
 Distinct (e ∷ s) = (sum s (delta e) ≡ 0) × Distinct s
+
+-- Engine, Settling, sentence 1, as a loop keeps it: the number that was found, n where none was.
+abbrev pub foundOr : ℕ → Option ℕ → ℕ
+foundOr n none = n
+foundOr n (some a) = a

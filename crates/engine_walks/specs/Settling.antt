@@ -1,7 +1,7 @@
 -- Settling, turn by turn, from any set of sources. A status byte says of each vertex that it is absent (0), waits (1) or was taken (2); the weight and
 -- the previous vertex of an absent vertex mean nothing.
 use mathlib.Core.Bool.{Bool, false, not, cond, _&&_, _||_}
-use mathlib.Core.List.{List}
+use mathlib.Core.List.{List, [], _∷_}
 use mathlib.Core.Option.{Option, some, none}
 use Prim.Native.Nat.{ℕ, zero, suc, _+_, _-_}
 use lib.ListN.{getD, set}
@@ -115,3 +115,8 @@ settle g w source end (suc k) = next g w source end (settle g w source end k)
 -- Engine, Settling, to its end: a turn takes a vertex or changes nothing, so as many turns as there are vertices are enough.
 abbrev pub settled : (g : Graph) (w : ℕ → ℕ) (source : ℕ → Bool) (end : Option ℕ) → State
 settled g w source end = settle g w source end (g .vertices)
+
+-- Engine, Settling, sentence 4, along a list: the edges of a list, one after another, are offered from a, which was taken with previous q and weight W.
+unfoldable pub relaxAlong : (g : Graph) (w : ℕ → ℕ) (a q W : ℕ) → List ℕ → State → State
+relaxAlong g w a q W [] s = s
+relaxAlong g w a q W (e ∷ l) s = relaxAlong g w a q W l (relaxEdge g w a q W e s)

@@ -20,7 +20,7 @@ use Rattle.engine_columns.specs.Records.{Engine}
 use Rattle.engine_columns.proofs.Refusals.{Long, long-from, Sound, sound-from}
 use Rattle.query_tables.specs.declared.End.the-variants.{None}
 use Rattle.query_questions.specs.Queries.{queryRefusal}
-use Rattle.query_tables.specs.Steps.{tableRefusal}
+use Rattle.query_tables.specs.Tables.{tableRefusal}
 use Rattle.query_questions.specs.Scratch.{isFree}
 use Rattle.query_search.proofs.Asked.{query-of}
 use Rattle.query_search.proofs.Scratch.{query-kept}

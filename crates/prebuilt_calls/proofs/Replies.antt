@@ -26,7 +26,7 @@ use Rattle.query_questions.specs.Queries.{graphIn, weightsIn}
 use Rattle.query_questions.specs.Scratch.{ScratchColumns, isFree, SearchLeft, ScratchAfter}
 use Rattle.query_search.proofs.Scratch.{scratch-free, scratch-kept}
 use Rattle.query_tables.specs.declared.End.the-variants.{None}
-use Rattle.query_tables.specs.Steps.{TableStep, TableScratch, TableInside}
+use Rattle.query_tables.specs.Tables.{TableStep, TableScratch, TableInside}
 use Rattle.query_tables.proofs.Sources.{table-weights-length, table-previous-length}
 use Rattle.prebuilt_calls.specs.Steps.{TablesInside}
 

@@ -1,6 +1,5 @@
 -- The nearest virtual vertex of a vertex in the Rust's `PrebuiltCompleteGraph`, and the call that reports it.
 use Prim.Native.Nat.{ℕ}
-use mathlib.Core.Path.{_≡_}
 use mathlib.Core.List.{List}
 use mathlib.Core.Option.{Option, some, none}
 use lib.IntN.{ℤ}

@@ -17,7 +17,7 @@ use Rattle.engine_walks.specs.Answers.{table}
 use Rattle.query_questions.specs.Queries.{graphIn, weightsIn, queryRefusal}
 use Rattle.query_questions.specs.Scratch.{ScratchColumns}
 use Rattle.query_tables.specs.declared.End.the-variants.{None}
-use Rattle.query_tables.specs.Steps.{TableScratch}
+use Rattle.query_tables.specs.Tables.{TableScratch}
 use Rattle.prebuilt_entries.specs.Entries.{rowEntry}
 
 -- complete_graph.rs, `PrebuiltCompleteGraph`: the row of v; `nearest` holds for each vertex the least weight to a virtual vertex, -1 for none.

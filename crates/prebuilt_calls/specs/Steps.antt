@@ -8,7 +8,7 @@ use Rattle.engine_columns.specs.Records.{Engine}
 use Rattle.engine_columns.specs.Questions.{engineLong, engineSound}
 use Rattle.query_questions.specs.Queries.{scratchLong}
 use Rattle.query_questions.specs.Scratch.{ScratchColumns}
-use Rattle.query_tables.specs.Steps.{TableInside}
+use Rattle.query_tables.specs.Tables.{TableInside}
 
 -- Questions at the door, 6 and 7: an engine graph that they accept, with room in every column lent.
 pub record Fillable (e : Engine) (weights vertices least before numbers ends status weight previous node leaf : ℕ) : Type 0 where

@@ -6,7 +6,7 @@ ghost use lib.Seq.{sets};
 ghost use Rattle.columns.specs.Lists.{each};
 ghost use Rattle.columns_answers.specs.Done.{said};
 ghost use Rattle.engine_columns.specs.Records.{engine};
-ghost use Rattle.query_tables.specs.Steps.{TableInside};
+ghost use Rattle.query_tables.specs.Tables.{TableInside};
 ghost use Rattle.query_questions.specs.Queries.{scratchLong, graphIn, weightsIn};
 ghost use Rattle.query_questions.specs.Scratch.{scratchOf};
 ghost use Rattle.prebuilt_calls.specs.Boundaries.{boundaryWeight, boundaryVertex, BoundariesStep};

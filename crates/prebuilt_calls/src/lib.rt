@@ -1,4 +1,4 @@
-// The prebuilt complete graph: the row of a vertex, with its least weights to the other vertices that are not virtual, and its nearest virtual vertex.
+// The prebuilt complete graph: the row of a vertex, with its least weights to the other vertices that are not virtual, and its nearest virtual vertex; the nearest virtual vertex of every vertex.
 pub mod boundaries;
 pub mod nearest;
 

@@ -7,7 +7,7 @@ ghost use Rattle.columns_answers.specs.Done.{said};
 ghost use Rattle.engine_columns.specs.Records.{engine};
 ghost use Rattle.query_tables.specs.declared.End.the-variants.{None};
 ghost use Rattle.query_questions.specs.Queries.{scratchLong, graphIn, weightsIn};
-ghost use Rattle.query_tables.specs.Steps.{tableRefusal, TableInside};
+ghost use Rattle.query_tables.specs.Tables.{tableRefusal, TableInside};
 ghost use Rattle.query_questions.specs.Scratch.{scratchOf};
 ghost use Rattle.prebuilt_entries.specs.Nearest.{boundaryIn};
 ghost use Rattle.prebuilt_calls.specs.Nearest.{said as boundary-said, boundaryFound, BoundarySaid};

@@ -14,7 +14,8 @@ use borrow.Author.Tests.{eq-eqb, ne-eqb}
 use Rattle.columns.specs.Lists.{over}
 use Rattle.columns.proofs.Columns.{take-over, length-over}
 use Rattle.engine_walks.specs.Answers.{weightIn}
-use Rattle.engine_walks.proofs.FirstLeast.{orElse, IsFirst, first-least, pass-by, pass-take, pass-keep}
+use Rattle.engine_walks.specs.Lists.{foundOr}
+use Rattle.engine_walks.proofs.FirstLeast.{IsFirst, first-least, pass-by, pass-take, pass-keep}
 use Rattle.prebuilt_entries.specs.Entries.{rank, isVirtual}
 use Rattle.prebuilt_entries.specs.Nearest.{isReached, amount, nearestIn}
 
@@ -30,37 +31,37 @@ pub reached-by : (x : ℤ) → not (eqb (rank x) 0) ≡ isReached x
 reached-by (pos k) = ap not (ne-eqb (suc k) 0 (λ e. omega (arith, e)))
 reached-by (negsuc n) = ap not (eq-eqb 0 0 refl)
 
-module _ (bytes : List ℕ) (least : List ℤ) (u best : ℕ) (h : u < length least) (inv : best ≡ orElse (length least) (nearestIn bytes least u)) where
+module _ (bytes : List ℕ) (least : List ℤ) (u best : ℕ) (h : u < length least) (inv : best ≡ foundOr (length least) (nearestIn bytes least u)) where
   abbrev t : ℕ → Bool
   t k = isVirtual (getD bytes k 0) && isReached (weightIn least k)
 
   abbrev x : ℕ → ℕ
   x k = amount (weightIn least k)
 
-  more : {r : ℕ} → r ≡ orElse (length least) (nearestIn bytes least (suc u)) → r ≡ orElse (length least) (nearestIn bytes least (u + 1))
-  more e = let k : suc u ≡ u + 1 = omega arith in e ∙ ap (λ j. orElse (length least) (nearestIn bytes least j)) k
+  more : {r : ℕ} → r ≡ foundOr (length least) (nearestIn bytes least (suc u)) → r ≡ foundOr (length least) (nearestIn bytes least (u + 1))
+  more e = let k : suc u ≡ u + 1 = omega arith in e ∙ ap (λ j. foundOr (length least) (nearestIn bytes least j)) k
 
-  pub near-by : t u ≡ false → best ≡ orElse (length least) (nearestIn bytes least (u + 1))
+  pub near-by : t u ≡ false → best ≡ foundOr (length least) (nearestIn bytes least (u + 1))
   near-by e = more (pass-by t x (length least) u best h inv e)
 
-  pub near-take : t u ≡ true → (best ≡ length least) ⊎ (x u < x best) → u ≡ orElse (length least) (nearestIn bytes least (u + 1))
+  pub near-take : t u ≡ true → (best ≡ length least) ⊎ (x u < x best) → u ≡ foundOr (length least) (nearestIn bytes least (u + 1))
   near-take e w = more (pass-take t x (length least) u best h inv e w)
 
-  pub near-keep : t u ≡ true → best ≢ length least → x best ≤ x u → best ≡ orElse (length least) (nearestIn bytes least (u + 1))
+  pub near-keep : t u ≡ true → best ≢ length least → x best ≤ x u → best ≡ foundOr (length least) (nearestIn bytes least (u + 1))
   near-keep e f l = more (pass-keep t x (length least) u best h inv e f l)
 
 -- what the place that a loop ends with says
-pub place-none : (bytes : List ℕ) (least : List ℤ) (n best : ℕ) → best ≡ orElse n (nearestIn bytes least n) → best ≡ n → none ≡ nearestIn bytes least n
+pub place-none : (bytes : List ℕ) (least : List ℤ) (n best : ℕ) → best ≡ foundOr n (nearestIn bytes least n) → best ≡ n → none ≡ nearestIn bytes least n
 place-none bytes least n best e q = go (nearestIn bytes least n) (first-least _ _ n) e
   where
-    go : (o : Option ℕ) → IsFirst (λ u. isVirtual (getD bytes u 0) && isReached (weightIn least u)) (λ u. amount (weightIn least u)) n o → best ≡ orElse n o → none ≡ o
+    go : (o : Option ℕ) → IsFirst (λ u. isVirtual (getD bytes u 0) && isReached (weightIn least u)) (λ u. amount (weightIn least u)) n o → best ≡ foundOr n o → none ≡ o
     go none p e = refl
     go (some a) p e = absurd (omega (arith, p .0, e, q))
 
-pub place-some : (bytes : List ℕ) (least : List ℤ) (n best : ℕ) → best ≡ orElse n (nearestIn bytes least n) → best ≢ n → (best < n) × (some best ≡ nearestIn bytes least n)
+pub place-some : (bytes : List ℕ) (least : List ℤ) (n best : ℕ) → best ≡ foundOr n (nearestIn bytes least n) → best ≢ n → (best < n) × (some best ≡ nearestIn bytes least n)
 place-some bytes least n best e f = go (nearestIn bytes least n) (first-least _ _ n) e
   where
-    go : (o : Option ℕ) → IsFirst (λ u. isVirtual (getD bytes u 0) && isReached (weightIn least u)) (λ u. amount (weightIn least u)) n o → best ≡ orElse n o → (best < n) × (some best ≡ o)
+    go : (o : Option ℕ) → IsFirst (λ u. isVirtual (getD bytes u 0) && isReached (weightIn least u)) (λ u. amount (weightIn least u)) n o → best ≡ foundOr n o → (best < n) × (some best ≡ o)
     go none p e = absurd (f e)
     go (some a) p e = (omega (arith, p .0, e), ap (λ k. some k) e)
 

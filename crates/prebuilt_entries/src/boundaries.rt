@@ -5,14 +5,14 @@ ghost use Prim.Native.Nat.{_<_, _≤_};
 ghost use lib.ListN.{length, set};
 ghost use lib.Dec.{ltb};
 ghost use Rattle.engine_walks.specs.Answers.{weightIn};
-ghost use Rattle.engine_walks.proofs.FirstLeast.{orElse};
+ghost use Rattle.engine_walks.specs.Lists.{foundOr};
 ghost use Rattle.prebuilt_entries.specs.Nearest.{boundaryIn, weightTo, vertexTo};
 use super::nearest::nearest_place;
 
 // The nearest virtual vertex of v in its table; the column's length stands for none.
 fn boundary_place(boundary: &[u8], least: &[i32], v: usize) -> usize
     requires { ⌜ (length (now boundary) ≡ length (now least)) × (v < length (now boundary)) ⌝ }
-    ensures { λ r. ⌜ r ≡ orElse (length (now (least .entry))) (boundaryIn (now (boundary .entry)) (now (least .entry)) (length (now (least .entry))) v) ⌝ }
+    ensures { λ r. ⌜ r ≡ foundOr (length (now (least .entry))) (boundaryIn (now (boundary .entry)) (now (least .entry)) (length (now (least .entry))) v) ⌝ }
 {
     if boundary[v] != 0 {
         return least.len();

@@ -4,7 +4,7 @@ ghost use mathlib.Core.List.{List};
 ghost use Prim.Native.Nat.{ℕ, _+_, _<_};
 ghost use lib.ListN.{length, getD};
 ghost use Rattle.engine_walks.specs.Answers.{weightIn};
-ghost use Rattle.engine_walks.proofs.FirstLeast.{orElse};
+ghost use Rattle.engine_walks.specs.Lists.{foundOr};
 ghost use Rattle.prebuilt_entries.specs.Nearest.{isReached, amount, nearestIn};
 use super::rows::rank_of;
 use columns::Weight;
@@ -43,7 +43,7 @@ fn is_reached(least: &[i32], u: usize) -> bool
 // The nearer of u and the best vertex before it; the column's length stands for none.
 fn nearer(byte: u8, least: &[i32], u: usize, best: usize) -> usize
     requires { ⌜ u < length (now least) ⌝ }
-    ensures { λ r. ⌜ ((bytes : List ℕ) → getD bytes u 0 ≡ byte → best ≡ orElse (length (now (least .entry))) (nearestIn bytes (now (least .entry)) u) → r ≡ orElse (length (now (least .entry))) (nearestIn bytes (now (least .entry)) (u + 1))) ⌝ }
+    ensures { λ r. ⌜ ((bytes : List ℕ) → getD bytes u 0 ≡ byte → best ≡ foundOr (length (now (least .entry))) (nearestIn bytes (now (least .entry)) u) → r ≡ foundOr (length (now (least .entry))) (nearestIn bytes (now (least .entry)) (u + 1))) ⌝ }
 {
     if byte == 0 {
         return best;
@@ -63,7 +63,7 @@ fn nearer(byte: u8, least: &[i32], u: usize, best: usize) -> usize
 // The nearest virtual vertex in a table; the column's length stands for none.
 pub fn nearest_place(boundary: &[u8], least: &[i32]) -> usize
     requires { ⌜ length (now boundary) ≡ length (now least) ⌝ }
-    ensures { λ r. ⌜ r ≡ orElse (length (now (least .entry))) (nearestIn (now (boundary .entry)) (now (least .entry)) (length (now (least .entry)))) ⌝ }
+    ensures { λ r. ⌜ r ≡ foundOr (length (now (least .entry))) (nearestIn (now (boundary .entry)) (now (least .entry)) (length (now (least .entry)))) ⌝ }
 {
     let mut best = least.len();
     let mut u: usize = 0;

@@ -18,40 +18,42 @@ use Rattle.query_crossing_answer.specs.declared.CrossingReply.the-varian
 use Rattle.query_questions.specs.Queries.{graphIn, weightsIn}
 use Rattle.query_questions.specs.Scratch.{ScratchColumns, ScratchAfter}
 
--- document 01's number and value for each case: the crossing weight is 0 at a refusal
+-- Expected forms by place, last paragraph: document 01's number and value for each case of `CrossingReply`: the crossing weight is 0 at a refusal.
 abbrev pub said : CrossingReply → Said ℕ
 said (Crossed weight) = accepts weight
 said (Refused number) = refuses number 0
 
+-- Expected forms by place, last paragraph: the number of a reply.
 abbrev pub replyNumber : CrossingReply → ℕ
 replyNumber r = said r .number
 
+-- Expected forms by place, last paragraph: the crossing weight of a reply.
 abbrev pub replyWeight : CrossingReply → ℕ
 replyWeight r = said r .values
 
--- 18, from the crossing weight if there is one
+-- Questions at the door, 18, from the crossing weight if there is one.
 abbrev pub isJoined : Option ℕ → Bool
 isJoined none = false
 isJoined (some weight) = true
 
--- the crossing weight, 0 if there is none
+-- Engine, Crossing, sentence 1: the crossing weight, 0 if there is none.
 abbrev pub weightFound : Option ℕ → ℕ
 weightFound none = 0
 weightFound (some weight) = weight
 
--- 6 and 7 of a crossing, and the question after them; `scratch` says whether scratch is long enough
+-- Questions at the door, 6 and 7, in order, of `crossing`, and the question after them; `scratch` says whether scratch is long enough.
 abbrev pub crossingAsked : Engine → (scratch : Bool) (weights next : ℕ) → ℕ
 crossingAsked e scratch weights next = ask (engineLong 0 e && (leb (e .counts .vertices) weights && scratch)) 6 (ask (engineSound e) 7 next)
 
--- the number of the first question of a crossing that is not met, or 0
+-- Questions at the door, 6, 7 and 18, in order, of `crossing`: the number of the first that is not met, or 0.
 abbrev pub crossingRefusal : Engine → (scratch : Bool) (weights : ℕ) → ℕ
 crossingRefusal e scratch weights = crossingAsked e scratch weights (ask (isJoined (crossing (graphIn e) (weightsIn e))) 18 0)
 
--- the answer, and the weight column
+-- Engine, Crossing, sentences 1 and 2: the answer, and the weight column.
 pub record CrossingStep (e : Engine) (scratch : Bool) (r : CrossingReply) (weights₀ weights : List ℤ) : Type 0 where
   pub answer : Answered (said r) (crossingRefusal e scratch (length weights₀)) (weightFound (crossing (graphIn e) (weightsIn e))) 0
   pub weights-after : weights ≡ after (crossingRefusal e scratch (length weights₀)) (leastFromLeft (graphIn e) (weightsIn e)) weights₀
 
--- scratch: what the search from the left leaves, after success and after 18; a call that 6 or 7 refuses leaves it as it was
+-- Engine, Crossing, last sentence: scratch holds after success and after 18 what the search from the left leaves; a call that 6 or 7 refuses leaves it as it was.
 abbrev pub CrossingScratch : Engine → CrossingReply → ScratchColumns → ScratchColumns → Type 0
 CrossingScratch e r s₀ s = ScratchAfter (replyNumber r) (graphIn e) (fromLeft (graphIn e) (weightsIn e)) s₀ s

@@ -11,10 +11,10 @@ use lib.ListN.{length, getD, List·getD-eq-default}
 use lib.Seq.{sets}
 use lib.Dec.{leb, eqb}
 use lib.IntN.{ℤ}
-use borrow.Author.Tests.{leb-true, le-ltb, eq-eqb, ne-eqb}
+use borrow.Author.Tests.{leb-true, eq-eqb, ne-eqb}
 use Rattle.columns.specs.Lists.{each, after}
 use Rattle.columns.specs.Questions.{ask}
-use Rattle.columns.proofs.Counting.{length-each, getD-each}
+use Rattle.columns.proofs.Counting.{length-each}
 use Rattle.columns.proofs.Columns.{sets-over}
 use Rattle.columns.proofs.Tests.{and-both}
 use Rattle.engine_columns.specs.Records.{Engine}
@@ -22,11 +22,10 @@ use Rattle.columns_answers.specs.Said.{Answered}
 use Rattle.columns_answers.proofs.Said.{accepts-of, refuses-of}
 use Rattle.engine_columns.specs.Questions.{engineLong, engineSound}
 use Rattle.engine_columns.proofs.Refusals.{Long, long-of, Sound, sound-of, met-of, next-of}
-use Rattle.engine_walks.specs.Lists.{bit, delta}
 use Rattle.engine_walks.specs.Graph.{Graph}
-use Rattle.engine_walks.specs.Settling.{State, weightAt, firstLeast, settled}
-use Rattle.engine_walks.specs.Answers.{isLeft, taken, tableWeight, weightOf, fromLeft, leastFromLeft, nearestRight, crossing}
-use Rattle.query_relaxing.specs.Ready.{graphOf, sources, endOf, sumLimit}
+use Rattle.engine_walks.specs.Settling.{State, weightAt, firstLeast}
+use Rattle.engine_walks.specs.Answers.{taken, tableWeight, weightOf, fromLeft, leastFromLeft, nearestRight, crossing}
+use Rattle.query_relaxing.specs.Ready.{sumLimit}
 use Rattle.query_crossing_answer.specs.declared.CrossingReply.the-variants.{Crossed, Refused}
 use Rattle.query_crossing_answer.specs.Crossing.{isJoined, weightFound, said, crossingAsked}
 use Rattle.query_crossing_answer.specs.Codes.{Coded, whereFound, codeOf}

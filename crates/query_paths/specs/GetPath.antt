@@ -17,56 +17,61 @@ use Rattle.query_paths.specs.declared.PathAnswer.the-variants.{Found, Re
 use Rattle.query_questions.specs.Queries.{graphIn, weightsIn, queryRefusal}
 use Rattle.query_questions.specs.Scratch.{ScratchColumns, ScratchAfter}
 
--- document 01's number and values for each case: the path's length and total, both 0 at a refusal
+-- Expected forms by place, last paragraph: document 01's number and values for each case of `PathAnswer`: the path's length and total, both 0 at a refusal.
 abbrev pub said : PathAnswer → Said (ℕ × ℕ)
 said (Found len total) = accepts (len, total)
 said (Refused n) = refuses n (0, 0)
 
+-- Expected forms by place, last paragraph: the length of a path, from the answer.
 abbrev pub lengthOf : PathAnswer → ℕ
 lengthOf r = said r .values .0
 
+-- Expected forms by place, last paragraph: the total of a path, from the answer.
 abbrev pub totalOf : PathAnswer → ℕ
 totalOf r = said r .values .1
 
--- the number of the first question before 17 that is not met, or 0: 6, 7, 13, 16; `scratch` says whether scratch is long enough
+-- Questions at the door, 6, 7, 13 and 16, in order, of `get_path`: the number of the first that is not met, or 0; `scratch` says whether scratch is long enough.
 abbrev pub pathAsked : Engine → (scratch : Bool) (a b vertices steps : ℕ) → ℕ
 pathAsked e scratch a b vertices steps =
     queryRefusal e (leb (e .counts .vertices) vertices && (leb (e .counts .vertices) steps && scratch)) (ltb a (e .counts .vertices) && ltb b (e .counts .vertices))
     (ask (not (eqb a b)) 16 0)
 
--- 17: whether there is a path; its length and total, 0 if there is none
+-- Questions at the door, 17: whether there is a path.
 abbrev pub isFound : Option FoundPath → Bool
 isFound none = false
 isFound (some p) = true
 
+-- Engine, Path, sentence 1: length and total of a path, both 0 where there is none.
 abbrev pub lengthAndTotal : Option FoundPath → ℕ × ℕ
 lengthAndTotal none = (0, 0)
 lengthAndTotal (some p) = (length (p .vertices), p .total)
 
--- the number of the first question that is not met, or 0: the earlier ones, then 17
+-- Questions at the door, 17, after the earlier ones: the number of the first question that is not met, or 0.
 abbrev pub pathRefusal : (refusal : ℕ) → Option FoundPath → ℕ
 pathRefusal zero p = ask (isFound p) 17 0
 pathRefusal (suc n) p = suc n
 
--- the answer, where the number before 17 and the path are known
+-- Engine, Path, sentence 1: the answer, where the number before 17 and the path are known.
 abbrev pub PathSaid : (refusal : ℕ) → Option FoundPath → PathAnswer → Type 0
 PathSaid refusal p r = Answered (said r) (pathRefusal refusal p) (lengthAndTotal p) (0, 0)
 
--- the columns after a search: places past the path's length are unchanged, and all places where there is no path
+-- Engine, Path, sentence 3: the columns after a search: places past the path's length are unchanged, and all places where there is no path.
 abbrev pub verticesAfter : Option FoundPath → List ℕ → List ℕ
 verticesAfter none column = column
 verticesAfter (some p) column = over (p .vertices) column
 
+-- Engine, Path, sentence 3: likewise the weights of the steps.
 abbrev pub stepsAfter : Option FoundPath → List ℕ → List ℕ
 stepsAfter none column = column
 stepsAfter (some p) column = over (p .steps) column
 
--- the answer, and both columns of the path
+-- Engine, Path: the answer of `get_path`, and both columns.
 pub record PathStep (e : Engine) (scratch : Bool) (a b : ℕ) (r : PathAnswer) (vertices₀ steps₀ vertices steps : List ℕ) : Type 0 where
   pub answer : PathSaid (pathAsked e scratch a b (length vertices₀) (length steps₀)) (path (graphIn e) (weightsIn e) a b) r
   pub vertices-after : vertices ≡ cond (eqb (pathAsked e scratch a b (length vertices₀) (length steps₀)) 0) (verticesAfter (path (graphIn e) (weightsIn e) a b) vertices₀) vertices₀
   pub steps-after : steps ≡ cond (eqb (pathAsked e scratch a b (length vertices₀) (length steps₀)) 0) (stepsAfter (path (graphIn e) (weightsIn e) a b) steps₀) steps₀
 
--- Engine, Crossing, last sentence: scratch holds after success and after 17 what the search from a with the end b leaves; a call that an earlier question refuses leaves it as it was.
+-- Engine, Crossing, last sentence: scratch holds after success and after 17 what the search from a with the end b leaves; a call that an earlier question
+-- refuses leaves it as it was.
 abbrev pub PathScratch : Engine → (a b : ℕ) → PathAnswer → ScratchColumns → ScratchColumns → Type 0
 PathScratch e a b r s₀ s = ScratchAfter (said r .number) (graphIn e) (settled (graphIn e) (weightsIn e) (only a) (some b)) s₀ s

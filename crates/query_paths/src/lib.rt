@@ -1,11 +1,9 @@
 // The path between two vertices: settled from the one, read back from the other.
 ghost use mathlib.Core.Path.{_≡_};
-ghost use mathlib.Core.List.{List};
-ghost use Prim.Native.Nat.{ℕ, _<_, _≤_};
+ghost use Prim.Native.Nat.{_<_, _≤_};
 ghost use lib.ListN.{length};
 ghost use Rattle.engine_columns.specs.Records.{engine};
-ghost use Rattle.engine_walks.specs.Answers.{path};
-ghost use Rattle.query_relaxing.specs.Ready.{stateOf, graphOf, weighs};
+ghost use Rattle.query_relaxing.specs.Ready.{stateOf};
 ghost use Rattle.query_questions.specs.Queries.{scratchLong};
 ghost use Rattle.query_questions.specs.Scratch.{scratchOf};
 ghost use Rattle.query_paths.specs.GetPath.{PathSaid, verticesAfter, stepsAfter, PathStep, PathScratch};

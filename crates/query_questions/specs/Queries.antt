@@ -8,7 +8,7 @@ use Rattle.engine_columns.specs.Records.{Engine}
 use Rattle.engine_columns.specs.Questions.{engineLong, engineSound}
 use Rattle.engine_walks.specs.Graph.{Graph}
 
--- the graph in the columns, without the places past the counts
+-- Records, on engine graphs: the graph in the columns, without the places past the counts.
 abbrev pub graphIn : Engine → Graph
 graphIn e = record {
   vertices = e .counts .vertices;
@@ -17,15 +17,16 @@ graphIn e = record {
   boundary = take (e .counts .vertices) (e .boundary);
 }
 
--- the weights in force
+-- Records, on engine graphs: the weights in force.
 abbrev pub weightsIn : Engine → ℕ → ℕ
 weightsIn e k = getD (take (e .counts .edges) (e .weights)) k 0
 
--- 6, of scratch: each column as long as the vertices, neighbour numbers twice the edges
+-- Questions at the door, 6, of scratch: each column as long as the vertices, neighbour numbers twice the edges.
 unfoldable pub scratchLong : (v e numbers ends status weight previous node leaf : ℕ) → Bool
 scratchLong v e numbers ends status weight previous node leaf =
     leb (2 * e) numbers && (leb v ends && (leb v status && (leb v weight && (leb v previous && (leb v node && leb v leaf)))))
 
--- 6, 7 and 13 of a query, then its later questions: `fits` says whether output and scratch columns are long enough, `inRange` whether the numbers handed over are
+-- Questions at the door, 6, 7 and 13, in order, of a query, then its later questions: `fits` says whether output and scratch columns are long enough,
+-- `inRange` whether the numbers handed over are in range.
 abbrev pub queryRefusal : Engine → (fits inRange : Bool) (next : ℕ) → ℕ
 queryRefusal e fits inRange next = ask (engineLong 0 e && fits) 6 (ask (engineSound e) 7 (ask inRange 13 next))

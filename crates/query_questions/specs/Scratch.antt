@@ -12,7 +12,7 @@ use Rattle.engine_walks.specs.Graph.{Graph, edges}
 use Rattle.engine_walks.specs.Settling.{State, statusAt, weightAt}
 use Rattle.query_relaxing.specs.Ready.{keyOf}
 
--- the scratch columns of a query
+-- Engine, Crossing, last sentence: the scratch columns of a query.
 pub record ScratchColumns : Type 0 where
   pub numbers : List ℕ
   pub ends : List ℕ
@@ -22,6 +22,7 @@ pub record ScratchColumns : Type 0 where
   pub node : List ℕ
   pub leaf : List ℕ
 
+-- Engine, Crossing, last sentence: these columns together.
 abbrev pub scratchOf : (numbers ends status weight previous node leaf : List ℕ) → ScratchColumns
 scratchOf numbers ends status weight previous node leaf =
     record { numbers = numbers; ends = ends; status = status; weight = weight; previous = previous; node = node; leaf = leaf }
@@ -30,8 +31,9 @@ scratchOf numbers ends status weight previous node leaf =
 abbrev pub isFree : (number : ℕ) → Bool
 isFree n = eqb n 0 || (eqb n 17 || eqb n 18)
 
--- What holds of scratch after a search of the graph g that settled in the state s. The first places hold: the neighbour lists, one after another, and where each ends; the state's
--- columns; the keys of the vertices that wait, in a tree of least keys. The places past the vertices, and past the lists, which are twice the edges, are as they were.
+-- Engine, Crossing, last sentence: what holds of scratch after a search of the graph g that settled in the state s. The first places hold: the neighbour lists, one
+-- after another, and where each ends; the state's columns; the keys of the vertices that wait, in a tree of least keys. The places past the vertices, and past the
+-- lists, which are twice the edges, are as they were.
 pub record SearchLeft (g : Graph) (s : State) (scratch₀ scratch : ScratchColumns) : Type 0 where
   pub numbers-after : scratch .numbers ≡ over (lists (g .endsA) (g .endsB) (edges g) (g .vertices)) (scratch₀ .numbers)
   pub ends-after : scratch .ends ≡ over (each (g .vertices) (λ v. length (lists (g .endsA) (g .endsB) (edges g) (v + 1)))) (scratch₀ .ends)
@@ -42,7 +44,7 @@ pub record SearchLeft (g : Graph) (s : State) (scratch₀ scratch : ScratchColum
   pub node-past : drop (g .vertices) (scratch .node) ≡ drop (g .vertices) (scratch₀ .node)
   pub node-tree : Tree (scratch .node) (scratch .leaf) (g .vertices)
 
--- scratch after an answer with this number: where it is free, what a search leaves; else as it was
+-- Engine, Crossing, last sentence: scratch after an answer with this number: where it is free, what a search leaves; else as it was.
 pub record ScratchAfter (number : ℕ) (g : Graph) (s : State) (scratch₀ scratch : ScratchColumns) : Type 0 where
   pub free : isFree number ≡ true → SearchLeft g s scratch₀ scratch
   pub kept : isFree number ≡ false → scratch ≡ scratch₀

@@ -11,7 +11,8 @@ use borrow.Author.Tests.{leb-true}
 use Rattle.columns.specs.Limits.{weightLimit}
 use Rattle.columns.specs.Questions.{ask}
 use Rattle.columns.proofs.Tests.{and-both, within-at}
-use Rattle.columns_neighbors.proofs.Ends.{GraphSound, graph-says}
+use Rattle.columns_neighbors.specs.Sound.{SoundGraph}
+use Rattle.columns_neighbors.proofs.Ends.{graph-says}
 use Rattle.engine_columns.specs.Records.{Engine}
 use Rattle.engine_columns.specs.Questions.{engineLong, engineSound}
 use Rattle.engine_columns.proofs.Refusals.{ColumnsLong, Long, long-of, ColumnsSound, Sound, sound-of, met-of, next-of}
@@ -71,7 +72,7 @@ query-of e fits inRange next z =
     }
 
 -- columns cut to their counts
-cut-graph : (v e : ℕ) (a b : List ℕ) → GraphSound v e a b → GraphSound v e (take e a) (take e b)
+cut-graph : (v e : ℕ) (a b : List ℕ) → SoundGraph v e a b → SoundGraph v e (take e a) (take e b)
 cut-graph v e a b s =
     let ga : (k : ℕ) → k < e → getD (take e a) k 0 ≡ getD a k 0 = λ k h. getD-take e a k 0 h in
     let gb : (k : ℕ) → k < e → getD (take e b) k 0 ≡ getD b k 0 = λ k h. getD-take e b k 0 h in
@@ -98,8 +99,8 @@ module _ (v E : ℕ) (a b w m numbers ends status weight previous node leaf : Li
       let lb : length (take E b) ≡ E = length-take-le E b (long .endsB) in
       let lw : length (take E w) ≡ E = length-take-le E w (long .weights) in
       record {
-        graph = subst (λ n. GraphSound n (length (take E a)) (take E a) (take E b)) (sym cut-length)
-            (subst (λ k. GraphSound v k (take E a) (take E b)) (sym la) (cut-graph v E a b (graph-says v E a b (ok .graph))));
+        graph = subst (λ n. SoundGraph n (length (take E a)) (take E a) (take E b)) (sym cut-length)
+            (subst (λ k. SoundGraph v k (take E a) (take E b)) (sym la) (cut-graph v E a b (graph-says v E a b (ok .graph))));
         same-b = lb ∙ sym la;
         same-w = lw ∙ sym la;
         light = λ k h. within-at weightLimit (take E w) (ok .weights) k h;

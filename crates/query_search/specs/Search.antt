@@ -5,7 +5,7 @@ use mathlib.Core.List.{List}
 use lib.ListN.{length, getD, set, replicate}
 use Rattle.columns.specs.Lists.{each, over}
 use Rattle.columns_neighbors.specs.Lists.{lists}
-use Rattle.columns_neighbors.proofs.Ends.{GraphSound}
+use Rattle.columns_neighbors.specs.Sound.{SoundGraph}
 use Rattle.engine_walks.specs.Graph.{Graph}
 use Rattle.engine_walks.specs.Lists.{delta}
 use Rattle.engine_walks.specs.Settling.{State, weightAt, settled}
@@ -14,9 +14,9 @@ use Rattle.query_relaxing.specs.Ready.{stateOf, Ready, endOf, sumLimit}
 use Rattle.query_search.specs.declared.Origin.{Origin}
 use Rattle.query_search.specs.declared.Origin.the-variants.{At, Left}
 
--- columns cut to their counts, ready for a search
+-- Questions at the door, 6 and 7, of columns cut to their counts, as a search needs them.
 pub record Searchable (n : ℕ) (a b w numbers ends weight previous node leaf : List ℕ) : Type 0 where
-  pub graph : GraphSound n (length a) a b
+  pub graph : SoundGraph n (length a) a b
   pub same-b : length b ≡ length a
   pub same-w : length w ≡ length a
   pub light : (e : ℕ) → e < length w → getD w e 0 ≤ 500000
@@ -27,18 +27,18 @@ pub record Searchable (n : ℕ) (a b w numbers ends weight previous node leaf : 
   pub node-fits : n ≤ length node
   pub leaf-fits : length leaf ≡ n
 
--- status bytes 0 and 1, and no end among those that wait
+-- Engine, Settling, sentences 3 and 5: status bytes before the first turn, 0 and 1, and no end among the vertices that wait.
 pub record Waiting (n : ℕ) (status : List ℕ) (stop : ℕ) : Type 0 where
   pub fits : length status ≡ n
   pub bytes : (v : ℕ) → getD status v 0 ≤ 1
   pub no-source : getD status stop 0 ≡ 1 → ⊥
 
--- the neighbour lists, and where each ends
+-- Records, on neighbour lists: the lists of all vertices, and where each ends.
 pub record ListsBuilt (n : ℕ) (a b numbers₀ numbers ends : List ℕ) : Type 0 where
   pub numbers-are : numbers ≡ over (lists a b (length a) n) numbers₀
   pub ends-are : (v : ℕ) → v < n → getD ends v 0 ≡ length (lists a b (length a) (v + 1))
 
--- where a search begins: a vertex that is not the one after which it stops
+-- Engine, Settling, sentence 5: where a search begins: at a vertex that is not the one after which it stops.
 abbrev pub Starts : Origin → ℕ → Type 0
 Starts (At a stop) n = (a < n) × (stop ≡ a → ⊥)
 Starts Left n = Unit {0}
@@ -48,7 +48,7 @@ abbrev pub firstStatus : Origin → (boundary : List ℕ) (n : ℕ) → List ℕ
 firstStatus (At a stop) boundary n = set (replicate n 0) a 1
 firstStatus Left boundary n = each n (λ v. delta (getD boundary v 0) 1)
 
--- the number after which the search stops; n is that of no vertex
+-- Engine, Settling, sentence 5: the number after which the search stops; n is that of no vertex.
 abbrev pub stopIn : Origin → (n : ℕ) → ℕ
 stopIn (At a stop) n = stop
 stopIn Left n = n
@@ -66,7 +66,7 @@ pub record Settles (n : ℕ) (s : State) : Type 0 where
   pub previous-fits : length (s .previous) ≡ n
   pub light : (v : ℕ) → v < n → weightAt s v < sumLimit
 
--- columns cut to their counts, after a search of the graph g that settled in the state s
+-- Engine, Settling: columns cut to their counts, after a search of the graph g that settled in the state s.
 pub record Searched (g : Graph) (s : State) (numbers₀ numbers ends status weight previous node leaf : List ℕ) : Type 0 where
   pub built : ListsBuilt (g .vertices) (g .endsA) (g .endsB) numbers₀ numbers ends
   pub state : stateOf status weight previous ≡ s

@@ -15,13 +15,13 @@ use borrow.Author.Tests.{eq-eqb, ne-eqb, eqb-true}
 use Rattle.columns.specs.Lists.{joined}
 use Rattle.query_queue.specs.Tree.{Least}
 use Rattle.query_queue.specs.Tree as Q
-use Rattle.columns_neighbors.specs.Lists.{lists, neighbours, hits}
-use Rattle.columns_neighbors.proofs.Placing.{list-of, lists-more, lists-count, apart, neighbours-at, EdgeOf}
+use Rattle.columns_neighbors.specs.Lists.{lists, neighbors, hits}
+use Rattle.columns_neighbors.proofs.Placing.{list-of, lists-more, lists-count, apart, neighbors-at, EdgeOf}
 use Rattle.engine_walks.specs.Graph.{Graph}
 use Rattle.engine_walks.specs.Settling as S
-use Rattle.engine_walks.specs.Settling.{State, statusAt, weightAt, previousAt, toTake, mark, relaxEdge, takeChosen}
+use Rattle.engine_walks.specs.Settling.{State, statusAt, weightAt, previousAt, toTake, mark, relaxEdge, takeChosen, relaxAlong}
 use Rattle.engine_walks.proofs.FirstLeast.{first-least-one}
-use Rattle.engine_walks.proofs.Neighbours.{incident, incident-is, relaxAlong, along-next, relax-incident}
+use Rattle.engine_walks.proofs.Neighbors.{incident, incident-is, along-next, relax-incident}
 use Rattle.query_relaxing.specs.Ready.{keyOf, Ready, Listed, Along, Offers, sumLimit, graphOf, weighs, startIn}
 
 -- ---- the least key
@@ -94,7 +94,7 @@ module _ {n : ℕ} {a b w numbers ends : List ℕ} (l : Listed n a b w numbers e
       go zero h = unfold lists joined in refl
       go (suc u) h = l .ends-are u (omega arith) ∙ ap (λ k. length (lists a b E k)) (add-one u)
 
-  to-is : to ≡ from + length (neighbours a b E v)
+  to-is : to ≡ from + length (neighbors a b E v)
   to-is = omega (arith, l .ends-are v inside, lists-more a b E v, from-is)
 
   total : length (lists a b E n) ≡ 2 * E
@@ -104,17 +104,17 @@ module _ {n : ℕ} {a b w numbers ends : List ℕ} (l : Listed n a b w numbers e
   to-in = omega (arith, to-is, from-is, apart a b E v n inside, total, l .numbers-fit)
 
   -- the places of v hold its list
-  pub part-is : take (to - from) (drop from numbers) ≡ neighbours a b E v
+  pub part-is : take (to - from) (drop from numbers) ≡ neighbors a b E v
   part-is =
-      let m : to - from ≡ length (neighbours a b E v) = omega (arith, to-is) in
+      let m : to - from ≡ length (neighbors a b E v) = omega (arith, to-is) in
       (λ i. take (m i) (drop (from-is i) numbers)) ∙ list-of a b E n v numbers (l .numbers-are) inside
 
   entry : (i : ℕ) → from ≤ i → i < to → EdgeOf a b E v (getD numbers i 0)
   entry i h k =
       let j : from + (i - from) ≡ i = omega arith in
-      let at : getD (neighbours a b E v) (i - from) 0 ≡ getD numbers i 0 =
+      let at : getD (neighbors a b E v) (i - from) 0 ≡ getD numbers i 0 =
       ap (λ x. getD x (i - from) 0) (sym part-is) ∙ getD-take (to - from) (drop from numbers) (i - from) 0 (omega arith) ∙ getD-drop from numbers (i - from) 0 ∙ ap (λ x. getD numbers x 0) j in
-      subst (EdgeOf a b E v) at (neighbours-at a b E v (i - from) (omega (arith, to-is)))
+      subst (EdgeOf a b E v) at (neighbors-at a b E v (i - from) (omega (arith, to-is)))
 
   pub along : (W : ℕ) → ((e : ℕ) → e < E → W + getD w e 0 < sumLimit) → Along n a b w numbers from to v W
   along W light = record {
@@ -129,8 +129,8 @@ module _ {n : ℕ} {a b w numbers ends : List ℕ} (l : Listed n a b w numbers e
     light = light;
   }
 
-  incident-neighbours : (m : List ℕ) → neighbours a b E v ≡ incident (graphOf n a b m) v E
-  incident-neighbours m = incident-is (graphOf n a b m) v (λ k. neighbours a b k v) (unfold neighbours joined in refl) (λ k. unfold neighbours joined hits in refl) E
+  incident-neighbors : (m : List ℕ) → neighbors a b E v ≡ incident (graphOf n a b m) v E
+  incident-neighbors m = incident-is (graphOf n a b m) v (λ k. neighbors a b k v) (unfold neighbors joined in refl) (λ k. unfold neighbors joined hits in refl) E
 
   -- going through them is the turn that takes v
   pub taken-along : (m : List ℕ) (s : State)
@@ -140,7 +140,7 @@ module _ {n : ℕ} {a b w numbers ends : List ℕ} (l : Listed n a b w numbers e
       let g = graphOf n a b m in
       let q = previousAt s v in
       let W = weightAt s v in
-      ap (λ es. relaxAlong g (weighs w) v q W es (mark s v)) (part-is ∙ incident-neighbours m)
+      ap (λ es. relaxAlong g (weighs w) v q W es (mark s v)) (part-is ∙ incident-neighbors m)
       ∙ sym (relax-incident g (weighs w) v q W E (mark s v) (l .differ))
 
 -- ---- a turn as the code makes it: v is the vertex of the least key, whose list stands at the places from `from` to `to`

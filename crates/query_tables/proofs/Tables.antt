@@ -14,7 +14,7 @@ use Rattle.query_search.proofs.Asked.{query-of}
 use Rattle.query_search.proofs.Scratch.{query-kept}
 use Rattle.query_tables.specs.declared.End.{End}
 use Rattle.query_tables.specs.Ends.{endInRange}
-use Rattle.query_tables.specs.Steps.{tableRefusal}
+use Rattle.query_tables.specs.Tables.{tableRefusal}
 
 pub record TableAsked (e : Engine) (scratch : Bool) (source : ℕ) (end : End) (weights previous : ℕ) : Type 0 where
   pub long : Long 0 e

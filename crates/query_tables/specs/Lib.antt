@@ -1,3 +1,3 @@
--- Ends: the vertex after which a search stops. Steps: what a table query answers and leaves.
+-- Ends: the vertex after which a search stops. Tables: what a table query answers and leaves.
 pub mod Ends
-pub mod Steps
+pub mod Tables

@@ -1,17 +1,12 @@
 // Queries of the engine graph: the table of least weights and previous vertices.
 ghost use mathlib.Core.Path.{_≡_};
-ghost use mathlib.Core.List.{List};
-ghost use Prim.Native.Nat.{ℕ, _<_, _≤_};
+ghost use Prim.Native.Nat.{_<_};
 ghost use lib.ListN.{length};
-ghost use lib.Seq.{sets};
 ghost use Rattle.engine_columns.specs.Records.{engine};
-ghost use Rattle.engine_walks.specs.Answers.{table};
-ghost use Rattle.query_relaxing.specs.Ready.{graphOf, weighs, endOf};
 ghost use Rattle.query_questions.specs.Queries.{scratchLong};
 ghost use Rattle.query_tables.specs.Ends.{endInRange, stopOf};
-ghost use Rattle.query_tables.specs.Steps.{TableStep, TableScratch};
+ghost use Rattle.query_tables.specs.Tables.{TableStep, TableScratch};
 ghost use Rattle.query_questions.specs.Scratch.{scratchOf};
-ghost use Rattle.query_search.specs.Search.{Searchable};
 use columns::Done;
 use columns::VertexIndex;
 use columns::Weight;

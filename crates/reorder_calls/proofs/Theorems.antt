@@ -13,7 +13,8 @@ use Rattle.columns_answers.specs.Done.{said}
 use Rattle.columns.specs.declared.Done.{Done}
 use Rattle.columns.proofs.Columns.{getD-any, after-accepted, over-in, length-over}
 use Rattle.columns.proofs.Tests.{both-and, within-first, at-within}
-use Rattle.columns_neighbors.proofs.Ends.{GraphSound, says-graph}
+use Rattle.columns_neighbors.specs.Sound.{SoundGraph}
+use Rattle.columns_neighbors.proofs.Ends.{says-graph}
 use Rattle.engine_walks.specs.Graph.{Graph, endA, endB, Joins, Walk, stay, step}
 use Rattle.columns_room.specs.Graph.{codeSound}
 use Rattle.reorder_orders.specs.Order.{newNumber, renamed, moved}
@@ -95,7 +96,7 @@ module _ (v e : ℕ) (order : List ℕ) (before last : ReorderColumns) (answer :
   back : (x y : List ℕ) (j i : ℕ) → getD x j 0 < v → getD y i 0 < v → {p q : ℕ} → p ≡ newNumber order (getD x j 0) → q ≡ newNumber order (getD y i 0) → p ≡ q → getD x j 0 ≡ getD y i 0
   back x y j i h g ep eq r = same-old (getD x j 0) (getD y i 0) h g (sym ep ∙ r ∙ eq)
 
-  graph-kept : GraphSound v e (last .endsA) (last .endsB)
+  graph-kept : SoundGraph v e (last .endsA) (last .endsB)
   graph-kept =
       let a = before .endsA in
       let b = before .endsB in

@@ -98,21 +98,21 @@ fn columns_long(
     ends_b: &[u32],
     boundary: &[u8],
     defect: &[u8],
-    is: &[f64],
-    js: &[f64],
-    ts: &[f64],
-    lengths: &[u32],
-    numbers: &[u32],
+    pos_i: &[f64],
+    pos_j: &[f64],
+    pos_t: &[f64],
+    list_lengths: &[u32],
+    neighbor_numbers: &[u32],
     scratch: &[u32],
 ) -> bool
-    ensures { λ r. ⌜ r ≡ reorderLong «vertex_num» «edge_num» (reorderColumns (now («ends_a» .entry)) (now («ends_b» .entry)) (now (boundary .entry)) (now (defect .entry)) (now (is .entry)) (now (js .entry)) (now (ts .entry)) (now (lengths .entry)) (now (numbers .entry)) (now (scratch .entry))) ⌝ }
+    ensures { λ r. ⌜ r ≡ reorderLong «vertex_num» «edge_num» (reorderColumns (now («ends_a» .entry)) (now («ends_b» .entry)) (now (boundary .entry)) (now (defect .entry)) (now («pos_i» .entry)) (now («pos_j» .entry)) (now («pos_t» .entry)) (now («list_lengths» .entry)) (now («neighbor_numbers» .entry)) (now (scratch .entry))) ⌝ }
 {
     let n = vertex_num as usize;
     let ends = two_long(edge_num as usize, ends_a.len(), ends_b.len());
-    let vertices = three_long(n, boundary.len(), defect.len(), lengths.len());
-    let positions = three_long(n, is.len(), js.len(), ts.len());
-    let lists = lists_long(vertex_num, edge_num, lengths, numbers);
-    let copies = lists_long(vertex_num, edge_num, lengths, scratch);
+    let vertices = three_long(n, boundary.len(), defect.len(), list_lengths.len());
+    let positions = three_long(n, pos_i.len(), pos_j.len(), pos_t.len());
+    let lists = lists_long(vertex_num, edge_num, list_lengths, neighbor_numbers);
+    let copies = lists_long(vertex_num, edge_num, list_lengths, scratch);
     both(ends, both(vertices, both(positions, both(lists, copies))))
 }
 
@@ -166,14 +166,14 @@ fn reorder_refusal(
     ends_b: &[u32],
     boundary: &[u8],
     defect: &[u8],
-    is: &[f64],
-    js: &[f64],
-    ts: &[f64],
-    lengths: &[u32],
-    numbers: &[u32],
+    pos_i: &[f64],
+    pos_j: &[f64],
+    pos_t: &[f64],
+    list_lengths: &[u32],
+    neighbor_numbers: &[u32],
     scratch: &[u32],
 ) -> u32
-    ensures { λ r. ⌜ r ≡ reorderRefusal «vertex_num» «edge_num» (now (order .entry)) (reorderColumns (now («ends_a» .entry)) (now («ends_b» .entry)) (now (boundary .entry)) (now (defect .entry)) (now (is .entry)) (now (js .entry)) (now (ts .entry)) (now (lengths .entry)) (now (numbers .entry)) (now (scratch .entry))) ⌝ }
+    ensures { λ r. ⌜ r ≡ reorderRefusal «vertex_num» «edge_num» (now (order .entry)) (reorderColumns (now («ends_a» .entry)) (now («ends_b» .entry)) (now (boundary .entry)) (now (defect .entry)) (now («pos_i» .entry)) (now («pos_j» .entry)) (now («pos_t» .entry)) (now («list_lengths» .entry)) (now («neighbor_numbers» .entry)) (now (scratch .entry))) ⌝ }
 {
     let long = columns_long(
         vertex_num,
@@ -182,11 +182,11 @@ fn reorder_refusal(
         ends_b,
         boundary,
         defect,
-        is,
-        js,
-        ts,
-        lengths,
-        numbers,
+        pos_i,
+        pos_j,
+        pos_t,
+        list_lengths,
+        neighbor_numbers,
         scratch,
     );
     let sound = columns_sound(vertex_num, edge_num, ends_a, ends_b, boundary, defect);
@@ -202,17 +202,17 @@ pub fn reorder_vertices(
     ends_b: &mut [u32],
     boundary: &mut [u8],
     defect: &mut [u8],
-    is: &mut [f64],
-    js: &mut [f64],
-    ts: &mut [f64],
-    lengths: &mut [u32],
-    numbers: &mut [u32],
+    pos_i: &mut [f64],
+    pos_j: &mut [f64],
+    pos_t: &mut [f64],
+    list_lengths: &mut [u32],
+    neighbor_numbers: &mut [u32],
     scratch: &mut [u32],
 ) -> Done
     ensures { λ r. ⌜ ReorderedVertices «vertex_num» «edge_num» (now (order .entry))
-        (reorderColumns (now («ends_a» .entry)) (now («ends_b» .entry)) (now (boundary .entry)) (now (defect .entry)) (now (is .entry)) (now (js .entry)) (now (ts .entry)) (now (lengths .entry)) (now (numbers .entry)) (now (scratch .entry)))
+        (reorderColumns (now («ends_a» .entry)) (now («ends_b» .entry)) (now (boundary .entry)) (now (defect .entry)) (now («pos_i» .entry)) (now («pos_j» .entry)) (now («pos_t» .entry)) (now («list_lengths» .entry)) (now («neighbor_numbers» .entry)) (now (scratch .entry)))
         r
-        (reorderColumns (now («ends_a» .exit)) (now («ends_b» .exit)) (now (boundary .exit)) (now (defect .exit)) (now (is .exit)) (now (js .exit)) (now (ts .exit)) (now (lengths .exit)) (now (numbers .exit)) (now (scratch .exit))) ⌝ }
+        (reorderColumns (now («ends_a» .exit)) (now («ends_b» .exit)) (now (boundary .exit)) (now (defect .exit)) (now («pos_i» .exit)) (now («pos_j» .exit)) (now («pos_t» .exit)) (now («list_lengths» .exit)) (now («neighbor_numbers» .exit)) (now (scratch .exit))) ⌝ }
 {
     let number = reorder_refusal(
         vertex_num,
@@ -222,11 +222,11 @@ pub fn reorder_vertices(
         ends_b,
         boundary,
         defect,
-        is,
-        js,
-        ts,
-        lengths,
-        numbers,
+        pos_i,
+        pos_j,
+        pos_t,
+        list_lengths,
+        neighbor_numbers,
         scratch,
     );
     if number != 0 {
@@ -235,8 +235,8 @@ pub fn reorder_vertices(
     rename_ends(order, ends_a, ends_b, edge_num as usize);
     move_u8(order, boundary);
     move_u8(order, defect);
-    move_positions(order, is, js, ts);
-    move_lists(order, lengths, numbers, scratch);
-    move_u32(order, lengths);
+    move_positions(order, pos_i, pos_j, pos_t);
+    move_lists(order, list_lengths, neighbor_numbers, scratch);
+    move_u32(order, list_lengths);
     Done::Accepted
 }

@@ -66,55 +66,63 @@ fn gather_positions(
     from_i: &[f64],
     from_j: &[f64],
     from_t: &[f64],
-    is: &mut [f64],
-    js: &mut [f64],
-    ts: &mut [f64],
+    pos_i: &mut [f64],
+    pos_j: &mut [f64],
+    pos_t: &mut [f64],
 )
-    requires { ⌜ (length (now list) ≤ length (now is)) × (length (now list) ≤ length (now js)) × (length (now list) ≤ length (now ts)) ⌝ }
-    ensures { λ _. ⌜ now (is .exit) ≡ over (moved (now (list .entry)) zeroFloat (now («from_i» .entry))) (now (is .entry)) ⌝ }
-    ensures { λ _. ⌜ now (js .exit) ≡ over (moved (now (list .entry)) zeroFloat (now («from_j» .entry))) (now (js .entry)) ⌝ }
-    ensures { λ _. ⌜ now (ts .exit) ≡ over (moved (now (list .entry)) zeroFloat (now («from_t» .entry))) (now (ts .entry)) ⌝ }
+    requires { ⌜ (length (now list) ≤ length (now «pos_i»)) × (length (now list) ≤ length (now «pos_j»)) × (length (now list) ≤ length (now «pos_t»)) ⌝ }
+    ensures { λ _. ⌜ now («pos_i» .exit) ≡ over (moved (now (list .entry)) zeroFloat (now («from_i» .entry))) (now («pos_i» .entry)) ⌝ }
+    ensures { λ _. ⌜ now («pos_j» .exit) ≡ over (moved (now (list .entry)) zeroFloat (now («from_j» .entry))) (now («pos_j» .entry)) ⌝ }
+    ensures { λ _. ⌜ now («pos_t» .exit) ≡ over (moved (now (list .entry)) zeroFloat (now («from_t» .entry))) (now («pos_t» .entry)) ⌝ }
 {
     let mut k: usize = 0;
     while k < list.len() {
         let at = wide(list[k]);
         let position = VisualizePosition::load(from_i, from_j, from_t, at);
-        position.store(is, js, ts, k);
+        position.store(pos_i, pos_j, pos_t, k);
         k += 1;
     }
 }
 
 fn move_positions_in(
     order: &[u32],
-    is: &mut [f64],
-    js: &mut [f64],
-    ts: &mut [f64],
+    pos_i: &mut [f64],
+    pos_j: &mut [f64],
+    pos_t: &mut [f64],
     copy_i: &mut [f64],
     copy_j: &mut [f64],
     copy_t: &mut [f64],
 )
-    requires { ⌜ IsOrder (now order) × (length (now order) ≤ length (now is)) × (length (now order) ≤ length (now js)) × (length (now order) ≤ length (now ts)) ⌝ }
+    requires { ⌜ IsOrder (now order) × (length (now order) ≤ length (now «pos_i»)) × (length (now order) ≤ length (now «pos_j»)) × (length (now order) ≤ length (now «pos_t»)) ⌝ }
     requires { ⌜ (length (now order) ≤ length (now «copy_i»)) × (length (now order) ≤ length (now «copy_j»)) × (length (now order) ≤ length (now «copy_t»)) ⌝ }
-    ensures { λ _. ⌜ now (is .exit) ≡ over (moved (now (order .entry)) zeroFloat (now (is .entry))) (now (is .entry)) ⌝ }
-    ensures { λ _. ⌜ now (js .exit) ≡ over (moved (now (order .entry)) zeroFloat (now (js .entry))) (now (js .entry)) ⌝ }
-    ensures { λ _. ⌜ now (ts .exit) ≡ over (moved (now (order .entry)) zeroFloat (now (ts .entry))) (now (ts .entry)) ⌝ }
+    ensures { λ _. ⌜ now («pos_i» .exit) ≡ over (moved (now (order .entry)) zeroFloat (now («pos_i» .entry))) (now («pos_i» .entry)) ⌝ }
+    ensures { λ _. ⌜ now («pos_j» .exit) ≡ over (moved (now (order .entry)) zeroFloat (now («pos_j» .entry))) (now («pos_j» .entry)) ⌝ }
+    ensures { λ _. ⌜ now («pos_t» .exit) ≡ over (moved (now (order .entry)) zeroFloat (now («pos_t» .entry))) (now («pos_t» .entry)) ⌝ }
 {
     let n = order.len();
-    copy_f64(copy_i, is, n);
-    copy_f64(copy_j, js, n);
-    copy_f64(copy_t, ts, n);
-    gather_positions(order, copy_i, copy_j, copy_t, is, js, ts);
+    copy_f64(copy_i, pos_i, n);
+    copy_f64(copy_j, pos_j, n);
+    copy_f64(copy_t, pos_t, n);
+    gather_positions(order, copy_i, copy_j, copy_t, pos_i, pos_j, pos_t);
 }
 
 // Moves the positions.
-pub fn move_positions(order: &[u32], is: &mut [f64], js: &mut [f64], ts: &mut [f64])
-    requires { ⌜ IsOrder (now order) × (length (now order) ≤ length (now is)) × (length (now order) ≤ length (now js)) × (length (now order) ≤ length (now ts)) ⌝ }
-    ensures { λ _. ⌜ now (is .exit) ≡ over (moved (now (order .entry)) zeroFloat (now (is .entry))) (now (is .entry)) ⌝ }
-    ensures { λ _. ⌜ now (js .exit) ≡ over (moved (now (order .entry)) zeroFloat (now (js .entry))) (now (js .entry)) ⌝ }
-    ensures { λ _. ⌜ now (ts .exit) ≡ over (moved (now (order .entry)) zeroFloat (now (ts .entry))) (now (ts .entry)) ⌝ }
+pub fn move_positions(order: &[u32], pos_i: &mut [f64], pos_j: &mut [f64], pos_t: &mut [f64])
+    requires { ⌜ IsOrder (now order) × (length (now order) ≤ length (now «pos_i»)) × (length (now order) ≤ length (now «pos_j»)) × (length (now order) ≤ length (now «pos_t»)) ⌝ }
+    ensures { λ _. ⌜ now («pos_i» .exit) ≡ over (moved (now (order .entry)) zeroFloat (now («pos_i» .entry))) (now («pos_i» .entry)) ⌝ }
+    ensures { λ _. ⌜ now («pos_j» .exit) ≡ over (moved (now (order .entry)) zeroFloat (now («pos_j» .entry))) (now («pos_j» .entry)) ⌝ }
+    ensures { λ _. ⌜ now («pos_t» .exit) ≡ over (moved (now (order .entry)) zeroFloat (now («pos_t» .entry))) (now («pos_t» .entry)) ⌝ }
 {
     let mut copy_i = [0.0f64; 4096];
     let mut copy_j = [0.0f64; 4096];
     let mut copy_t = [0.0f64; 4096];
-    move_positions_in(order, is, js, ts, &mut copy_i, &mut copy_j, &mut copy_t);
+    move_positions_in(
+        order,
+        pos_i,
+        pos_j,
+        pos_t,
+        &mut copy_i,
+        &mut copy_j,
+        &mut copy_t,
+    );
 }

@@ -15,7 +15,7 @@ use Rattle.columns_answers.specs.Said.{Answered}
 use Rattle.columns_answers.specs.Counts.{syndromeSaid}
 
 -- Sampling, syndromes, reordering, paragraph 2, sentence 4: what a call that generates errors answers and leaves: `number` is the question's, 0 where all are met;
--- then the defect and erasure bytes are those given, and both lists name the bytes 1, ascending.
+-- then the defect and erasure bytes are those given, and both lists name the bytes that are set, here those that are 1, ascending.
 pub record SyndromeLeft (number v e : ℕ) (defects erasures : List ℕ) (s₀ : SyndromeColumns) (answer : SyndromeCounts) (s : SyndromeColumns) : Type 0 where
   pub answers : Answered (syndromeSaid answer) number (length (listed v defects), length (listed e erasures)) (0, 0)
   pub defect-is : s .defect ≡ after number defects (s₀ .defect)

@@ -73,7 +73,7 @@ pub fn generate_random_errors(
         );
         let defects = list_set(defect, vertex_num, defect_list);
         let erasures = list_set(erasure, edge_num, erasure_list);
-        return SyndromeCounts::Counts(defects, erasures);
+        return SyndromeCounts::Counts { defects, erasures };
     }
     SyndromeCounts::Refused(number)
 }
@@ -112,7 +112,7 @@ pub fn generate_errors(
         flip_all(vertex_num, edge_num, ends_a, ends_b, boundary, list, defect);
         let defects = list_set(defect, vertex_num, defect_list);
         let erasures = list_set(erasure, edge_num, erasure_list);
-        return SyndromeCounts::Counts(defects, erasures);
+        return SyndromeCounts::Counts { defects, erasures };
     }
     SyndromeCounts::Refused(number)
 }

@@ -11,17 +11,17 @@ use borrow.Author.Tests.{ne-eqb, not-true}
 use Rattle.columns.specs.Questions.{every}
 use Rattle.columns.proofs.Counting.{length-each, getD-each}
 use Rattle.columns.proofs.Tests.{every-at}
-use Rattle.columns_neighbors.specs.Lists.{hits, neighbours, lists, degrees, chosen, endsAt, sumTo, listAt}
+use Rattle.columns_neighbors.specs.Lists.{hits, neighbors, lists, degrees, chosen, endsAt, sumTo, listAt}
 use Rattle.columns_pairs.specs.Pairs.{samePair, pairsApart}
-use Rattle.columns_neighbors.specs.Sound.{graphSound}
+use Rattle.columns_neighbors.specs.Sound.{graphSound, SoundGraph}
 use Rattle.columns_pairs.proofs.PairTests.{at-apart}
-use Rattle.columns_neighbors.proofs.Ends.{GraphSound, graph-says}
-use Rattle.columns_neighbors.proofs.Placing.{length-hit, length-more, length-within, lists-count, list-of, neighbours-chosen, sum-starts}
+use Rattle.columns_neighbors.proofs.Ends.{graph-says}
+use Rattle.columns_neighbors.proofs.Placing.{length-hit, length-more, length-within, lists-count, list-of, neighbors-chosen, sum-starts}
 use Rattle.columns_marks.proofs.Listing.{chosen-ascends}
 use Rattle.sanity_verdicts.specs.declared.Verdict.the-variants.{Sound, DuplicateEdge, EdgeTwice, Refused}
 use Rattle.sanity_verdicts.specs.Sanity.{edgeNumbered, vertexNumbered, firstOf, duplicate, twice, atVertex, verdict}
 use Rattle.sanity_verdicts.proofs.Scans.{first-all, found-false, or-sound}
-use Rattle.sanity_lists.proofs.Stamping.{some-edges}
+use Rattle.sanity_verdicts.proofs.Stamping.{some-edges}
 use Rattle.sanity_calls.proofs.Verdicts.{sanityAnswer, scanned, long-from}
 
 -- edge k ends at vertex u
@@ -31,7 +31,7 @@ pub record EndsEdge (a b : List ℕ) (e u : ℕ) : Type 0 where
   pub at-u : (getD a edge 0 ≡ u) ⊎ (getD b edge 0 ≡ u)
 
 -- its list has a number
-some-number : (a b : List ℕ) (e u : ℕ) → EndsEdge a b e u → 0 < length (neighbours a b e u)
+some-number : (a b : List ℕ) (e u : ℕ) → EndsEdge a b e u → 0 < length (neighbors a b e u)
 some-number a b e u s = go (s .at-u)
   where
     k : ℕ
@@ -40,7 +40,7 @@ some-number a b e u s = go (s .at-u)
     hit-one : (x : ℕ) → x ≡ u → length (hits u x k) ≡ 1
     hit-one x p = subst (λ (y : ℕ). length (hits u y k) ≡ 1) (sym p) (length-hit u k)
 
-    go : (getD a k 0 ≡ u) ⊎ (getD b k 0 ≡ u) → 0 < length (neighbours a b e u)
+    go : (getD a k 0 ≡ u) ⊎ (getD b k 0 ≡ u) → 0 < length (neighbors a b e u)
     go (inl p) = omega (arith, length-more a b k u, length-within a b (k + 1) e u (omega (arith, s .before)), hit-one (getD a k 0) p)
     go (inr p) = omega (arith, length-more a b k u, length-within a b (k + 1) e u (omega (arith, s .before)), hit-one (getD b k 0) p)
 
@@ -52,24 +52,24 @@ ascending-once list u f = first-all _ (length list) (λ i h. first-all _ i (λ j
 module _ (v e : ℕ) (a b lengths numbers : List ℕ) (sound : graphSound v e a b ≡ true)
     (some-edge : 1 ≤ e) (all-end : (u : ℕ) → u < v → EndsEdge a b e u)
     (lengths-are : take v lengths ≡ degrees a b e v) (numbers-are : take (length (lists a b e v)) numbers ≡ lists a b e v) where
-  graph : GraphSound v e a b
+  graph : SoundGraph v e a b
   graph = graph-says v e a b sound
 
   lengths-long : v ≤ length lengths
   unfolding degrees
-  lengths-long = omega (arith, length-take v lengths, ap length lengths-are ∙ length-each v (λ u. length (neighbours a b e u)))
+  lengths-long = omega (arith, length-take v lengths, ap length lengths-are ∙ length-each v (λ u. length (neighbors a b e u)))
 
   numbers-long : length (lists a b e v) ≤ length numbers
   numbers-long = omega (arith, length-take (length (lists a b e v)) numbers, ap length numbers-are)
 
-  length-at : (u : ℕ) → u < v → getD lengths u 0 ≡ length (neighbours a b e u)
+  length-at : (u : ℕ) → u < v → getD lengths u 0 ≡ length (neighbors a b e u)
   unfolding degrees
-  length-at u h = sym (getD-take v lengths u 0 h) ∙ ap (λ (l : List ℕ). getD l u 0) lengths-are ∙ getD-each v (λ u. length (neighbours a b e u)) 0 u h
+  length-at u h = sym (getD-take v lengths u 0 h) ∙ ap (λ (l : List ℕ). getD l u 0) lengths-are ∙ getD-each v (λ u. length (neighbors a b e u)) 0 u h
 
   start-at : (u : ℕ) → u ≤ v → sumTo u lengths ≡ length (lists a b e u)
   start-at = sum-starts a b e v lengths length-at
 
-  list-at : (u : ℕ) → u < v → listAt lengths numbers u ≡ neighbours a b e u
+  list-at : (u : ℕ) → u < v → listAt lengths numbers u ≡ neighbors a b e u
   list-at u h = (λ i. take (length-at u h i) (drop (start-at u (omega arith) i) numbers)) ∙ list-of a b e v u numbers numbers-are h
 
   no-duplicate : (k : ℕ) → k < e → duplicate a b k ≡ Sound
@@ -81,7 +81,7 @@ module _ (v e : ℕ) (a b lengths numbers : List ℕ) (sound : graphSound v e a 
   no-finding : (u : ℕ) → u < v → atVertex (listAt lengths numbers u) (getD lengths u 0) u ≡ Sound
   no-finding u h =
       let nonempty : getD lengths u 0 ≡ 0 → ⊥ = λ q. omega (arith, length-at u h, some-number a b e u (all-end u h)) in
-      let once : twice (neighbours a b e u) u ≡ Sound = subst (λ (l : List ℕ). twice l u ≡ Sound) (sym (neighbours-chosen a b e u (graph .differ))) (ascending-once (chosen e (endsAt a b u)) u (chosen-ascends (endsAt a b u) e)) in
+      let once : twice (neighbors a b e u) u ≡ Sound = subst (λ (l : List ℕ). twice l u ≡ Sound) (sym (neighbors-chosen a b e u (graph .differ))) (ascending-once (chosen e (endsAt a b u)) u (chosen-ascends (endsAt a b u) e)) in
       sym (some-edges (listAt lengths numbers u) (getD lengths u 0) u nonempty) ∙ ap (λ (l : List ℕ). twice l u) (list-at u h) ∙ once
 
   -- at least one edge, counts and ends sound, every vertex an end of some edge, lists those of the ends: verdict 0

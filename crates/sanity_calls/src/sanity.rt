@@ -8,10 +8,10 @@ use columns::questions::at_most;
 use columns::questions::both;
 use columns_room::lists_long;
 use columns_room::two_long;
-use sanity_lists::vertices_checked;
 use sanity_pairs::duplicates;
 use sanity_verdicts::Verdict;
 use sanity_verdicts::is_sound;
+use sanity_verdicts::lists::vertices_checked;
 
 // Question 6.
 fn sanity_long(

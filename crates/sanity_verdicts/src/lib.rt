@@ -1,4 +1,6 @@
 // The verdicts of `sanity_check`.
+pub mod lists;
+
 use columns::EdgeIndex;
 use columns::VertexIndex;
 ghost use mathlib.Core.Path.{_≡_};

@@ -174,7 +174,7 @@ fn syndrome() {
     let mut erasures = [9u32, 9, 9, 9];
     show_done(access_calls::set_syndrome(4, 3, &[2u32], &[2u32, 0], &mut defect, &mut erasure));
     match access_calls::get_syndrome(4, 3, &defect, &erasure, &mut defects, &mut erasures) {
-        SyndromeCounts::Counts(d, e) => write_two(d, e),
+        SyndromeCounts::Counts { defects, erasures } => write_two(defects, erasures),
         SyndromeCounts::Refused(number) => write_refusal(number),
     }
     end_line();

@@ -60,7 +60,7 @@ fn edges_in(answer: Created) -> u32 {
 // The counts and both lists.
 fn show_syndrome(answer: SyndromeCounts, defect_list: &[u32], erasure_list: &[u32]) {
     match answer {
-        SyndromeCounts::Counts(defects, erasures) => {
+        SyndromeCounts::Counts { defects, erasures } => {
             show_list(defect_list, defects as usize);
             show_list(erasure_list, erasures as usize);
         }

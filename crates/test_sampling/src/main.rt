@@ -22,7 +22,7 @@ fn show_syndrome(
     erasure_list: [u32; 10],
 ) {
     match answer {
-        SyndromeCounts::Counts(defects, erasures) => {
+        SyndromeCounts::Counts { defects, erasures } => {
             show(0);
             show(defects as u64);
             show(erasures as u64);

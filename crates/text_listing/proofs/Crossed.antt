@@ -52,7 +52,7 @@ module _ (kind d rounds : ℕ) (p : _) (max v e : ℕ) (a b w m : List ℕ) (s :
   long-m = omega (arith, ap length (s .in-m), length-take v m, length-map (verticesOf kind d rounds) (λ (x : CodeVertex). x .boundary), vertices-counted kind d (accepted kind d rounds 0 (s .code) .0 .distance .three) rounds, s .vertices)
 
   long-w : e ≤ length w
-  unfolding weightsOf Rattle.access_weights.specs.Weights.weights
+  unfolding weightsOf Rattle.access_vertices.specs.Weights.weights
   long-w = omega (arith, ap length (s .in-w), length-take e w, Rattle.columns.proofs.Counting.length-each (edgeNum kind d rounds) (λ k. 2 * getD (Rattle.weights_calls.specs.Calls.halfWeights max (Rattle.codes_calls.specs.Probabilities.probabilities kind d rounds p (Rattle.codes_calls.specs.Probabilities.diagonalOf kind p))) k 0), s .edges)
 
   pub lengths : (e ≤ length a) × (e ≤ length b) × (e ≤ length w) × (v ≤ length m)

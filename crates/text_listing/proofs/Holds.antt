@@ -15,7 +15,7 @@ use Rattle.columns.specs.Questions.{weightsSound, allWithin}
 use Rattle.columns.proofs.Columns.{after-accepted, take-over, getD-any}
 use Rattle.columns.proofs.Counting.{each-same, length-each, getD-each}
 use Rattle.columns.proofs.Tests.{at-within}
-use Rattle.access_weights.specs.Weights.{weights}
+use Rattle.access_vertices.specs.Weights.{weights}
 use Rattle.codes_writers.specs.declared.CodeVertex.{CodeVertex}
 use Rattle.codes_writers.specs.Edges.{Ends, firsts, seconds, boundaries}
 use Rattle.codes_layers.specs.Codes.{edgesOf, verticesOf}

@@ -7,7 +7,7 @@ use lib.Dec.{eqb, leb}
 use lib.ListN.{getD}
 use lib.Ieee.{Float}
 use Rattle.columns.specs.Questions.{ask}
-use Rattle.access_weights.specs.Weights.{weights}
+use Rattle.access_vertices.specs.Weights.{weights}
 use Rattle.codes_writers.specs.Edges.{firsts, seconds, boundaries}
 use Rattle.codes_layers.specs.Codes.{edgesOf, verticesOf}
 use Rattle.codes_layers.specs.Counts.{vertexNum, edgeNum}

@@ -5,7 +5,7 @@ ghost use lib.ListN.{length};
 ghost use Rattle.text_numbers.specs.Steps.{Put};
 ghost use Rattle.text_listing.specs.Listing.{listingOf};
 ghost use Rattle.text_listing.specs.Steps.{HoldsCode, HoldsWeights, ScratchRoom, Replied, replyText};
-use access_weights::store_weights;
+use access_vertices::weights::store_weights;
 use columns::Weight;
 use engine_columns::EngineCounts;
 use query_crossing_answer::CrossingReply;

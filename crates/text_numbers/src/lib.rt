@@ -1,4 +1,4 @@
-// Bytes and decimal numbers of a text. A text column that is too short keeps as much of it as it has places for.
+// Bytes and decimal numbers of a text, and the lines of a listing. A text column that is too short keeps as much of it as it has places for.
 pub mod lines;
 
 ghost use mathlib.Core.Path.{_≡_};

@@ -28,15 +28,15 @@ fn set_each(met: bool, edge_num: u32, value: f64, column: &mut [f64]) -> Done
 }
 
 // Sets the probability of each edge.
-pub fn set_probability(edge_num: u32, p: f64, column: &mut [f64]) -> Done
-    ensures { λ r. ⌜ SetEach (isProbability p) «edge_num» p (now (column .entry)) (now (column .exit)) r ⌝ }
+pub fn set_probability(edge_num: u32, value: f64, p: &mut [f64]) -> Done
+    ensures { λ r. ⌜ SetEach (isProbability value) «edge_num» value (now (p .entry)) (now (p .exit)) r ⌝ }
 {
-    set_each(is_probability(p), edge_num, p, column)
+    set_each(is_probability(value), edge_num, value, p)
 }
 
 // Sets the erasure probability of each edge.
-pub fn set_erasure_probability(edge_num: u32, pe: f64, column: &mut [f64]) -> Done
-    ensures { λ r. ⌜ SetEach (isErasureProbability pe) «edge_num» pe (now (column .entry)) (now (column .exit)) r ⌝ }
+pub fn set_erasure_probability(edge_num: u32, value: f64, pe: &mut [f64]) -> Done
+    ensures { λ r. ⌜ SetEach (isErasureProbability value) «edge_num» value (now (pe .entry)) (now (pe .exit)) r ⌝ }
 {
-    set_each(is_erasure_probability(pe), edge_num, pe, column)
+    set_each(is_erasure_probability(value), edge_num, value, pe)
 }

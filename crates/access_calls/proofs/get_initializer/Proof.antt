@@ -3,7 +3,7 @@ use mathlib.Core.Path.{_≡_, sym, _∙_}
 use lib.ListN.{take}
 use Rattle.columns.proofs.Columns.{copy-after, after-accepted, after-refused}
 use Rattle.columns_marks.specs.Marks.{listed}
-use Rattle.access_weights.specs.Weights.{weights}
+use Rattle.access_vertices.specs.Weights.{weights}
 use Rattle.access_calls.specs.Calls.{code, initializer, initializerRefusal}
 use Rattle.columns_answers.proofs.Said.{accepts-of, refuses-of}
 use Rattle.access_calls.proofs.Refusals.{initializer-met}
@@ -30,18 +30,6 @@ list-set-requires c κs =
     let e = s .edge-num in
     let m = initializer-met v e from to (sym (c .before .before .before .before .before .before .before .before .before .before .before .before .before .before .initializer-refusal .ensures) ∙ c .before .before .before .before .before .before .before .before .before .before .before .before .before .if1 .taken) in
     (m .boundary, m .to-virtual)
-
-same-length : tie.Need-same-length
-same-length c = c .before .before .before .before .before .before .before .before .before .before .before .before .before .to-a .given
-
-same-length-2 : tie.Need-same-length-2
-same-length-2 c = c .before .before .before .before .before .before .before .before .before .to-b .given
-
-same-length-3 : tie.Need-same-length-3
-same-length-3 c = c .before .before .before .before .before .to-weight .given
-
-same-length-4 : tie.Need-same-length-4
-same-length-4 c = c .before .to-virtual .given
 
 returns : tie.Need-returns
 returns c =
@@ -83,4 +71,4 @@ returns-2 c =
     }
 
 pub get-initializer-spec : {M : Type 1} → statement M
-get-initializer-spec = tie.close (tie.spec (λ c κs. tt) (λ c κs. tt) (λ c κs. tt) store-weights-requires list-set-requires same-length same-length-2 same-length-3 same-length-4 returns (λ c. search needs) (λ c. search needs) (λ c. search needs) (λ c. search needs) returns-2)
+get-initializer-spec = tie.close (tie.spec (λ c κs. tt) (λ c κs. tt) (λ c κs. tt) store-weights-requires list-set-requires (λ c. c .before .before .before .before .before .before .before .before .before .before .before .before .before .to-a .given) (λ c. c .before .before .before .before .before .before .before .before .before .to-b .given) (λ c. c .before .before .before .before .before .to-weight .given) (λ c. c .before .to-virtual .given) returns (λ c. search needs) (λ c. search needs) (λ c. search needs) (λ c. search needs) returns-2)

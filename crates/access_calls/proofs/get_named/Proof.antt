@@ -17,9 +17,6 @@ list-set-requires c κs =
     let s = c .before .before .before .before .before .before .before .before .before .args in
     get-met (s .sound) (s .n) (s .column .now) (s .list .now) (sym (number (c .before .before)) ∙ c .before .if1 .taken)
 
-same-length : tie.Need-same-length
-same-length c = c .before .list .given
-
 returns : tie.Need-returns
 returns c =
     let s = c .before .before .before .before .before .before .before .before .before .before .before .before .args in
@@ -45,4 +42,4 @@ returns-2 c =
     }
 
 pub get-named-spec : {M : Type 1} → statement M
-get-named-spec = tie.close (tie.spec (λ c κs. tt) (λ c κs. tt) (λ c κs. tt) (λ c κs. tt) (λ c κs. tt) list-set-requires same-length returns returns-2)
+get-named-spec = tie.close (tie.spec (λ c κs. tt) (λ c κs. tt) (λ c κs. tt) (λ c κs. tt) (λ c κs. tt) list-set-requires (λ c. c .before .list .given) returns returns-2)

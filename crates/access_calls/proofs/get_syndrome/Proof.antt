@@ -29,12 +29,6 @@ list-set-requires-2 c κs =
     let m = get-syndrome-met v e bytes lists (sym (c .before .before .before .before .before .before .get-syndrome-refusal .ensures) ∙ c .before .before .before .before .before .if1 .taken) in
     m .1
 
-same-length : tie.Need-same-length
-same-length c = c .before .before .before .before .before .defect-list .given
-
-same-length-2 : tie.Need-same-length-2
-same-length-2 c = c .before .erasure-list .given
-
 returns : tie.Need-returns
 returns c =
     let s = c .before .before .before .before .before .before .before .before .before .before .before .before .before .before .before .before .args in
@@ -73,4 +67,4 @@ returns-2 c =
     }
 
 pub get-syndrome-spec : {M : Type 1} → statement M
-get-syndrome-spec = tie.close (tie.spec (λ c κs. tt) list-set-requires list-set-requires-2 same-length same-length-2 returns (λ c. search needs) (λ c. search needs) returns-2)
+get-syndrome-spec = tie.close (tie.spec (λ c κs. tt) list-set-requires list-set-requires-2 (λ c. c .before .before .before .before .before .defect-list .given) (λ c. c .before .erasure-list .given) returns (λ c. search needs) (λ c. search needs) returns-2)

@@ -3,11 +3,8 @@ use Rattle.access_calls.proofs.Refusals.{set-tested}
 use Rattle.access_calls.proofs.set_erasures.Statement.{statement}
 use Rattle.access_calls.proofs.set_erasures.Tie as tie
 
-same-length : tie.Need-same-length
-same-length c = c .before .erasure .given
-
 returns : tie.Need-returns
 returns c = set-tested (c .before .before .before .before .edge-count-sound .ensures) (c .before .before .set-named .ensures)
 
 pub set-erasures-spec : {M : Type 1} → statement M
-set-erasures-spec = tie.close (tie.spec (λ c κs. tt) (λ c κs. tt) same-length returns)
+set-erasures-spec = tie.close (tie.spec (λ c κs. tt) (λ c κs. tt) (λ c. c .before .erasure .given) returns)

@@ -19,9 +19,6 @@ set-marks-requires c κs =
     let s = c .before .before .before .before .before .before .before .before .before .args in
     set-met (s .sound) (s .n) (s .list .now) (s .column .now) (sym (number (c .before .before)) ∙ c .before .if1 .taken)
 
-same-length : tie.Need-same-length
-same-length c = c .before .column .given
-
 returns : tie.Need-returns
 returns c =
     let s = c .before .before .before .before .before .before .before .before .before .before .before .before .args in
@@ -45,4 +42,4 @@ returns-2 c =
     }
 
 pub set-named-spec : {M : Type 1} → statement M
-set-named-spec = tie.close (tie.spec (λ c κs. tt) (λ c κs. tt) (λ c κs. tt) (λ c κs. tt) (λ c κs. tt) set-marks-requires same-length returns (λ c κs. tt) returns-2)
+set-named-spec = tie.close (tie.spec (λ c κs. tt) (λ c κs. tt) (λ c κs. tt) (λ c κs. tt) (λ c κs. tt) set-marks-requires (λ c. c .before .column .given) returns (λ c κs. tt) returns-2)

@@ -31,12 +31,6 @@ set-marks-requires-2 c κs =
     let m = set-syndrome-met v e lists bytes (sym (c .before .before .before .before .before .before .set-syndrome-refusal .ensures) ∙ c .before .before .before .before .before .if1 .taken) in
     (m .0 .1, m .1 .1)
 
-same-length : tie.Need-same-length
-same-length c = c .before .before .before .before .before .defect .given
-
-same-length-2 : tie.Need-same-length-2
-same-length-2 c = c .before .erasure .given
-
 returns : tie.Need-returns
 returns c =
     let s = c .before .before .before .before .before .before .before .before .before .before .before .before .before .before .before .before .args in
@@ -69,4 +63,4 @@ returns-2 c =
     }
 
 pub set-syndrome-spec : {M : Type 1} → statement M
-set-syndrome-spec = tie.close (tie.spec (λ c κs. tt) set-marks-requires set-marks-requires-2 same-length same-length-2 returns (λ c κs. tt) (λ c. search needs) (λ c. search needs) returns-2)
+set-syndrome-spec = tie.close (tie.spec (λ c κs. tt) set-marks-requires set-marks-requires-2 (λ c. c .before .before .before .before .before .defect .given) (λ c. c .before .erasure .given) returns (λ c κs. tt) (λ c. search needs) (λ c. search needs) returns-2)

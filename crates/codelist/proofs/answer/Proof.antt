@@ -12,16 +12,10 @@ show-requires c κs =
     let s = c .before .before .before .before .before .before .before .before .before .before in
     shown (s .args .input .now) (s .args .text .now) _ (c .before .before .before .before .before .before .codelist .result) (s .pre) (c .before .before .before .before .before .before .codelist .ensures) _ (let t = c .before .before .listed .given in let u = c .before .known-told .given in cc)
 
-same-length : tie.Need-same-length
-same-length c = c .before .before .before .before .before .before .text .given
-
-same-length-2 : tie.Need-same-length-2
-same-length-2 c = c .before .before .before .before .text .given
-
 returns-2 : tie.Need-returns-2
 returns-2 c =
     let s = c .before .before .before .before .before .before .before .before .before in
     absurd (never (s .args .input .now) (s .args .text .now) _ (c .before .before .before .before .before .codelist .result) (s .pre) (c .before .before .before .before .before .codelist .ensures) (λ n q. let t = c .before .listed2 .given in let u = c .known-told2 .given in let z : _≡_ {A = ℕ} 0 1 = cc in omega arith))
 
 pub answer-spec : {M : Type 1} → statement M
-answer-spec = tie.close (tie.spec (λ c κs. tt) (λ c. search needs) show-requires (λ c. search needs) same-length (λ c. search needs) same-length-2 returns-2)
+answer-spec = tie.close (tie.spec (λ c κs. tt) (λ c. search needs) show-requires (λ c. search needs) (λ c. c .before .before .before .before .before .before .text .given) (λ c. search needs) (λ c. c .before .before .before .before .text .given) returns-2)

@@ -8,8 +8,5 @@ use Rattle.codelist.proofs.show.Tie as tie
 slice-aggregate-print : tie.Need-slice-aggregate-print
 slice-aggregate-print c = let s = c .before .before .before in sym (length-take-le (s .args .n) (s .args .text .now) (s .pre .0))
 
-print-requires : tie.Need-print-requires
-print-requires c κs = c .before .before .before .pre .1
-
 pub show-spec : {M : Type 1} → statement M
-show-spec = tie.close (tie.spec slice-aggregate-print print-requires (λ c. search needs))
+show-spec = tie.close (tie.spec slice-aggregate-print (λ c κs. c .before .before .before .pre .1) (λ c. search needs))

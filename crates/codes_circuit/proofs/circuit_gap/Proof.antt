@@ -15,9 +15,6 @@ Inv-loop ends-a₀ ends-b₀ at d base size next₀ row₀ ends-a ends-b next ro
 abbrev μ-loop : tie.MeasureT-loop
 μ-loop ends-a₀ ends-b₀ at d base size next₀ row₀ ends-a ends-b next row = d - row
 
-mul-size : tie.Need-mul-size Inv-loop μ-loop
-mul-size c = omega arith
-
 loop-holds : tie.Need-loop-holds Inv-loop μ-loop
 unfolding joined
 loop-holds c = (omega arith, wrote-none)
@@ -40,4 +37,4 @@ unfolding circuitGap
 returns c = joined-end _ (c .before .loop .inv .1) (c .before .loop .inv .0) (c .loop-test .left)
 
 pub circuit-gap-spec : {M : Type 1} → statement M
-circuit-gap-spec = tie.close (tie.spec Inv-loop μ-loop (λ c. search needs) mul-size loop-holds circuit-row-requires (λ c. search needs) (λ c. search needs) loop-again same-length same-length-2 returns)
+circuit-gap-spec = tie.close (tie.spec Inv-loop μ-loop (λ c. search needs) (λ c. omega arith) loop-holds circuit-row-requires (λ c. search needs) (λ c. search needs) loop-again same-length same-length-2 returns)

@@ -18,24 +18,12 @@ straight-rows-requires : tie.Need-straight-rows-requires
 unfolding planarGap
 straight-rows-requires c κs = (room-as (planar-gaps (c .before .before .before .before .before .args .kind) (c .before .before .before .before .before .args .d) (c .before .before .before .before .before .args .base) (c .before .before .if1 .taken)) (c .before .before .before .before .before .pre .0), omega (arith, planar-rows (c .before .before .before .before .before .args .kind) (c .before .before .before .before .before .args .d) (λ q. omega arith) (omega arith)))
 
-same-length : tie.Need-same-length
-same-length c = c .before .before .before .ends-a .given
-
-same-length-2 : tie.Need-same-length-2
-same-length-2 c = c .before .ends-b .given
-
 returns : tie.Need-returns
 unfolding planarGap
 returns c = wrote-as (sym (planar-gaps (c .before .before .before .before .before .before .before .before .before .before .args .kind) (c .before .before .before .before .before .before .before .before .before .before .args .d) (c .before .before .before .before .before .before .before .before .before .before .args .base) (c .before .before .before .before .before .before .before .if1 .taken))) (c .before .before .before .before .straight-rows .ensures)
 
 circuit-gap-requires : tie.Need-circuit-gap-requires
 circuit-gap-requires c κs = (room-as (circuit-gaps (c .before .before .before .before .before .before .args .kind) (c .before .before .before .before .before .before .args .d) (c .before .before .before .before .before .before .args .base) (c .before .before .if2 .taken)) (c .before .before .before .before .before .before .pre .0), omega (arith, planar-rows (c .before .before .before .before .before .before .args .kind) (c .before .before .before .before .before .before .args .d) (λ q. omega arith) (omega arith)))
-
-same-length-3 : tie.Need-same-length-3
-same-length-3 c = c .before .before .before .ends-a2 .given
-
-same-length-4 : tie.Need-same-length-4
-same-length-4 c = c .before .ends-b2 .given
 
 returns-2 : tie.Need-returns-2
 returns-2 c = wrote-as (sym (circuit-gaps (c .before .before .before .before .before .before .before .before .before .before .before .args .kind) (c .before .before .before .before .before .before .before .before .before .before .before .args .d) (c .before .before .before .before .before .before .before .before .before .before .before .args .base) (c .before .before .before .before .before .before .before .if2 .taken))) (c .before .before .before .before .circuit-gap .ensures)
@@ -47,12 +35,6 @@ straight-rows-requires-2 : tie.Need-straight-rows-requires-2
 unfolding rotatedGap
 straight-rows-requires-2 c κs = (room-as (rotated-gaps (c .before .before .before .before .before .before .before .args .kind) (c .before .before .before .before .before .before .before .args .d) (c .before .before .before .before .before .before .before .args .base) (c .before .before .if3 .taken)) (c .before .before .before .before .before .before .before .pre .0), omega (arith, rotated-rows (c .before .before .before .before .before .before .before .args .kind) (c .before .before .before .before .before .before .before .args .d) (omega arith), mul-comm (rotatedWidth (c .before .before .before .before .before .before .before .args .d)) (c .before .before .before .before .before .before .before .args .d + 1)))
 
-same-length-5 : tie.Need-same-length-5
-same-length-5 c = c .before .before .before .ends-a3 .given
-
-same-length-6 : tie.Need-same-length-6
-same-length-6 c = c .before .ends-b3 .given
-
 returns-3 : tie.Need-returns-3
 unfolding rotatedGap
 returns-3 c = wrote-as (sym (rotated-gaps (c .before .before .before .before .before .before .before .before .before .before .before .before .args .kind) (c .before .before .before .before .before .before .before .before .before .before .before .before .args .d) (c .before .before .before .before .before .before .before .before .before .before .before .before .args .base) (c .before .before .before .before .before .before .before .if3 .taken))) (c .before .before .before .before .straight-rows2 .ensures)
@@ -61,4 +43,4 @@ returns-4 : tie.Need-returns-4
 returns-4 c = wrote-as (sym (no-gaps (c .before .before .before .before .before .args .kind) (c .before .before .before .before .before .args .d) (c .before .before .before .before .before .args .base) (c .before .before .if1 .left) (c .before .if2 .left) (c .if3 .left))) wrote-none
 
 pub gap-edges-spec : {M : Type 1} → statement M
-gap-edges-spec = tie.close (tie.spec (λ c. search needs) (λ c. search needs) (λ c. search needs) mul-straight-rows straight-rows-requires same-length same-length-2 returns circuit-gap-requires same-length-3 same-length-4 returns-2 (λ c. search needs) (λ c. search needs) (λ c. search needs) (λ c. search needs) mul-straight-rows-2 straight-rows-requires-2 same-length-5 same-length-6 returns-3 returns-4)
+gap-edges-spec = tie.close (tie.spec (λ c. search needs) (λ c. search needs) (λ c. search needs) mul-straight-rows straight-rows-requires (λ c. c .before .before .before .ends-a .given) (λ c. c .before .ends-b .given) returns circuit-gap-requires (λ c. c .before .before .before .ends-a2 .given) (λ c. c .before .ends-b2 .given) returns-2 (λ c. search needs) (λ c. search needs) (λ c. search needs) (λ c. search needs) mul-straight-rows-2 straight-rows-requires-2 (λ c. c .before .before .before .ends-a3 .given) (λ c. c .before .ends-b3 .given) returns-3 returns-4)

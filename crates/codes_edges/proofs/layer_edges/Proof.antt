@@ -12,23 +12,11 @@ use Rattle.codes_edges.proofs.layer_edges.Tie as tie
 row-edges-requires : tie.Need-row-edges-requires
 row-edges-requires c κs = (room-as (one-layer (c .before .before .before .before .before .args .kind) (c .before .before .before .before .before .args .d) (c .before .before .before .before .before .args .base) (c .before .before .if1 .taken)) (c .before .before .before .before .before .pre .0), omega arith)
 
-same-length : tie.Need-same-length
-same-length c = c .before .before .before .ends-a .given
-
-same-length-2 : tie.Need-same-length-2
-same-length-2 c = c .before .ends-b .given
-
 returns : tie.Need-returns
 returns c = wrote-as (sym (one-layer (c .before .before .before .before .before .before .before .before .before .before .args .kind) (c .before .before .before .before .before .before .before .before .before .before .args .d) (c .before .before .before .before .before .before .before .before .before .before .args .base) (c .before .before .before .before .before .before .before .if1 .taken))) (c .before .before .before .before .row-edges .ensures)
 
 planar-layer-requires : tie.Need-planar-layer-requires
 planar-layer-requires c κs = (room-as (planar-layers (c .before .before .before .before .before .before .args .kind) (c .before .before .before .before .before .before .args .d) (c .before .before .before .before .before .before .args .base) (c .before .before .before .if1 .left) (c .before .before .if2 .taken)) (c .before .before .before .before .before .before .pre .0), omega (arith, planar-rows (c .before .before .before .before .before .before .args .kind) (c .before .before .before .before .before .before .args .d) (c .before .before .before .if1 .left) (c .before .before .if2 .taken)))
-
-same-length-3 : tie.Need-same-length-3
-same-length-3 c = c .before .before .before .ends-a2 .given
-
-same-length-4 : tie.Need-same-length-4
-same-length-4 c = c .before .ends-b2 .given
 
 returns-2 : tie.Need-returns-2
 returns-2 c = wrote-as (sym (planar-layers (c .before .before .before .before .before .before .before .before .before .before .before .args .kind) (c .before .before .before .before .before .before .before .before .before .before .before .args .d) (c .before .before .before .before .before .before .before .before .before .before .before .args .base) (c .before .before .before .before .before .before .before .before .if1 .left) (c .before .before .before .before .before .before .before .if2 .taken))) (c .before .before .before .before .planar-layer .ensures)
@@ -36,14 +24,8 @@ returns-2 c = wrote-as (sym (planar-layers (c .before .before .before .before .b
 rotated-layer-requires : tie.Need-rotated-layer-requires
 rotated-layer-requires c κs = (room-as (rotated-layers (c .before .before .before .before .before .before .args .kind) (c .before .before .before .before .before .before .args .d) (c .before .before .before .before .before .before .args .base) (c .before .before .if2 .left)) (c .before .before .before .before .before .before .pre .0), omega (arith, rotated-rows (c .before .before .before .before .before .before .args .kind) (c .before .before .before .before .before .before .args .d) (c .before .before .if2 .left), mul-comm (rotatedWidth (c .before .before .before .before .before .before .args .d)) (c .before .before .before .before .before .before .args .d + 1)))
 
-same-length-5 : tie.Need-same-length-5
-same-length-5 c = c .before .before .before .ends-a3 .given
-
-same-length-6 : tie.Need-same-length-6
-same-length-6 c = c .before .ends-b3 .given
-
 returns-3 : tie.Need-returns-3
 returns-3 c = wrote-as (sym (rotated-layers (c .before .before .before .before .before .before .before .before .before .before .before .args .kind) (c .before .before .before .before .before .before .before .before .before .before .before .args .d) (c .before .before .before .before .before .before .before .before .before .before .before .args .base) (c .before .before .before .before .before .before .before .if2 .left))) (c .before .before .before .before .rotated-layer .ensures)
 
 pub layer-edges-spec : {M : Type 1} → statement M
-layer-edges-spec = tie.close (tie.spec row-edges-requires same-length same-length-2 returns planar-layer-requires same-length-3 same-length-4 returns-2 rotated-layer-requires same-length-5 same-length-6 returns-3)
+layer-edges-spec = tie.close (tie.spec row-edges-requires (λ c. c .before .before .before .ends-a .given) (λ c. c .before .ends-b .given) returns planar-layer-requires (λ c. c .before .before .before .ends-a2 .given) (λ c. c .before .ends-b2 .given) returns-2 rotated-layer-requires (λ c. c .before .before .before .ends-a3 .given) (λ c. c .before .ends-b3 .given) returns-3)

@@ -12,12 +12,6 @@ use Rattle.codes_writers.proofs.push_if.Tie as tie
 push-requires : tie.Need-push-requires
 push-requires c κs = omega (arith, c .before .before .before .before .before .pre .room-a, c .before .before .before .before .before .pre .room-b, ap (λ (m : Bool). length (when {A = Ends} m (c .before .before .before .before .before .args .a .0, c .before .before .before .before .before .args .b .0))) (c .before .before .if1 .taken))
 
-same-length : tie.Need-same-length
-same-length c = c .before .before .before .ends-a .given
-
-same-length-2 : tie.Need-same-length-2
-same-length-2 c = c .before .ends-b .given
-
 returns : tie.Need-returns
 returns c = wrote-as (ap (λ (m : Bool). when m (c .before .before .before .before .before .before .before .before .before .before .args .a .0, c .before .before .before .before .before .before .before .before .before .before .args .b .0)) (sym (c .before .before .before .before .before .before .before .if1 .taken))) (c .before .before .before .before .push .ensures)
 
@@ -25,4 +19,4 @@ returns-2 : tie.Need-returns-2
 returns-2 c = wrote-as (ap (λ (m : Bool). when m (c .before .before .before .args .a .0, c .before .before .before .args .b .0)) (sym (c .if1 .left))) wrote-none
 
 pub push-if-spec : {M : Type 1} → statement M
-push-if-spec = tie.close (tie.spec push-requires same-length same-length-2 returns returns-2)
+push-if-spec = tie.close (tie.spec push-requires (λ c. c .before .before .before .ends-a .given) (λ c. c .before .ends-b .given) returns returns-2)

@@ -40,9 +40,6 @@ loop-again c =
       λ l e. listed-store column (at .k) l tested (at .inv .1) (at .inv .3 l e) (push .1),
     )
 
-same-length : tie.Need-same-length Inv-loop μ-loop
-same-length c = c .before .loop .inv .2
-
 returns : tie.Need-returns Inv-loop μ-loop
 returns c =
     let s = c .before .before .before .before .args in
@@ -51,4 +48,4 @@ returns c =
     (at .inv .1 ∙ ap (λ (n : ℕ). length (listed n (s .column .now))) e, λ l f. at .inv .3 l f ∙ ap (λ (n : ℕ). sets l 0 (listed n (s .column .now))) e)
 
 pub list-between-spec : {M : Type 1} → statement M
-list-between-spec = tie.close (tie.spec Inv-loop μ-loop loop-holds (λ c. search needs) (λ c. search needs) (λ c κs. tt) push-if-requires (λ c. search needs) (λ c. search needs) loop-again same-length returns)
+list-between-spec = tie.close (tie.spec Inv-loop μ-loop loop-holds (λ c. search needs) (λ c. search needs) (λ c κs. tt) push-if-requires (λ c. search needs) (λ c. search needs) loop-again (λ c. c .before .loop .inv .2) returns)

@@ -34,9 +34,6 @@ loop-again c =
     let next = ap (λ l. set l (at .i) (getD (s .from .now) (at .i) 0)) (at .inv .3) ∙ copy-more (s .to .now) (s .from .now) (at .i) 0 (omega (arith, at .inv .1)) in
     (search needs, at .inv .1, ap length next ∙ length-sets (s .to .now) 0 (take (at .i + 1) (s .from .now)), next)
 
-same-length : tie.Need-same-length Inv-loop μ-loop
-same-length c = c .before .loop .inv .2
-
 returns : tie.Need-returns Inv-loop μ-loop
 returns c =
     let at = c .before .loop in
@@ -44,4 +41,4 @@ returns c =
     at .inv .3 ∙ copy-end (s .to .now) (s .from .now) (s .n) (at .i) (omega (arith, at .inv .1)) (omega (arith, at .inv .1))
 
 pub copy-u8-spec : {M : Type 1} → statement M
-copy-u8-spec = tie.close (tie.spec Inv-loop μ-loop (λ c κs. tt) (λ c κs. tt) loop-holds shared-slice-read-to slice-write-to add-i (λ c. search needs) loop-again same-length returns)
+copy-u8-spec = tie.close (tie.spec Inv-loop μ-loop (λ c κs. tt) (λ c κs. tt) loop-holds shared-slice-read-to slice-write-to add-i (λ c. search needs) loop-again (λ c. c .before .loop .inv .2) returns)

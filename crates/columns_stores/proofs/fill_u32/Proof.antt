@@ -31,9 +31,6 @@ loop-again c =
     let next = ap (λ l. set l (at .i) (s .value)) (at .inv .3) ∙ fill-more (s .column .now) (at .i) (s .value) in
     (search needs, at .inv .1, ap length next ∙ length-sets (s .column .now) 0 (replicate (at .i + 1) (s .value)), next)
 
-same-length : tie.Need-same-length Inv-loop μ-loop
-same-length c = c .before .loop .inv .2
-
 returns : tie.Need-returns Inv-loop μ-loop
 returns c =
     let at = c .before .loop in
@@ -41,4 +38,4 @@ returns c =
     at .inv .3 ∙ fill-end (s .column .now) (s .n) (at .i) (s .value) (omega (arith, at .inv .1)) (omega (arith, at .inv .1))
 
 pub fill-u32-spec : {M : Type 1} → statement M
-fill-u32-spec = tie.close (tie.spec Inv-loop μ-loop (λ c κs. tt) loop-holds (λ c. search needs) slice-write-column add-i (λ c. search needs) loop-again same-length returns)
+fill-u32-spec = tie.close (tie.spec Inv-loop μ-loop (λ c κs. tt) loop-holds (λ c. search needs) slice-write-column add-i (λ c. search needs) loop-again (λ c. c .before .loop .inv .2) returns)

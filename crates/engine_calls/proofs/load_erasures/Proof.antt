@@ -19,15 +19,6 @@ erase-all-requires c κs =
       (omega (arith, l .long .logEdges), omega (arith, l .long .logWeights)),
     )
 
-same-length : tie.Need-same-length
-same-length c = c .before .before .before .before .before .weights .given
-
-same-length-2 : tie.Need-same-length-2
-same-length-2 c = c .before .before .before .log-edges .given
-
-same-length-3 : tie.Need-same-length-3
-same-length-3 c = c .before .log-weights .given
-
 returns : tie.Need-returns
 returns c =
     let a = c .before .before .before .before .before .before .before .before .before .before .before .before .before .before .before .before .before .before .before .before .before .before .args in
@@ -43,4 +34,4 @@ returns-2 c =
     refused (loadErasures (a .list .now)) e _ _ (c .before .load-erasures-refusal .result) (c .before .load-erasures-refusal .ensures) (c .if1 .left) refl refl
 
 pub load-erasures-spec : {M : Type 1} → statement M
-load-erasures-spec = tie.close (tie.spec (λ c κs. tt) erase-all-requires same-length same-length-2 same-length-3 returns (λ c. search needs) (λ c. search needs) (λ c. search needs) returns-2)
+load-erasures-spec = tie.close (tie.spec (λ c κs. tt) erase-all-requires (λ c. c .before .before .before .before .before .weights .given) (λ c. c .before .before .before .log-edges .given) (λ c. c .before .log-weights .given) returns (λ c. search needs) (λ c. search needs) (λ c. search needs) returns-2)

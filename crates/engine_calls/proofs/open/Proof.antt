@@ -9,18 +9,6 @@ use borrow.Author.Needs.{needs}
 use Rattle.engine_calls.proofs.open.Statement.{statement}
 use Rattle.engine_calls.proofs.open.Tie as tie
 
-same-length : tie.Need-same-length
-same-length c = c .before .before .before .before .before .before .before .before .before .before .before .before .before .ends-a .given
-
-same-length-2 : tie.Need-same-length-2
-same-length-2 c = c .before .before .before .before .before .before .before .before .before .ends-b .given
-
-same-length-3 : tie.Need-same-length-3
-same-length-3 c = c .before .before .before .before .before .weights .given
-
-same-length-4 : tie.Need-same-length-4
-same-length-4 c = c .before .boundary .given
-
 returns : tie.Need-returns
 returns c =
     let a = c .before .before .before .before .before .before .before .before .before .before .before .before .before .before .before .before .before .before .before .before .before .before .before .before .before .before .before .before .before .before .args in
@@ -56,4 +44,4 @@ returns-2 c =
     }
 
 pub open-spec : {M : Type 1} → statement M
-open-spec = tie.close (tie.spec (λ c κs. tt) (λ c κs. tt) (λ c κs. tt) (λ c κs. tt) (λ c κs. tt) same-length same-length-2 same-length-3 same-length-4 returns (λ c. search needs) (λ c. search needs) (λ c. search needs) (λ c. search needs) returns-2)
+open-spec = tie.close (tie.spec (λ c κs. tt) (λ c κs. tt) (λ c κs. tt) (λ c κs. tt) (λ c κs. tt) (λ c. c .before .before .before .before .before .before .before .before .before .before .before .before .before .ends-a .given) (λ c. c .before .before .before .before .before .before .before .before .before .ends-b .given) (λ c. c .before .before .before .before .before .weights .given) (λ c. c .before .boundary .given) returns (λ c. search needs) (λ c. search needs) (λ c. search needs) (λ c. search needs) returns-2)

@@ -19,9 +19,6 @@ undo-all-requires c κs =
       (omega (arith, l .logEdges), omega (arith, l .logWeights)),
     )
 
-same-length : tie.Need-same-length
-same-length c = c .before .weights .given
-
 returns : tie.Need-returns
 returns c =
     let a = c .before .before .before .before .before .before .before .before .before .before .before .before .before .args in
@@ -36,4 +33,4 @@ returns-2 c =
     refused reset e _ _ (c .before .reset-refusal .result) (c .before .reset-refusal .ensures) (c .if1 .left) refl refl
 
 pub reset-spec : {M : Type 1} → statement M
-reset-spec = tie.close (tie.spec (λ c κs. tt) undo-all-requires same-length returns (λ c. search needs) returns-2)
+reset-spec = tie.close (tie.spec (λ c κs. tt) undo-all-requires (λ c. c .before .weights .given) returns (λ c. search needs) returns-2)

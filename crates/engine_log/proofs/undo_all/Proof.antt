@@ -36,9 +36,6 @@ loop-again c =
       simp length-set (l .inv .2),
     )
 
-same-length : tie.Need-same-length Inv-loop μ-loop
-same-length c = c .before .loop .inv .2
-
 returns : tie.Need-returns Inv-loop μ-loop
 returns c =
     let l = c .before .loop in
@@ -46,4 +43,4 @@ returns c =
     rw z at (l .inv .1)
 
 pub undo-all-spec : {M : Type 1} → statement M
-undo-all-spec = tie.close (tie.spec Inv-loop μ-loop (λ c. search needs) (λ c. search needs) (λ c. search needs) (λ c. search needs) (λ c κs. tt) (λ c. search needs) (λ c. search needs) mul-weights-2 slice-write-weights (λ c. search needs) (λ c. search needs) loop-again same-length returns)
+undo-all-spec = tie.close (tie.spec Inv-loop μ-loop (λ c. search needs) (λ c. search needs) (λ c. search needs) (λ c. search needs) (λ c κs. tt) (λ c. search needs) (λ c. search needs) mul-weights-2 slice-write-weights (λ c. search needs) (λ c. search needs) loop-again (λ c. c .before .loop .inv .2) returns)

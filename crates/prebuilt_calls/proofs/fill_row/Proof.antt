@@ -1,5 +1,5 @@
 -- `prebuilt_calls::fill_row` meets its contract. Assumes nothing.
-use mathlib.Core.Path.{_≡_, refl, sym, ap, _∙_}
+use mathlib.Core.Path.{_≡_, sym, ap, _∙_}
 use Prim.Native.Nat.{ℕ, zero, suc, _+_, _*_, _<_, _≤_}
 use native.Mathlib.Omega.{arith}
 use mathlib.Core.Bool.{Bool}
@@ -16,7 +16,7 @@ use Rattle.query_tables.specs.declared.End.the-variants.{None}
 use Rattle.query_questions.specs.Queries.{graphIn, weightsIn, scratchLong}
 use Rattle.query_questions.specs.Scratch.{scratchOf, isFree}
 use Rattle.query_search.proofs.Scratch.{scratch-kept}
-use Rattle.query_tables.specs.Steps.{tableRefusal}
+use Rattle.query_tables.specs.Tables.{tableRefusal}
 use Rattle.columns_answers.proofs.Said.{accepts-of, refuses-of}
 use Rattle.query_tables.proofs.Sources.{table-weights-length}
 use Rattle.prebuilt_calls.specs.Rows.{row, rowRefusal}
@@ -69,30 +69,6 @@ write-row-requires c κs =
     let lo = ap length w ∙ length-over (table (graphIn (engine-of s)) (weightsIn (engine-of s)) (s .args .vertex .0) none .weights) (s .args .out .now) (omega (arith, lt, k .out-long)) in
     (omega (arith, lb, k .nearest-long), omega (arith, lb, lo, k .out-long), omega (arith, lb, k .v-in))
 
-same-length-2 : tie.Need-same-length-2
-same-length-2 c = c .before .before .before .before .before .before .before .before .before .before .before .before .before .before .before .before .before .before .before .before2 .given
-
-same-length-3 : tie.Need-same-length-3
-same-length-3 c = c .before .before .before .before .before .before .before .before .before .before .before .before .before .before .before .before .before .numbers .given
-
-same-length-4 : tie.Need-same-length-4
-same-length-4 c = c .before .before .before .before .before .before .before .before .before .before .before .before .before .before .before .list-ends .given
-
-same-length-5 : tie.Need-same-length-5
-same-length-5 c = c .before .before .before .before .before .before .before .before .before .before .before .before .before .status .given
-
-same-length-6 : tie.Need-same-length-6
-same-length-6 c = c .before .before .before .before .before .before .before .before .before .before .before .weight .given
-
-same-length-7 : tie.Need-same-length-7
-same-length-7 c = c .before .before .before .before .before .before .before .before .before .previous .given
-
-same-length-8 : tie.Need-same-length-8
-same-length-8 c = c .before .before .before .before .before .before .before .node .given
-
-same-length-9 : tie.Need-same-length-9
-same-length-9 c = c .before .before .before .before .before .leaf .given
-
 returns : tie.Need-returns
 unfolding number-at engine-of scratch-at
 returns c =
@@ -132,4 +108,4 @@ returns-2 c =
     )
 
 pub fill-row-spec : {M : Type 1} → statement M
-fill-row-spec = tie.close (tie.spec (λ c. search needs) (λ c κs. tt) (λ c κs. tt) (λ c κs. tt) (λ c κs. tt) (λ c κs. tt) (λ c κs. tt) (λ c κs. tt) (λ c κs. tt) (λ c κs. tt) slice-aggregate-write-row write-row-requires (λ c. search needs) same-length-2 same-length-3 same-length-4 same-length-5 same-length-6 same-length-7 same-length-8 same-length-9 returns returns-2)
+fill-row-spec = tie.close (tie.spec (λ c. search needs) (λ c κs. tt) (λ c κs. tt) (λ c κs. tt) (λ c κs. tt) (λ c κs. tt) (λ c κs. tt) (λ c κs. tt) (λ c κs. tt) (λ c κs. tt) slice-aggregate-write-row write-row-requires (λ c. search needs) (λ c. c .before .before .before .before .before .before .before .before .before .before .before .before .before .before .before .before .before .before .before .before2 .given) (λ c. c .before .before .before .before .before .before .before .before .before .before .before .before .before .before .before .before .before .numbers .given) (λ c. c .before .before .before .before .before .before .before .before .before .before .before .before .before .before .before .list-ends .given) (λ c. c .before .before .before .before .before .before .before .before .before .before .before .before .before .status .given) (λ c. c .before .before .before .before .before .before .before .before .before .before .before .weight .given) (λ c. c .before .before .before .before .before .before .before .before .before .previous .given) (λ c. c .before .before .before .before .before .before .before .node .given) (λ c. c .before .before .before .before .before .leaf .given) returns returns-2)

@@ -14,11 +14,8 @@ use Rattle.query_crossings.proofs.write_found.Tie as tie
 returns : tie.Need-returns
 returns c = let s = c .before .before .before in λ p. sym (ap (λ b. cond b (s .args .out .now) (sets (s .args .out .now) 0 (each (length (s .args .status .now)) (tableWeight (stateOf (s .args .status .now) (s .args .weight .now) p))))) (eq-eqb (s .args .found) 2147483648 (c .if1 .taken)))
 
-same-length : tie.Need-same-length
-same-length c = c .out .given
-
 returns-2 : tie.Need-returns-2
 returns-2 c = let s = c .before .before .before .before .before .before in λ p. c .before .write-weights .ensures p ∙ sym (ap (λ b. cond b (s .args .out .now) (sets (s .args .out .now) 0 (each (length (s .args .status .now)) (tableWeight (stateOf (s .args .status .now) (s .args .weight .now) p))))) (ne-eqb (s .args .found) 2147483648 (c .before .before .before .if1 .left)))
 
 pub write-found-spec : {M : Type 1} → statement M
-write-found-spec = tie.close (tie.spec returns (λ c κs. search needs) same-length returns-2)
+write-found-spec = tie.close (tie.spec returns (λ c κs. search needs) (λ c. c .out .given) returns-2)

@@ -32,12 +32,6 @@ cast-t15 c =
     let l = read-short (stateOf (s .args .status .now) (s .args .weight .now) (s .args .previous .now)) (s .args .a) (length (s .args .status .now)) (s .args .b) in
     omega (arith, e, l, s .pre .0)
 
-same-length : tie.Need-same-length
-same-length c = c .before .before .before .before .out-vertices .given
-
-same-length-2 : tie.Need-same-length-2
-same-length-2 c = c .before .before .out-steps .given
-
 returns : tie.Need-returns
 returns c =
     let s = c .before .before .before .before .before .before .before .before .before .before .before .before .before .before .before .before in
@@ -66,4 +60,4 @@ returns-2 c =
     (subst (λ o. PathSaid 0 o (Refused 17)) p (refuses-of refl (λ z. absurd (omega arith))), (ap (λ o. verticesAfter o (s .args .out-vertices .now)) p, ap (λ o. stepsAfter o (s .args .out-steps .now)) p))
 
 pub found-path-spec : {M : Type 1} → statement M
-found-path-spec = tie.close (tie.spec (λ c κs. tt) (λ c κs. tt) write-path-requires cast-t15 (λ c κs. tt) same-length same-length-2 returns returns-2)
+found-path-spec = tie.close (tie.spec (λ c κs. tt) (λ c κs. tt) write-path-requires cast-t15 (λ c κs. tt) (λ c. c .before .before .before .before .out-vertices .given) (λ c. c .before .before .out-steps .given) returns returns-2)

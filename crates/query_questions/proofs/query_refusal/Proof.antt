@@ -3,8 +3,5 @@ use Prim.Native.Nat.{ℕ, zero, suc, _+_, _*_, _-_, _<_, _≤_}
 use Rattle.query_questions.proofs.query_refusal.Statement.{statement}
 use Rattle.query_questions.proofs.query_refusal.Tie as tie
 
-returns : tie.Need-returns
-returns c = cc
-
 pub query-refusal-spec : {M : Type 1} → statement M
-query-refusal-spec = tie.close (tie.spec (λ c κs. tt) (λ c κs. tt) (λ c κs. tt) (λ c κs. tt) (λ c κs. tt) (λ c κs. tt) returns)
+query-refusal-spec = tie.close (tie.spec (λ c κs. tt) (λ c κs. tt) (λ c κs. tt) (λ c κs. tt) (λ c κs. tt) (λ c κs. tt) (λ c. cc))

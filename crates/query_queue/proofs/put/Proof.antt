@@ -10,8 +10,5 @@ raise-requires c κs =
     let s : tie.Start = c .before .before .before .before in
     ((omega arith, simp length-set (omega arith)), (omega arith, (omega arith, leaf-put (s .args .node .now) (s .args .leaf .now) (s .args .n) (s .args .v) (s .args .key) (s .pre .1 .1 .1))))
 
-same-length : tie.Need-same-length
-same-length c = c .before .node .given
-
 pub put-spec : {M : Type 1} → statement M
-put-spec = tie.close (tie.spec (λ c. search needs) (λ c. search needs) (λ c. search needs) raise-requires same-length (λ c. search needs) (λ c. search needs))
+put-spec = tie.close (tie.spec (λ c. search needs) (λ c. search needs) (λ c. search needs) raise-requires (λ c. c .before .node .given) (λ c. search needs) (λ c. search needs))

@@ -44,12 +44,6 @@ loop-again c =
           (subst (λ x. Written (stateOf (s .args .status .now) (s .args .weight .now) (s .args .previous .now)) (s .args .a) (length (s .args .status .now)) (s .args .b) i (getD (s .args .previous .now) (at .v) 0) (s .args .out-vertices .now) (set (at .out-vertices) i (at .v)) (s .args .out-steps .now) (set (at .out-steps) i x)) (sym (c .before .step-into .ensures (s .args .status .now))) w),
     )
 
-same-length : tie.Need-same-length Inv-loop μ-loop
-same-length c = c .before .loop .inv .0
-
-same-length-2 : tie.Need-same-length-2 Inv-loop μ-loop
-same-length-2 c = c .before .loop .inv .1
-
 returns : tie.Need-returns Inv-loop μ-loop
 returns c =
     let s = c .before .before .before .before .before .before .before in
@@ -61,4 +55,4 @@ returns c =
     )
 
 pub write-path-spec : {M : Type 1} → statement M
-write-path-spec = tie.close (tie.spec Inv-loop μ-loop loop-holds (λ c. search needs) (λ c. search needs) slice-write-out-vertices (λ c κs. tt) (λ c. search needs) slice-write-out-steps (λ c κs. tt) loop-less loop-again same-length same-length-2 returns)
+write-path-spec = tie.close (tie.spec Inv-loop μ-loop loop-holds (λ c. search needs) (λ c. search needs) slice-write-out-vertices (λ c κs. tt) (λ c. search needs) slice-write-out-steps (λ c κs. tt) loop-less loop-again (λ c. c .before .loop .inv .0) (λ c. c .before .loop .inv .1) returns)

@@ -25,21 +25,6 @@ slice-read-tie-rule-2 c = omega (arith, c .before .before .before .before .befor
 wait-requires : tie.Need-wait-requires
 wait-requires c κs = let s = c .before .before .before .before .before .before .before .before .before .before .before .before .before .before .before .before in (s .pre .0, s .pre .1)
 
-same-length : tie.Need-same-length
-same-length c = c .before .before .before .before .before .before .before .before .before .status .given
-
-same-length-2 : tie.Need-same-length-2
-same-length-2 c = c .before .before .before .before .before .before .before .weight .given
-
-same-length-3 : tie.Need-same-length-3
-same-length-3 c = c .before .before .before .before .before .previous .given
-
-same-length-4 : tie.Need-same-length-4
-same-length-4 c = c .before .before .before .node .given
-
-same-length-5 : tie.Need-same-length-5
-same-length-5 c = c .before .leaf .given
-
 returns : tie.Need-returns
 returns c =
     let s = c .before .before .before .before .before .before .before .before .before .before .before .before .before .before .before .before .before .before .before .before .before .before .before .before .before .before .before in
@@ -56,4 +41,4 @@ returns-2 c =
     (ap (λ b. cond b (waits (s .args .u) (s .args .k) (s .args .a) st) st) (sym e) ∙ sym (offer-by (s .args .a) (s .args .q) (s .args .u) (s .args .k) st), s .pre .0)
 
 pub offer-to-spec : {M : Type 1} → statement M
-offer-to-spec = tie.close (tie.spec mul-tie-rule slice-read-tie-rule mul-tie-rule-2 slice-read-tie-rule-2 (λ c κs. tt) (λ c. search needs) (λ c κs. tt) wait-requires same-length same-length-2 same-length-3 same-length-4 same-length-5 returns returns-2)
+offer-to-spec = tie.close (tie.spec mul-tie-rule slice-read-tie-rule mul-tie-rule-2 slice-read-tie-rule-2 (λ c κs. tt) (λ c. search needs) (λ c κs. tt) wait-requires (λ c. c .before .before .before .before .before .before .before .before .before .status .given) (λ c. c .before .before .before .before .before .before .before .weight .given) (λ c. c .before .before .before .before .before .previous .given) (λ c. c .before .before .before .node .given) (λ c. c .before .leaf .given) returns returns-2)

@@ -29,21 +29,6 @@ offer-to-requires c κs =
     let y = getD (s .args .ends-b .now) (s .args .e) 0 in
     (s .pre .0, (rw (c .before .before .before .before .before .before .other-end .ensures) (other-in x y (s .args .a) (length (s .args .status .now)) (s .pre .1 .1 .0 .0) (s .pre .1 .1 .0 .1)), s .pre .1 .0 .3))
 
-same-length : tie.Need-same-length
-same-length c = c .before .before .before .before .before .before .before .before .before .status .given
-
-same-length-2 : tie.Need-same-length-2
-same-length-2 c = c .before .before .before .before .before .before .before .weight .given
-
-same-length-3 : tie.Need-same-length-3
-same-length-3 c = c .before .before .before .before .before .previous .given
-
-same-length-4 : tie.Need-same-length-4
-same-length-4 c = c .before .before .before .node .given
-
-same-length-5 : tie.Need-same-length-5
-same-length-5 c = c .before .leaf .given
-
 returns : tie.Need-returns
 returns c =
     let s = c .before .before .before .before .before .before .before .before .before .before .before .before .before .before .before .before .before .before .before .before .before .before .before .before .before .before .before .before in
@@ -57,4 +42,4 @@ returns c =
     )
 
 pub relax-edge-spec : {M : Type 1} → statement M
-relax-edge-spec = tie.close (tie.spec (λ c. search needs) shared-slice-read-other-end (λ c. search needs) shared-slice-read-other-end-2 (λ c κs. tt) (λ c. search needs) shared-slice-read-offer-to add-offer-to offer-to-requires same-length same-length-2 same-length-3 same-length-4 same-length-5 returns)
+relax-edge-spec = tie.close (tie.spec (λ c. search needs) shared-slice-read-other-end (λ c. search needs) shared-slice-read-other-end-2 (λ c κs. tt) (λ c. search needs) shared-slice-read-offer-to add-offer-to offer-to-requires (λ c. c .before .before .before .before .before .before .before .before .before .status .given) (λ c. c .before .before .before .before .before .before .before .weight .given) (λ c. c .before .before .before .before .before .previous .given) (λ c. c .before .before .before .node .given) (λ c. c .before .leaf .given) returns)

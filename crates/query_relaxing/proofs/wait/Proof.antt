@@ -31,12 +31,6 @@ add-put c = omega (arith, c .before .before .before .before .before .before .bef
 put-requires : tie.Need-put-requires
 put-requires c κs = let s = c .before .before .before .before .before .before .before in ((s .pre .0 .node-fits, omega (arith, s .pre .0 .leaf-fits)), (s .pre .1 .0, (s .pre .0 .few, s .pre .0 .tree)))
 
-same-length-4 : tie.Need-same-length-4
-same-length-4 c = c .before .before .before .node .given
-
-same-length-5 : tie.Need-same-length-5
-same-length-5 c = c .before .leaf .given
-
 returns : tie.Need-returns
 returns c =
     let s = c .before .before .before .before .before .before .before .before .before .before .before .before in
@@ -44,4 +38,4 @@ returns c =
     (refl, ready-waits (s .pre .0) _ _ (p .1 .1) (p .0) (s .args .u) (s .pre .1 .0) (s .args .k) (s .args .a) (s .pre .1 .1) (p .1 .0))
 
 pub wait-spec : {M : Type 1} → statement M
-wait-spec = tie.close (tie.spec slice-write-status mul-weight slice-write-weight mul-previous slice-write-previous mul-put add-put put-requires (λ c. search needs) (λ c. search needs) (λ c. search needs) same-length-4 same-length-5 returns)
+wait-spec = tie.close (tie.spec slice-write-status mul-weight slice-write-weight mul-previous slice-write-previous mul-put add-put put-requires (λ c. search needs) (λ c. search needs) (λ c. search needs) (λ c. c .before .before .before .node .given) (λ c. c .before .leaf .given) returns)

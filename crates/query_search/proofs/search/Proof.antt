@@ -1,12 +1,11 @@
 -- `query_search::search` meets its contract: columns are cut to their counts here. Assumes nothing.
-use mathlib.Core.Path.{_≡_, sym, _∙_, subst}
-use mathlib.Core.List.{List, []}
+use mathlib.Core.Path.{sym, _∙_, subst}
+use mathlib.Core.List.{[]}
 use Prim.Native.Nat.{ℕ, _<_, _≤_}
-use native.Mathlib.Omega.{arith}
-use lib.ListN.{length, take}
+use lib.ListN.{length}
 use lib.Seq.{length-take-le}
 use Rattle.engine_columns.specs.Records.{engine}
-use Rattle.engine_columns.proofs.Refusals.{ColumnsLong, columns-long-of, ColumnsSound, columns-sound-of}
+use Rattle.engine_columns.proofs.Refusals.{ColumnsLong, columns-long-of, columns-sound-of}
 use Rattle.query_questions.specs.Queries.{graphIn, weightsIn}
 use Rattle.query_questions.specs.Scratch.{scratchOf}
 use Rattle.query_search.specs.Search.{Starts, stateFrom}

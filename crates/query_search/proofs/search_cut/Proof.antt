@@ -1,6 +1,5 @@
 -- `query_search::search_cut` meets its contract. Assumes nothing.
-use mathlib.Core.Path.{_≡_, sym, ap, _∙_, subst}
-use mathlib.Core.List.{List}
+use mathlib.Core.Path.{sym, ap, _∙_, subst}
 use Prim.Native.Nat.{ℕ, zero, suc, _+_, _*_, _-_, _<_, _≤_}
 use native.Mathlib.Omega.{arith}
 use lib.ListN.{length, getD}
@@ -8,7 +7,7 @@ use Rattle.columns.proofs.Counting.{length-each}
 use Rattle.engine_walks.specs.Settling.{settled}
 use Rattle.query_relaxing.specs.Ready.{graphOf, weighs, sources, endOf}
 use Rattle.query_relaxing.proofs.Keys.{ready-as}
-use Rattle.query_search.specs.Search.{Searchable, Waiting, firstStatus, stopIn, stateFrom}
+use Rattle.query_search.specs.Search.{Searchable, Waiting, stopIn}
 use Rattle.query_search.proofs.Listing.{listed, searchable-as, waiting-as, built-as, ready-in}
 use Rattle.query_search.proofs.Origins.{first-waits, first-settled}
 use borrow.Author.Needs.{needs}
@@ -54,12 +53,6 @@ settle-requires c κs =
       ),
     )
 
-same-length : tie.Need-same-length
-same-length c = c .before .before .before .before .before .before .before .before .before .before .before .before .before .before .before .before .before .before .before .before .before .before .before .before .before .before .before .before .before .before .before .before .before .before .before .before .numbers .given
-
-same-length-2 : tie.Need-same-length-2
-same-length-2 c = c .before .before .before .before .before .before .before .before .before .before .before .before .before .before .before .before .before .before .before .before .before .before .before .before .before .before .before .before .before .before .before .before .before .before .list-ends .given
-
 same-length-3 : tie.Need-same-length-3
 same-length-3 c = c .before .before .before .before .before .before .before .before .before .status2 .given ∙ c .before .before .before .before .before .before .before .before .before .before .before .before .before .before .before .before .before .before .before .before .before .before .before .before .before .before .before .before .before .before .before .before .before .before .before .before .before .before .before .before .before .before .before .before .before .begin-status .kept .1 .0
 
@@ -83,4 +76,4 @@ returns c =
     record { built = built-as k (record { numbers-are = f .numbers-are; ends-are = f .ends-are }); state = state; ready = ready-in state (ready-as k (r .1)) }
 
 pub search-cut-spec : {M : Type 1} → statement M
-search-cut-spec = tie.close (tie.spec begin-status-requires fill-lists-requires begin-requires (λ c κs. tt) settle-requires same-length same-length-2 same-length-3 (λ c. search needs) same-length-5 (λ c. search needs) (λ c. search needs) returns)
+search-cut-spec = tie.close (tie.spec begin-status-requires fill-lists-requires begin-requires (λ c κs. tt) settle-requires (λ c. c .before .before .before .before .before .before .before .before .before .before .before .before .before .before .before .before .before .before .before .before .before .before .before .before .before .before .before .before .before .before .before .before .before .before .before .before .numbers .given) (λ c. c .before .before .before .before .before .before .before .before .before .before .before .before .before .before .before .before .before .before .before .before .before .before .before .before .before .before .before .before .before .before .before .before .before .before .list-ends .given) same-length-3 (λ c. search needs) same-length-5 (λ c. search needs) (λ c. search needs) returns)

@@ -35,9 +35,6 @@ loop-again c =
     let at = c .before .before .before .before .loop in
     (search needs, simp length-set (at .inv .1), λ w. (λ i. set (at .inv .2 w i) (at .v) (c .row-previous .ensures i)) ∙ store-each (s .args .out .now) (at .v) (tablePrevious (stateOf (s .args .status .now) w (s .args .previous .now))))
 
-same-length : tie.Need-same-length Inv-loop μ-loop
-same-length c = c .before .loop .inv .1
-
 returns : tie.Need-returns Inv-loop μ-loop
 returns c =
     let s = c .before .before .before .before .before in
@@ -46,4 +43,4 @@ returns c =
     λ w. at .inv .2 w ∙ ap (λ k. sets (s .args .out .now) 0 (each k (tablePrevious (stateOf (s .args .status .now) w (s .args .previous .now))))) e
 
 pub write-previous-spec : {M : Type 1} → statement M
-write-previous-spec = tie.close (tie.spec Inv-loop μ-loop loop-holds (λ c. search needs) (λ c. search needs) shared-slice-read-row-previous-2 (λ c κs. tt) (λ c. search needs) slice-write-out (λ c. search needs) (λ c. search needs) loop-again same-length returns)
+write-previous-spec = tie.close (tie.spec Inv-loop μ-loop loop-holds (λ c. search needs) (λ c. search needs) shared-slice-read-row-previous-2 (λ c κs. tt) (λ c. search needs) slice-write-out (λ c. search needs) (λ c. search needs) loop-again (λ c. c .before .loop .inv .1) returns)

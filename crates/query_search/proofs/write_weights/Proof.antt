@@ -40,9 +40,6 @@ loop-again c =
     let at = c .before .before .before .before .loop in
     (search needs, simp length-set (at .inv .1), λ p. ap (λ z. set (at .out) (at .v) z) (toZ-ofZ {w = w32} (sfits-of (c .row-weight .ok))) ∙ (λ i. set (at .inv .2 p i) (at .v) (c .row-weight .ensures i)) ∙ store-each (s .args .out .now) (at .v) (tableWeight (stateOf (s .args .status .now) (s .args .weight .now) p)))
 
-same-length : tie.Need-same-length Inv-loop μ-loop
-same-length c = c .before .loop .inv .1
-
 returns : tie.Need-returns Inv-loop μ-loop
 returns c =
     let s = c .before .before .before .before in
@@ -51,4 +48,4 @@ returns c =
     λ p. at .inv .2 p ∙ ap (λ k. sets (s .args .out .now) 0 (each k (tableWeight (stateOf (s .args .status .now) (s .args .weight .now) p)))) e
 
 pub write-weights-spec : {M : Type 1} → statement M
-write-weights-spec = tie.close (tie.spec Inv-loop μ-loop loop-holds (λ c. search needs) (λ c. search needs) shared-slice-read-row-weight-2 row-weight-requires (λ c. search needs) slice-set-from-out (λ c. search needs) (λ c. search needs) loop-again same-length returns)
+write-weights-spec = tie.close (tie.spec Inv-loop μ-loop loop-holds (λ c. search needs) (λ c. search needs) shared-slice-read-row-weight-2 row-weight-requires (λ c. search needs) slice-set-from-out (λ c. search needs) (λ c. search needs) loop-again (λ c. c .before .loop .inv .1) returns)

@@ -5,8 +5,7 @@ use native.Mathlib.Omega.{arith}
 use mathlib.Core.List.{List}
 use lib.ListN.{length, getD, take, drop}
 use Rattle.query_relaxing.specs.Ready.{stateOf, graphOf, weighs, Ready}
-use Rattle.engine_walks.specs.Settling.{relaxEdge}
-use Rattle.engine_walks.proofs.Neighbours.{relaxAlong}
+use Rattle.engine_walks.specs.Settling.{relaxEdge, relaxAlong}
 use Rattle.query_relaxing.proofs.Keys.{ready-as}
 use Rattle.query_settling.proofs.Choice.{along-more, along-none}
 use borrow.Author.Needs.{needs}
@@ -59,17 +58,11 @@ loop-again c =
       c .before .before .before .before .before .before .before .before .before .before .relax-edge .kept .1 .1 .1 .1 .1 .1 .0 ∙ at .inv .5,
     )
 
-same-length : tie.Need-same-length Inv-loop μ-loop
-same-length c = c .before .loop .inv .2
-
 same-length-2 : tie.Need-same-length-2 Inv-loop μ-loop
 same-length-2 c = let at = c .before .loop in let s = c .before .before .before .before .before .before .before .before .before .before .before in at .inv .3 .weight-fits ∙ sym (s .pre .0 .weight-fits)
 
 same-length-3 : tie.Need-same-length-3 Inv-loop μ-loop
 same-length-3 c = let at = c .before .loop in let s = c .before .before .before .before .before .before .before .before .before .before .before in at .inv .3 .previous-fits ∙ sym (s .pre .0 .previous-fits)
-
-same-length-4 : tie.Need-same-length-4 Inv-loop μ-loop
-same-length-4 c = c .before .loop .inv .5
 
 same-length-5 : tie.Need-same-length-5 Inv-loop μ-loop
 same-length-5 c = let at = c .before .loop in let s = c .before .before .before .before .before .before .before .before .before .before .before in at .inv .3 .leaf-fits ∙ sym (s .pre .0 .leaf-fits)
@@ -82,4 +75,4 @@ returns c =
     ((λ n m. at .inv .4 n m ∙ ap (λ k. relaxAlong (graphOf n (s .args .ends-a .now) (s .args .ends-b .now) m) (weighs (s .args .weights .now)) (s .args .a) (s .args .q) (s .args .w) (take (k - s .args .from) (drop (s .args .from) (s .args .numbers .now))) (stateOf (s .args .status .now) (s .args .weight .now) (s .args .previous .now))) e), at .inv .3)
 
 pub relax-list-spec : {M : Type 1} → statement M
-relax-list-spec = tie.close (tie.spec Inv-loop μ-loop loop-holds mul-relax-edge shared-slice-read-relax-edge relax-edge-requires add-i (λ c. search needs) loop-again same-length same-length-2 same-length-3 same-length-4 same-length-5 returns)
+relax-list-spec = tie.close (tie.spec Inv-loop μ-loop loop-holds mul-relax-edge shared-slice-read-relax-edge relax-edge-requires add-i (λ c. search needs) loop-again (λ c. c .before .loop .inv .2) same-length-2 same-length-3 (λ c. c .before .loop .inv .5) same-length-5 returns)

@@ -29,17 +29,11 @@ abbrev μ-loop : tie.MeasureT-loop
 loop-holds : tie.Need-loop-holds Inv-loop μ-loop
 loop-holds c = let s = c .before .before .before .before .before .before .before .before .before .before in (omega arith, refl, s .pre .0, (λ m. begins (length (s .args .status .now)) (s .args .ends-a .now) (s .args .ends-b .now) (s .args .weights .now) (s .args .status .now) (s .args .weight .now) (s .args .previous .now) (s .args .stop) refl (s .pre .1 .1) m), refl, refl)
 
-same-length : tie.Need-same-length Inv-loop μ-loop
-same-length c = c .before .before .before .before .loop .inv .1
-
 same-length-2 : tie.Need-same-length-2 Inv-loop μ-loop
 same-length-2 c = c .before .before .before .before .loop .inv .2 .weight-fits ∙ sym (c .before .before .before .before .before .before .before .before .before .before .before .before .before .before .before .pre .0 .weight-fits)
 
 same-length-3 : tie.Need-same-length-3 Inv-loop μ-loop
 same-length-3 c = c .before .before .before .before .loop .inv .2 .previous-fits ∙ sym (c .before .before .before .before .before .before .before .before .before .before .before .before .before .before .before .pre .0 .previous-fits)
-
-same-length-4 : tie.Need-same-length-4 Inv-loop μ-loop
-same-length-4 c = c .before .before .before .before .loop .inv .4
 
 same-length-5 : tie.Need-same-length-5 Inv-loop μ-loop
 same-length-5 c = c .before .before .before .before .loop .inv .2 .leaf-fits ∙ sym (c .before .before .before .before .before .before .before .before .before .before .before .before .before .before .before .pre .0 .leaf-fits)
@@ -99,17 +93,11 @@ loop-again c =
       at .inv .5,
     )
 
-same-length-11 : tie.Need-same-length-11 Inv-loop μ-loop
-same-length-11 c = c .before .loop .inv .1
-
 same-length-12 : tie.Need-same-length-12 Inv-loop μ-loop
 same-length-12 c = c .before .loop .inv .2 .weight-fits ∙ sym (c .before .before .before .before .before .before .before .before .before .before .before .before .pre .0 .weight-fits)
 
 same-length-13 : tie.Need-same-length-13 Inv-loop μ-loop
 same-length-13 c = c .before .loop .inv .2 .previous-fits ∙ sym (c .before .before .before .before .before .before .before .before .before .before .before .before .pre .0 .previous-fits)
-
-same-length-14 : tie.Need-same-length-14 Inv-loop μ-loop
-same-length-14 c = c .before .loop .inv .4
 
 same-length-15 : tie.Need-same-length-15 Inv-loop μ-loop
 same-length-15 c = c .before .loop .inv .2 .leaf-fits ∙ sym (c .before .before .before .before .before .before .before .before .before .before .before .before .pre .0 .leaf-fits)
@@ -122,4 +110,4 @@ returns-3 c =
     ((λ m. at .inv .3 m ∙ ap (S.settle (graphOf (length (s .args .status .now)) (s .args .ends-a .now) (s .args .ends-b .now) m) (weighs (s .args .weights .now)) (sources (s .args .status .now)) (endOf (length (s .args .status .now)) (s .args .stop))) e), at .inv .2)
 
 pub settle-spec : {M : Type 1} → statement M
-settle-spec = tie.close (tie.spec Inv-loop μ-loop loop-holds (λ c κs. tt) same-length same-length-2 same-length-3 same-length-4 same-length-5 returns turn-requires same-length-6 same-length-7 same-length-8 same-length-9 same-length-10 returns-2 (λ c. search needs) (λ c. search needs) loop-again same-length-11 same-length-12 same-length-13 same-length-14 same-length-15 returns-3)
+settle-spec = tie.close (tie.spec Inv-loop μ-loop loop-holds (λ c κs. tt) (λ c. c .before .before .before .before .loop .inv .1) same-length-2 same-length-3 (λ c. c .before .before .before .before .loop .inv .4) same-length-5 returns turn-requires same-length-6 same-length-7 same-length-8 same-length-9 same-length-10 returns-2 (λ c. search needs) (λ c. search needs) loop-again (λ c. c .before .loop .inv .1) same-length-12 same-length-13 (λ c. c .before .loop .inv .4) same-length-15 returns-3)

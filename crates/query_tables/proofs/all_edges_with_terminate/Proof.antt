@@ -20,7 +20,7 @@ use Rattle.query_search.proofs.Asked.{ScratchLong, scratch-of}
 use Rattle.query_search.proofs.Scratch.{scratch-free, scratch-kept}
 use Rattle.query_search.proofs.Reading.{state-read, status-length, weight-length, previous-length, light-read}
 use Rattle.query_tables.specs.Ends.{endIn}
-use Rattle.query_tables.specs.Steps.{tableRefusal}
+use Rattle.query_tables.specs.Tables.{tableRefusal}
 use Rattle.query_tables.proofs.Tables.{TableAsked, table-of, table-number, kept-number}
 use Rattle.query_tables.proofs.Sources.{stop-same, stop-other, table-weights-length, table-previous-length}
 use borrow.Author.Needs.{needs}

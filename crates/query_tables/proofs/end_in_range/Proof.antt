@@ -5,8 +5,6 @@ use Rattle.query_tables.proofs.end_in_range.Reads as reads
 use Rattle.query_tables.proofs.end_in_range.Lts as lts
 
 -- src/lib.rt:97:1
-returns-2 : tie.Need-returns-2
-returns-2 c = cc
 
 pub end-in-range-spec : {M : Type 1} → statement M
-end-in-range-spec = tie.close (tie.spec (λ c. search needs) (λ c. search needs) (λ c. search needs) returns-2)
+end-in-range-spec = tie.close (tie.spec (λ c. search needs) (λ c. search needs) (λ c. search needs) (λ c. cc))

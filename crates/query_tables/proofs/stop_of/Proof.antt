@@ -4,8 +4,5 @@ use borrow.Author.Needs.{needs}
 use Rattle.query_tables.proofs.stop_of.Statement.{statement}
 use Rattle.query_tables.proofs.stop_of.Tie as tie
 
-returns-2 : tie.Need-returns-2
-returns-2 c = cc
-
 pub stop-of-spec : {M : Type 1} → statement M
-stop-of-spec = tie.close (tie.spec (λ c. search needs) (λ c. search needs) (λ c κs. tt) (λ c. search needs) returns-2)
+stop-of-spec = tie.close (tie.spec (λ c. search needs) (λ c. search needs) (λ c κs. tt) (λ c. search needs) (λ c. cc))

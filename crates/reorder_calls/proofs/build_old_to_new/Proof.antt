@@ -11,11 +11,8 @@ returns c = let a = c .before .before .before .before .before .before .args in b
 place-numbers-requires : tie.Need-place-numbers-requires
 place-numbers-requires c κs = let a = c .before .before .before .before .before .before .args in build-met (a .order .now) (a .column .now) (sym (c .before .before .build-refusal .ensures) ∙ c .before .if1 .left)
 
-same-length-2 : tie.Need-same-length-2
-same-length-2 c = c .before .column .given
-
 returns-2 : tie.Need-returns-2
 returns-2 c = let a = c .before .before .before .before .before .before .before .before .before .args in built-accepted (a .order .now) (a .column .now) (sym (c .before .before .before .before .before .build-refusal .ensures) ∙ c .before .before .before .before .if1 .left) (c .before .before .place-numbers .ensures)
 
 pub build-old-to-new-spec : {M : Type 1} → statement M
-build-old-to-new-spec = tie.close (tie.spec (λ c κs. tt) (λ c κs. tt) (λ c. search needs) returns place-numbers-requires same-length-2 returns-2)
+build-old-to-new-spec = tie.close (tie.spec (λ c κs. tt) (λ c κs. tt) (λ c. search needs) returns place-numbers-requires (λ c. c .before .column .given) returns-2)

@@ -15,13 +15,13 @@ use Rattle.reorder_columns.proofs.move_u8.Reads as move-u8-reads
 returns : tie.Need-returns
 returns c =
     let a = c .before .before .before .before .before .before .before .before .before .before .before .before .before .before .before .before .before .before .before .before .before .before .before .before .args in
-    let b : ReorderColumns = reorderColumns (a .ends-a .now) (a .ends-b .now) (a .boundary .now) (a .defect .now) (a .is .now) (a .js .now) (a .ts .now) (a .lengths .now) (a .numbers .now) (a .scratch .now) in
+    let b : ReorderColumns = reorderColumns (a .ends-a .now) (a .ends-b .now) (a .boundary .now) (a .defect .now) (a .pos-i .now) (a .pos-j .now) (a .pos-t .now) (a .list-lengths .now) (a .neighbor-numbers .now) (a .scratch .now) in
     reordered-refused (a .vertex-num) (a .edge-num) (a .order .now) b (c .before .before .reorder-refusal .ensures) (c .before .if1 .taken) (c .done-of .ensures)
 
 rename-ends-requires : tie.Need-rename-ends-requires
 rename-ends-requires c κs =
     let a = c .before .before .before .before .before .before .before .before .before .before .before .before .before .before .before .before .before .before .before .before .before .before .before .before .before .args in
-    let b : ReorderColumns = reorderColumns (a .ends-a .now) (a .ends-b .now) (a .boundary .now) (a .defect .now) (a .is .now) (a .js .now) (a .ts .now) (a .lengths .now) (a .numbers .now) (a .scratch .now) in
+    let b : ReorderColumns = reorderColumns (a .ends-a .now) (a .ends-b .now) (a .boundary .now) (a .defect .now) (a .pos-i .now) (a .pos-j .now) (a .pos-t .now) (a .list-lengths .now) (a .neighbor-numbers .now) (a .scratch .now) in
     let z : reorderRefusal (a .vertex-num) (a .edge-num) (a .order .now) b ≡ 0 = sym (c .before .before .before .reorder-refusal .ensures) ∙ c .before .before .if1 .left in
     let k : ReorderMet (a .vertex-num) (a .edge-num) (a .order .now) b = reorder-met (a .vertex-num) (a .edge-num) (a .order .now) b z in
     ((k .order-is, k .sound .graph .long-a, k .sound .graph .long-b), ((λ i h. omega (arith, k .many, k .sound .graph .in-a i h)), (λ i h. omega (arith, k .many, k .sound .graph .in-b i h))))
@@ -29,7 +29,7 @@ rename-ends-requires c κs =
 move-u8-requires : tie.Need-move-u8-requires
 move-u8-requires c κs =
     let a = c .before .before .before .before .before .before .before .before .before .before .before .before .before .before .before .before .before .before .before .before .before .before .before .before .before .before .before .before .before .before .before .args in
-    let b : ReorderColumns = reorderColumns (a .ends-a .now) (a .ends-b .now) (a .boundary .now) (a .defect .now) (a .is .now) (a .js .now) (a .ts .now) (a .lengths .now) (a .numbers .now) (a .scratch .now) in
+    let b : ReorderColumns = reorderColumns (a .ends-a .now) (a .ends-b .now) (a .boundary .now) (a .defect .now) (a .pos-i .now) (a .pos-j .now) (a .pos-t .now) (a .list-lengths .now) (a .neighbor-numbers .now) (a .scratch .now) in
     let z : reorderRefusal (a .vertex-num) (a .edge-num) (a .order .now) b ≡ 0 = sym (c .before .before .before .before .before .before .before .before .before .reorder-refusal .ensures) ∙ c .before .before .before .before .before .before .before .before .if1 .left in
     let k : ReorderMet (a .vertex-num) (a .edge-num) (a .order .now) b = reorder-met (a .vertex-num) (a .edge-num) (a .order .now) b z in
     (k .order-is, omega (arith, k .many, k .long-boundary))
@@ -37,7 +37,7 @@ move-u8-requires c κs =
 move-u8-requires-2 : tie.Need-move-u8-requires-2
 move-u8-requires-2 c κs =
     let a = c .before .before .before .before .before .before .before .before .before .before .before .before .before .before .before .before .before .before .before .before .before .before .before .before .before .before .before .before .before .before .before .before .before .before .before .args in
-    let b : ReorderColumns = reorderColumns (a .ends-a .now) (a .ends-b .now) (a .boundary .now) (a .defect .now) (a .is .now) (a .js .now) (a .ts .now) (a .lengths .now) (a .numbers .now) (a .scratch .now) in
+    let b : ReorderColumns = reorderColumns (a .ends-a .now) (a .ends-b .now) (a .boundary .now) (a .defect .now) (a .pos-i .now) (a .pos-j .now) (a .pos-t .now) (a .list-lengths .now) (a .neighbor-numbers .now) (a .scratch .now) in
     let z : reorderRefusal (a .vertex-num) (a .edge-num) (a .order .now) b ≡ 0 = sym (c .before .before .before .before .before .before .before .before .before .before .before .before .before .reorder-refusal .ensures) ∙ c .before .before .before .before .before .before .before .before .before .before .before .before .if1 .left in
     let k : ReorderMet (a .vertex-num) (a .edge-num) (a .order .now) b = reorder-met (a .vertex-num) (a .edge-num) (a .order .now) b z in
     (k .order-is, omega (arith, k .many, k .long-defect))
@@ -45,7 +45,7 @@ move-u8-requires-2 c κs =
 move-positions-requires : tie.Need-move-positions-requires
 move-positions-requires c κs =
     let a = c .before .before .before .before .before .before .before .before .before .before .before .before .before .before .before .before .before .before .before .before .before .before .before .before .before .before .before .before .before .before .before .before .before .before .before .before .before .before .before .before .before .args in
-    let b : ReorderColumns = reorderColumns (a .ends-a .now) (a .ends-b .now) (a .boundary .now) (a .defect .now) (a .is .now) (a .js .now) (a .ts .now) (a .lengths .now) (a .numbers .now) (a .scratch .now) in
+    let b : ReorderColumns = reorderColumns (a .ends-a .now) (a .ends-b .now) (a .boundary .now) (a .defect .now) (a .pos-i .now) (a .pos-j .now) (a .pos-t .now) (a .list-lengths .now) (a .neighbor-numbers .now) (a .scratch .now) in
     let z : reorderRefusal (a .vertex-num) (a .edge-num) (a .order .now) b ≡ 0 = sym (c .before .before .before .before .before .before .before .before .before .before .before .before .before .before .before .before .before .before .before .reorder-refusal .ensures) ∙ c .before .before .before .before .before .before .before .before .before .before .before .before .before .before .before .before .before .before .if1 .left in
     let k : ReorderMet (a .vertex-num) (a .edge-num) (a .order .now) b = reorder-met (a .vertex-num) (a .edge-num) (a .order .now) b z in
     (k .order-is, omega (arith, k .many, k .long-i), omega (arith, k .many, k .long-j), omega (arith, k .many, k .long-t))
@@ -53,54 +53,24 @@ move-positions-requires c κs =
 move-lists-requires : tie.Need-move-lists-requires
 move-lists-requires c κs =
     let a = c .before .before .before .before .before .before .before .before .before .before .before .before .before .before .before .before .before .before .before .before .before .before .before .before .before .before .before .before .before .before .before .before .before .before .before .before .before .before .before .before .before .before .before .before .before .before .before .before .before .before .before .args in
-    let b : ReorderColumns = reorderColumns (a .ends-a .now) (a .ends-b .now) (a .boundary .now) (a .defect .now) (a .is .now) (a .js .now) (a .ts .now) (a .lengths .now) (a .numbers .now) (a .scratch .now) in
+    let b : ReorderColumns = reorderColumns (a .ends-a .now) (a .ends-b .now) (a .boundary .now) (a .defect .now) (a .pos-i .now) (a .pos-j .now) (a .pos-t .now) (a .list-lengths .now) (a .neighbor-numbers .now) (a .scratch .now) in
     let z : reorderRefusal (a .vertex-num) (a .edge-num) (a .order .now) b ≡ 0 = sym (c .before .before .before .before .before .before .before .before .before .before .before .before .before .before .before .before .before .before .before .before .before .before .before .before .before .before .before .before .before .reorder-refusal .ensures) ∙ c .before .before .before .before .before .before .before .before .before .before .before .before .before .before .before .before .before .before .before .before .before .before .before .before .before .before .before .before .if1 .left in
     let k : ReorderMet (a .vertex-num) (a .edge-num) (a .order .now) b = reorder-met (a .vertex-num) (a .edge-num) (a .order .now) b z in
-    let e : sumTo (length (a .order .now)) (a .lengths .now) ≡ sumTo (a .vertex-num) (a .lengths .now) = ap (λ (n : ℕ). sumTo n (a .lengths .now)) (k .many) in
+    let e : sumTo (length (a .order .now)) (a .list-lengths .now) ≡ sumTo (a .vertex-num) (a .list-lengths .now) = ap (λ (n : ℕ). sumTo n (a .list-lengths .now)) (k .many) in
     ((k .order-is, omega (arith, k .many, k .long-lengths)), (omega (arith, e, k .long-numbers), omega (arith, e, k .long-scratch)))
 
 move-u32-requires : tie.Need-move-u32-requires
 move-u32-requires c κs =
     let a = c .before .before .before .before .before .before .before .before .before .before .before .before .before .before .before .before .before .before .before .before .before .before .before .before .before .before .before .before .before .before .before .before .before .before .before .before .before .before .before .before .before .before .before .before .before .before .before .before .before .before .before .before .before .before .before .before .before .args in
-    let b : ReorderColumns = reorderColumns (a .ends-a .now) (a .ends-b .now) (a .boundary .now) (a .defect .now) (a .is .now) (a .js .now) (a .ts .now) (a .lengths .now) (a .numbers .now) (a .scratch .now) in
+    let b : ReorderColumns = reorderColumns (a .ends-a .now) (a .ends-b .now) (a .boundary .now) (a .defect .now) (a .pos-i .now) (a .pos-j .now) (a .pos-t .now) (a .list-lengths .now) (a .neighbor-numbers .now) (a .scratch .now) in
     let z : reorderRefusal (a .vertex-num) (a .edge-num) (a .order .now) b ≡ 0 = sym (c .before .before .before .before .before .before .before .before .before .before .before .before .before .before .before .before .before .before .before .before .before .before .before .before .before .before .before .before .before .before .before .before .before .before .before .reorder-refusal .ensures) ∙ c .before .before .before .before .before .before .before .before .before .before .before .before .before .before .before .before .before .before .before .before .before .before .before .before .before .before .before .before .before .before .before .before .before .before .if1 .left in
     let k : ReorderMet (a .vertex-num) (a .edge-num) (a .order .now) b = reorder-met (a .vertex-num) (a .edge-num) (a .order .now) b z in
     (k .order-is, omega (arith, k .many, k .long-lengths))
 
-same-length-11 : tie.Need-same-length-11
-same-length-11 c = c .before .before .before .before .before .before .before .before .before .before .before .before .before .before .before .before .before .before .before .before .before .before .before .before .before .before .before .before .before .before .before .before .before .ends-a .given
-
-same-length-12 : tie.Need-same-length-12
-same-length-12 c = c .before .before .before .before .before .before .before .before .before .before .before .before .before .before .before .before .before .before .before .before .before .before .before .before .before .before .before .before .before .before .before .ends-b .given
-
-same-length-13 : tie.Need-same-length-13
-same-length-13 c = c .before .before .before .before .before .before .before .before .before .before .before .before .before .before .before .before .before .before .before .before .before .before .before .before .before .before .before .boundary .given
-
-same-length-14 : tie.Need-same-length-14
-same-length-14 c = c .before .before .before .before .before .before .before .before .before .before .before .before .before .before .before .before .before .before .before .before .before .before .before .defect .given
-
-same-length-15 : tie.Need-same-length-15
-same-length-15 c = c .before .before .before .before .before .before .before .before .before .before .before .before .before .before .before .before .before .is .given
-
-same-length-16 : tie.Need-same-length-16
-same-length-16 c = c .before .before .before .before .before .before .before .before .before .before .before .before .before .before .before .js .given
-
-same-length-17 : tie.Need-same-length-17
-same-length-17 c = c .before .before .before .before .before .before .before .before .before .before .before .before .before .ts .given
-
-same-length-18 : tie.Need-same-length-18
-same-length-18 c = c .before .lengths .given
-
-same-length-19 : tie.Need-same-length-19
-same-length-19 c = c .before .before .before .before .before .before .before .numbers .given
-
-same-length-20 : tie.Need-same-length-20
-same-length-20 c = c .before .before .before .before .before .scratch .given
-
 returns-2 : tie.Need-returns-2
 returns-2 c =
     let a = c .before .before .before .before .before .before .before .before .before .before .before .before .before .before .before .before .before .before .before .before .before .before .before .before .before .before .before .before .before .before .before .before .before .before .before .before .before .before .before .before .before .before .before .before .before .before .before .before .before .before .before .before .before .before .before .before .before .before .before .before .args in
-    let b : ReorderColumns = reorderColumns (a .ends-a .now) (a .ends-b .now) (a .boundary .now) (a .defect .now) (a .is .now) (a .js .now) (a .ts .now) (a .lengths .now) (a .numbers .now) (a .scratch .now) in
+    let b : ReorderColumns = reorderColumns (a .ends-a .now) (a .ends-b .now) (a .boundary .now) (a .defect .now) (a .pos-i .now) (a .pos-j .now) (a .pos-t .now) (a .list-lengths .now) (a .neighbor-numbers .now) (a .scratch .now) in
     let z : reorderRefusal (a .vertex-num) (a .edge-num) (a .order .now) b ≡ 0 = sym (c .before .before .before .before .before .before .before .before .before .before .before .before .before .before .before .before .before .before .before .before .before .before .before .before .before .before .before .before .before .before .before .before .before .before .before .before .before .before .reorder-refusal .ensures) ∙ c .before .before .before .before .before .before .before .before .before .before .before .before .before .before .before .before .before .before .before .before .before .before .before .before .before .before .before .before .before .before .before .before .before .before .before .before .before .if1 .left in
     let k : ReorderMet (a .vertex-num) (a .edge-num) (a .order .now) b = reorder-met (a .vertex-num) (a .edge-num) (a .order .now) b z in
     let ends = c .before .before .before .before .before .before .before .before .before .before .before .before .before .before .before .before .before .before .before .before .before .before .before .before .before .before .before .before .before .before .before .before .before .before .rename-ends .ensures in
@@ -109,4 +79,4 @@ returns-2 c =
     reordered-accepted (a .vertex-num) (a .edge-num) (a .order .now) b _ z (k .many) (ends .0) (ends .1) (c .before .before .before .before .before .before .before .before .before .before .before .before .before .before .before .before .before .before .before .before .before .before .before .before .before .before .before .before .move-u8 .ensures) (c .before .before .before .before .before .before .before .before .before .before .before .before .before .before .before .before .before .before .before .before .before .before .before .before .move-u82 .ensures) (at .0) (at .1 .0) (at .1 .1) (c .before .before .move-u32 .ensures) (lists .0) (lists .1)
 
 pub reorder-vertices-spec : {M : Type 1} → statement M
-reorder-vertices-spec = tie.close (tie.spec (λ c κs. tt) (λ c κs. tt) (λ c. search needs) (λ c. search needs) (λ c. search needs) (λ c. search needs) (λ c. search needs) (λ c. search needs) (λ c. search needs) (λ c. search needs) (λ c. search needs) (λ c. search needs) returns rename-ends-requires move-u8-requires move-u8-requires-2 move-positions-requires move-lists-requires move-u32-requires same-length-11 same-length-12 same-length-13 same-length-14 same-length-15 same-length-16 same-length-17 same-length-18 same-length-19 same-length-20 returns-2)
+reorder-vertices-spec = tie.close (tie.spec (λ c κs. tt) (λ c κs. tt) (λ c. search needs) (λ c. search needs) (λ c. search needs) (λ c. search needs) (λ c. search needs) (λ c. search needs) (λ c. search needs) (λ c. search needs) (λ c. search needs) (λ c. search needs) returns rename-ends-requires move-u8-requires move-u8-requires-2 move-positions-requires move-lists-requires move-u32-requires (λ c. c .before .before .before .before .before .before .before .before .before .before .before .before .before .before .before .before .before .before .before .before .before .before .before .before .before .before .before .before .before .before .before .before .before .ends-a .given) (λ c. c .before .before .before .before .before .before .before .before .before .before .before .before .before .before .before .before .before .before .before .before .before .before .before .before .before .before .before .before .before .before .before .ends-b .given) (λ c. c .before .before .before .before .before .before .before .before .before .before .before .before .before .before .before .before .before .before .before .before .before .before .before .before .before .before .before .boundary .given) (λ c. c .before .before .before .before .before .before .before .before .before .before .before .before .before .before .before .before .before .before .before .before .before .before .before .defect .given) (λ c. c .before .before .before .before .before .before .before .before .before .before .before .before .before .before .before .before .before .pos-i .given) (λ c. c .before .before .before .before .before .before .before .before .before .before .before .before .before .before .before .pos-j .given) (λ c. c .before .before .before .before .before .before .before .before .before .before .before .before .before .pos-t .given) (λ c. c .before .list-lengths .given) (λ c. c .before .before .before .before .before .before .before .neighbor-numbers .given) (λ c. c .before .before .before .before .before .scratch .given) returns-2)

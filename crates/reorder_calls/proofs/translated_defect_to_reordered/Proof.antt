@@ -11,9 +11,6 @@ translate-requires c κs =
     let k : TranslateMet (a .order .now) (a .list .now) (a .column .now) = translate-met (a .order .now) (a .list .now) (a .column .now) (sym (c .before .before .translate-refusal .ensures) ∙ c .before .if1 .taken) in
     ((k .order-is, k .room), k .listed)
 
-same-length : tie.Need-same-length
-same-length c = c .before .column .given
-
 returns : tie.Need-returns
 returns c = let a = c .before .before .before .before .before .before .before .before .before .before .args in translated-accepted (a .order .now) (a .list .now) (a .column .now) (sym (c .before .before .before .before .before .translate-refusal .ensures) ∙ c .before .before .before .before .if1 .taken) (c .before .before .translate .ensures)
 
@@ -21,4 +18,4 @@ returns-2 : tie.Need-returns-2
 returns-2 c = let a = c .before .before .before .before .before .before .args in translated-refused (a .order .now) (a .list .now) (a .column .now) (c .before .translate-refusal .ensures) (c .if1 .left)
 
 pub translated-defect-to-reordered-spec : {M : Type 1} → statement M
-translated-defect-to-reordered-spec = tie.close (tie.spec (λ c κs. tt) translate-requires same-length returns (λ c. search needs) returns-2)
+translated-defect-to-reordered-spec = tie.close (tie.spec (λ c κs. tt) translate-requires (λ c. c .before .column .given) returns (λ c. search needs) returns-2)

@@ -36,9 +36,9 @@ loop-again c =
     let e = c .before .before .before .before .before .before .store .ensures in
     let b : l .k < length (a .list .now) = omega (arith, c .before .before .before .before .before .before .before .before .before .before .before .before .before .loop-test .taken) in (
       omega (arith, b),
-      e .0 ∙ gather-more (λ u. getD (a .from-i .now) u zeroFloat) (a .list .now) (a .is .now) (l .k) b (l .inv .1) (ap (λ (p : VisualizePosition). p .i) v ∙ ap (λ (u : ℕ). getD (a .from-i .now) u zeroFloat) w),
-      e .1 ∙ gather-more (λ u. getD (a .from-j .now) u zeroFloat) (a .list .now) (a .js .now) (l .k) b (l .inv .2) (ap (λ (p : VisualizePosition). p .j) v ∙ ap (λ (u : ℕ). getD (a .from-j .now) u zeroFloat) w),
-      e .2 ∙ gather-more (λ u. getD (a .from-t .now) u zeroFloat) (a .list .now) (a .ts .now) (l .k) b (l .inv .3) (ap (λ (p : VisualizePosition). p .t) v ∙ ap (λ (u : ℕ). getD (a .from-t .now) u zeroFloat) w),
+      e .0 ∙ gather-more (λ u. getD (a .from-i .now) u zeroFloat) (a .list .now) (a .pos-i .now) (l .k) b (l .inv .1) (ap (λ (p : VisualizePosition). p .i) v ∙ ap (λ (u : ℕ). getD (a .from-i .now) u zeroFloat) w),
+      e .1 ∙ gather-more (λ u. getD (a .from-j .now) u zeroFloat) (a .list .now) (a .pos-j .now) (l .k) b (l .inv .2) (ap (λ (p : VisualizePosition). p .j) v ∙ ap (λ (u : ℕ). getD (a .from-j .now) u zeroFloat) w),
+      e .2 ∙ gather-more (λ u. getD (a .from-t .now) u zeroFloat) (a .list .now) (a .pos-t .now) (l .k) b (l .inv .3) (ap (λ (p : VisualizePosition). p .t) v ∙ ap (λ (u : ℕ). getD (a .from-t .now) u zeroFloat) w),
     )
 
 same-length : tie.Need-same-length Inv-loop μ-loop
@@ -56,10 +56,10 @@ returns c =
     let a = s .args in
     let l = c .before .loop in
     let e : l .k ≡ length (a .list .now) = omega arith in (
-      gather-end (λ u. getD (a .from-i .now) u zeroFloat) (a .list .now) (a .is .now) (l .k) e (s .pre .0) (l .inv .1),
+      gather-end (λ u. getD (a .from-i .now) u zeroFloat) (a .list .now) (a .pos-i .now) (l .k) e (s .pre .0) (l .inv .1),
       (
-        gather-end (λ u. getD (a .from-j .now) u zeroFloat) (a .list .now) (a .js .now) (l .k) e (s .pre .1) (l .inv .2),
-        gather-end (λ u. getD (a .from-t .now) u zeroFloat) (a .list .now) (a .ts .now) (l .k) e (s .pre .2) (l .inv .3),
+        gather-end (λ u. getD (a .from-j .now) u zeroFloat) (a .list .now) (a .pos-j .now) (l .k) e (s .pre .1) (l .inv .2),
+        gather-end (λ u. getD (a .from-t .now) u zeroFloat) (a .list .now) (a .pos-t .now) (l .k) e (s .pre .2) (l .inv .3),
       ),
     )
 

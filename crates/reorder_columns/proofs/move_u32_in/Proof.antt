@@ -21,12 +21,6 @@ gather-u32-requires c κs =
     let l = length-copied (length (a .order .now)) (a .copy .now) (a .column .now) (c .before .before .before .before .copy-u32 .ensures) (s .pre .2) (s .pre .1) in
     ((λ i h. omega (arith, l, s .pre .2, order-below (a .order .now) (s .pre .0) i h)), s .pre .1)
 
-same-length : tie.Need-same-length
-same-length c = c .before .column .given
-
-same-length-2 : tie.Need-same-length-2
-same-length-2 c = c .before .before .before .before .before .before .copy .given
-
 returns : tie.Need-returns
 returns c =
     let s = c .before .before .before .before .before .before .before .before .before .before .before .before .before in
@@ -34,4 +28,4 @@ returns c =
     c .before .before .gather-u32 .ensures ∙ ap (λ (l : List ℕ). over l (a .column .now)) (moved-copy (a .order .now) (s .pre .0) 0 (a .copy .now) (a .column .now) (c .before .before .before .before .before .before .before .copy-u32 .ensures) (s .pre .2) (s .pre .1))
 
 pub move-u32-in-spec : {M : Type 1} → statement M
-move-u32-in-spec = tie.close (tie.spec (λ c κs. tt) gather-u32-requires same-length same-length-2 returns)
+move-u32-in-spec = tie.close (tie.spec (λ c κs. tt) gather-u32-requires (λ c. c .before .column .given) (λ c. c .before .before .before .before .before .before .copy .given) returns)

@@ -31,9 +31,6 @@ slice-read-if1 c =
     let l = c .before .before .before .before .loop in
     omega (arith, l .inv .1, c .before .wide .ensures .0, s .pre .0 (l .i) (omega arith))
 
-same-length : tie.Need-same-length Inv-loop μ-loop
-same-length c = c .before .before .before .before .before .loop .inv .1
-
 returns : tie.Need-returns Inv-loop μ-loop
 returns c =
     let s = c .before .before .before .before .before .before .before .before in
@@ -58,9 +55,6 @@ loop-again c =
       every-more (λ k. unseen o k (getD o k 0)) (l .i) (l .inv .3) (seen-once o (l .i) (l .seen) (l .inv .2) (c .before .before .wide .ensures .0) b (c .if1 .left)),
     )
 
-same-length-2 : tie.Need-same-length-2 Inv-loop μ-loop
-same-length-2 c = c .before .loop .inv .1
-
 returns-2 : tie.Need-returns-2 Inv-loop μ-loop
 unfolding noneTwice
 returns-2 c =
@@ -70,4 +64,4 @@ returns-2 c =
     sym (ap (λ (n : ℕ). every n (λ k. unseen (s .args .order .now) k (getD (s .args .order .now) k 0))) (sym e) ∙ l .inv .3)
 
 pub fresh-in-spec : {M : Type 1} → statement M
-fresh-in-spec = tie.close (tie.spec Inv-loop μ-loop loop-holds (λ c. search needs) (λ c. search needs) (λ c κs. tt) slice-read-if1 same-length returns slice-write-seen (λ c. search needs) (λ c. search needs) loop-again same-length-2 returns-2)
+fresh-in-spec = tie.close (tie.spec Inv-loop μ-loop loop-holds (λ c. search needs) (λ c. search needs) (λ c κs. tt) slice-read-if1 (λ c. c .before .before .before .before .before .loop .inv .1) returns slice-write-seen (λ c. search needs) (λ c. search needs) loop-again (λ c. c .before .loop .inv .1) returns-2)

@@ -40,9 +40,6 @@ loop-again c =
     let l = c .before .before .before .before .loop in
     (omega arith, gather-more (λ u. getD (s .args .from .now) u 0) (s .args .list .now) (s .args .to .now) (l .i) (omega arith) (l .inv .1) (ap (λ (k : ℕ). getD (s .args .from .now) k 0) (c .before .wide .ensures .0)), simp lib.ListN.length-set (l .inv .2))
 
-same-length : tie.Need-same-length Inv-loop μ-loop
-same-length c = c .before .loop .inv .2
-
 returns : tie.Need-returns Inv-loop μ-loop
 returns c =
     let s = c .before .before .before .before .before in
@@ -50,4 +47,4 @@ returns c =
     gather-end (λ u. getD (s .args .from .now) u 0) (s .args .list .now) (s .args .to .now) (l .i) (omega arith) (s .pre .1) (l .inv .1)
 
 pub gather-u32-spec : {M : Type 1} → statement M
-gather-u32-spec = tie.close (tie.spec Inv-loop μ-loop loop-holds (λ c. search needs) (λ c. search needs) (λ c κs. tt) (λ c. search needs) shared-slice-read-to (λ c. search needs) slice-write-to (λ c. search needs) (λ c. search needs) loop-again same-length returns)
+gather-u32-spec = tie.close (tie.spec Inv-loop μ-loop loop-holds (λ c. search needs) (λ c. search needs) (λ c κs. tt) (λ c. search needs) shared-slice-read-to (λ c. search needs) slice-write-to (λ c. search needs) (λ c. search needs) loop-again (λ c. c .before .loop .inv .2) returns)

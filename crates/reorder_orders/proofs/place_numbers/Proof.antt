@@ -39,9 +39,6 @@ loop-again c =
     let l = c .before .before .before .loop in
     (omega arith, (λ o. placed-more (s .args .order .now) o (l .i) (s .args .new-numbers .now) (l .new-numbers) (omega arith) (s .pre .1) (l .inv .1 o) (c .wide .ensures .0)), simp lib.ListN.length-set (l .inv .2))
 
-same-length : tie.Need-same-length Inv-loop μ-loop
-same-length c = c .before .loop .inv .2
-
 returns : tie.Need-returns Inv-loop μ-loop
 returns c =
     let s = c .before .before .before .before in
@@ -49,4 +46,4 @@ returns c =
     placed-end (s .args .order .now) (s .pre .0) (l .i) (s .args .new-numbers .now) (l .new-numbers) (omega arith) (s .pre .1) (l .inv .1 (s .pre .0))
 
 pub place-numbers-spec : {M : Type 1} → statement M
-place-numbers-spec = tie.close (tie.spec Inv-loop μ-loop loop-holds (λ c. search needs) (λ c. search needs) (λ c κs. tt) cast-new-numbers (λ c. search needs) slice-write-new-numbers (λ c. search needs) (λ c. search needs) loop-again same-length returns)
+place-numbers-spec = tie.close (tie.spec Inv-loop μ-loop loop-holds (λ c. search needs) (λ c. search needs) (λ c κs. tt) cast-new-numbers (λ c. search needs) slice-write-new-numbers (λ c. search needs) (λ c. search needs) loop-again (λ c. c .before .loop .inv .2) returns)

@@ -44,9 +44,6 @@ loop-again c =
     let f = (s .args .new-numbers .now) in
     (omega arith, rename-more (λ u. getD (s .args .new-numbers .now) u 0) (s .args .ends .now) (s .args .n) (l .i) (omega arith) (s .pre .1) (l .inv .1) (ap (λ (k : ℕ). getD (s .args .new-numbers .now) k 0) (c .before .wide .ensures .0)), simp lib.ListN.length-set (l .inv .2))
 
-same-length : tie.Need-same-length Inv-loop μ-loop
-same-length c = c .before .loop .inv .2
-
 returns : tie.Need-returns Inv-loop μ-loop
 returns c =
     let s = c .before .before .before .before in
@@ -54,4 +51,4 @@ returns c =
     rename-end (λ u. getD (s .args .new-numbers .now) u 0) (s .args .ends .now) (s .args .n) (l .i) (omega arith) (s .pre .1) (l .inv .1)
 
 pub rename-by-spec : {M : Type 1} → statement M
-rename-by-spec = tie.close (tie.spec Inv-loop μ-loop loop-holds mul-wide slice-read-wide (λ c κs. tt) (λ c. search needs) shared-slice-read-ends (λ c. search needs) slice-write-ends (λ c. search needs) (λ c. search needs) loop-again same-length returns)
+rename-by-spec = tie.close (tie.spec Inv-loop μ-loop loop-holds mul-wide slice-read-wide (λ c κs. tt) (λ c. search needs) shared-slice-read-ends (λ c. search needs) slice-write-ends (λ c. search needs) (λ c. search needs) loop-again (λ c. c .before .loop .inv .2) returns)

@@ -30,15 +30,6 @@ rename-by-requires-2 c κs =
     let l = ap length (c .before .before .before .before .before .before .before .before .before .place-numbers .ensures) ∙ length-over (oldToNew (a .order .now)) (a .new-numbers .now) (omega (arith, s .pre .0 .1, length-oldToNew (a .order .now) (s .pre .0 .0))) in
     ((λ i h. omega (arith, l, s .pre .1 .1 i h, s .pre .0 .1)), s .pre .0 .3)
 
-same-length : tie.Need-same-length
-same-length c = c .before .before .before .before .before .before .ends-a .given
-
-same-length-2 : tie.Need-same-length-2
-same-length-2 c = c .before .ends-b .given
-
-same-length-3 : tie.Need-same-length-3
-same-length-3 c = c .before .before .before .before .before .before .before .before .before .before .before .new-numbers .given
-
 returns : tie.Need-returns
 returns c =
     let s = c .before .before .before .before .before .before .before .before .before .before .before .before .before .before .before .before .before .before in
@@ -49,4 +40,4 @@ returns c =
     )
 
 pub rename-in-spec : {M : Type 1} → statement M
-rename-in-spec = tie.close (tie.spec (λ c κs. search needs) rename-by-requires rename-by-requires-2 same-length same-length-2 same-length-3 returns)
+rename-in-spec = tie.close (tie.spec (λ c κs. search needs) rename-by-requires rename-by-requires-2 (λ c. c .before .before .before .before .before .before .ends-a .given) (λ c. c .before .ends-b .given) (λ c. c .before .before .before .before .before .before .before .before .before .before .before .new-numbers .given) returns)

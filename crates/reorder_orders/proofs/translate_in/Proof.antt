@@ -23,12 +23,6 @@ gather-u32-requires c κs =
     let l = ap length (c .before .before .before .before .place-numbers .ensures) ∙ length-over (oldToNew (a .order .now)) (a .new-numbers .now) (omega (arith, s .pre .0 .1, length-oldToNew (a .order .now) (s .pre .0 .0))) in
     ((λ i h. omega (arith, l, s .pre .1 i h, s .pre .0 .1)), s .pre .0 .2)
 
-same-length : tie.Need-same-length
-same-length c = c .before .column .given
-
-same-length-2 : tie.Need-same-length-2
-same-length-2 c = c .before .before .before .before .before .before .new-numbers .given
-
 returns : tie.Need-returns
 returns c =
     let s = c .before .before .before .before .before .before .before .before .before .before .before .before .before in
@@ -36,4 +30,4 @@ returns c =
     c .before .before .gather-u32 .ensures ∙ ap (λ (l : List ℕ). over l (a .column .now)) (renamed-by (a .order .now) (s .pre .0 .0) (a .new-numbers .now) (a .list .now) (c .before .before .before .before .before .before .before .place-numbers .ensures) (s .pre .1))
 
 pub translate-in-spec : {M : Type 1} → statement M
-translate-in-spec = tie.close (tie.spec (λ c κs. search needs) gather-u32-requires same-length same-length-2 returns)
+translate-in-spec = tie.close (tie.spec (λ c κs. search needs) gather-u32-requires (λ c. c .before .column .given) (λ c. c .before .before .before .before .before .before .new-numbers .given) returns)

@@ -19,12 +19,6 @@ list-set-requires c κs =
     let l = simp length-flipEach at (ap length (c .before .before .before .before .flip-all .ensures)) in
     (omega (arith, l, s .pre .0 .long-defect), s .pre .1 .1 .0)
 
-same-length : tie.Need-same-length
-same-length c = c .before .before .before .before .before .before .bytes .given
-
-same-length-2 : tie.Need-same-length-2
-same-length-2 c = c .before .defect-list .given
-
 returns : tie.Need-returns
 returns c =
     let s = c .before .before .before .before .before .before .before .before .before .before .before .before .before .before .before in
@@ -34,4 +28,4 @@ returns c =
     (c .before .before .list-set .ensures .0 ∙ ap length e, c .before .before .list-set .ensures .1 ∙ ap (λ (l : List ℕ). over l (a .defect-list .now)) e)
 
 pub collect-defects-spec : {M : Type 1} → statement M
-collect-defects-spec = tie.close (tie.spec (λ c κs. search needs) list-set-requires same-length same-length-2 returns)
+collect-defects-spec = tie.close (tie.spec (λ c κs. search needs) list-set-requires (λ c. c .before .before .before .before .before .before .bytes .given) (λ c. c .before .defect-list .given) returns)

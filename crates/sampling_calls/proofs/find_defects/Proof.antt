@@ -19,8 +19,5 @@ collect-defects-requires c κs =
       ((p .1 .1 .1, zeros-at 4096), (p .0 .2, omega arith)),
     )
 
-same-length : tie.Need-same-length
-same-length c = c .before .defect-list .given
-
 pub find-defects-spec : {M : Type 1} → statement M
-find-defects-spec = tie.close (tie.spec (λ c. search needs) collect-defects-requires same-length (λ c. search needs))
+find-defects-spec = tie.close (tie.spec (λ c. search needs) collect-defects-requires (λ c. c .before .defect-list .given) (λ c. search needs))

@@ -39,15 +39,6 @@ list-set-requires-2 c κs =
     let k : ErrorsMet g (a .list .now) s = errors-met g (a .list .now) s (sym (c .before .before .before .before .before .before .before .before .before .before .before .errors-refusal .ensures) ∙ c .before .before .before .before .before .before .before .before .before .before .if1 .taken) in
     (omega (arith, k .lists .long-erasure), omega (arith, k .lists .long-erasures))
 
-same-length : tie.Need-same-length
-same-length c = c .before .before .before .before .before .before .before .before .before .before .defect .given
-
-same-length-2 : tie.Need-same-length-2
-same-length-2 c = c .before .before .before .before .before .defect-list .given
-
-same-length-3 : tie.Need-same-length-3
-same-length-3 c = c .before .erasure-list .given
-
 returns : tie.Need-returns
 returns c =
     let a = c .before .before .before .before .before .before .before .before .before .before .before .before .before .before .before .before .before .before .before .before .before .before .before .before .before .before .args in
@@ -78,4 +69,4 @@ returns-2 c =
     (c .before .errors-refusal .ensures) (c .if1 .left)
 
 pub generate-errors-spec : {M : Type 1} → statement M
-generate-errors-spec = tie.close (tie.spec (λ c κs. tt) flip-all-requires list-set-requires list-set-requires-2 same-length same-length-2 same-length-3 returns (λ c. search needs) (λ c. search needs) (λ c. search needs) returns-2)
+generate-errors-spec = tie.close (tie.spec (λ c κs. tt) flip-all-requires list-set-requires list-set-requires-2 (λ c. c .before .before .before .before .before .before .before .before .before .before .defect .given) (λ c. c .before .before .before .before .before .defect-list .given) (λ c. c .before .erasure-list .given) returns (λ c. search needs) (λ c. search needs) (λ c. search needs) returns-2)

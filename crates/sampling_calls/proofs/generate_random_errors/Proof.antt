@@ -43,15 +43,6 @@ list-set-requires-2 c κs =
     let l = length-erasure _ g (a .p .now) (a .pe .now) (a .defect .now) (a .erasure .now) (k .sound) (k .lists .long-defect) (k .lists .long-erasure) (c .before .before .before .before .before .before .before .before .before .before .before .before .before .before .before .before .before .fill-u8 .ensures) (c .before .before .before .before .before .before .before .before .before .before .before .sample-edges .ensures) in
     (omega (arith, l, k .lists .long-erasure), k .lists .long-erasures)
 
-same-length-2 : tie.Need-same-length-2
-same-length-2 c = c .before .before .before .before .before .before .before .before .before .before .before .erasure .given
-
-same-length-3 : tie.Need-same-length-3
-same-length-3 c = c .before .before .before .before .before .before .defect-list .given
-
-same-length-4 : tie.Need-same-length-4
-same-length-4 c = c .before .erasure-list .given
-
 returns : tie.Need-returns
 returns c =
     let a = c .before .before .before .before .before .before .before .before .before .before .before .before .before .before .before .before .before .before .before .before .before .before .before .before .before .before .before .before .before .before .before .before .before .before .before .before .before .args in
@@ -80,4 +71,4 @@ returns-2 c =
     (c .before .sampling-refusal .ensures) (c .if1 .left)
 
 pub generate-random-errors-spec : {M : Type 1} → statement M
-generate-random-errors-spec = tie.close (tie.spec (λ c κs. tt) (λ c κs. tt) (λ c κs. tt) sample-edges-requires list-set-requires list-set-requires-2 (λ c. search needs) same-length-2 same-length-3 same-length-4 returns (λ c. search needs) (λ c. search needs) (λ c. search needs) (λ c. search needs) returns-2)
+generate-random-errors-spec = tie.close (tie.spec (λ c κs. tt) (λ c κs. tt) (λ c κs. tt) sample-edges-requires list-set-requires list-set-requires-2 (λ c. search needs) (λ c. c .before .before .before .before .before .before .before .before .before .before .before .erasure .given) (λ c. c .before .before .before .before .before .before .defect-list .given) (λ c. c .before .erasure-list .given) returns (λ c. search needs) (λ c. search needs) (λ c. search needs) (λ c. search needs) returns-2)

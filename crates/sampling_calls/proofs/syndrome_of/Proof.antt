@@ -13,9 +13,6 @@ find-defects-requires c κs =
     let k : SyndromeMet g (a .list .now) (a .defect-list .now) = syndrome-met g (a .list .now) (a .defect-list .now) (sym (c .before .before .syndrome-refusal .ensures) ∙ c .before .if1 .taken) in
     ((k .sound .graph .few-vertices, k .long .long-boundary, k .room), ((k .long .long-a, k .long .long-b), ((k .sound .graph .in-a, k .sound .graph .in-b), k .named)))
 
-same-length : tie.Need-same-length
-same-length c = c .before .defect-list .given
-
 returns : tie.Need-returns
 returns c =
     let a = c .before .before .before .before .before .before .before .before .before .before .before .before .args in
@@ -29,4 +26,4 @@ returns-2 c =
     syndrome-refused g (a .list .now) (a .defect-list .now) (c .before .syndrome-refusal .ensures) (c .if1 .left)
 
 pub syndrome-of-spec : {M : Type 1} → statement M
-syndrome-of-spec = tie.close (tie.spec (λ c κs. tt) find-defects-requires same-length returns (λ c. search needs) returns-2)
+syndrome-of-spec = tie.close (tie.spec (λ c κs. tt) find-defects-requires (λ c. c .before .defect-list .given) returns (λ c. search needs) returns-2)

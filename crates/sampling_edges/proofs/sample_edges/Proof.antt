@@ -46,12 +46,6 @@ loop-again c =
     let same = simp length-flipEach at (ap length (c .before .before .before .flip-edge-if .ensures)) in
     (omega (arith, c .before .before .before .before .before .before .before .before .before .loop-test .taken), more, same ∙ l .inv .2, simp length-set (l .inv .3))
 
-same-length : tie.Need-same-length Inv-loop μ-loop
-same-length c = c .before .loop .inv .2
-
-same-length-2 : tie.Need-same-length-2 Inv-loop μ-loop
-same-length-2 c = c .before .loop .inv .3
-
 returns : tie.Need-returns Inv-loop μ-loop
 returns c =
     let a = c .before .before .before .before .before .before .before .before .before .args in
@@ -60,4 +54,4 @@ returns c =
     rw (sym e) (l .inv .1)
 
 pub sample-edges-spec : {M : Type 1} → statement M
-sample-edges-spec = tie.close (tie.spec Inv-loop μ-loop loop-holds (λ c. search needs) (λ c. search needs) (λ c. search needs) (λ c. search needs) (λ c. search needs) (λ c κs. tt) (λ c κs. tt) slice-write-erasure flip-edge-if-requires (λ c. search needs) (λ c. search needs) loop-again same-length same-length-2 returns)
+sample-edges-spec = tie.close (tie.spec Inv-loop μ-loop loop-holds (λ c. search needs) (λ c. search needs) (λ c. search needs) (λ c. search needs) (λ c. search needs) (λ c κs. tt) (λ c κs. tt) slice-write-erasure flip-edge-if-requires (λ c. search needs) (λ c. search needs) loop-again (λ c. c .before .loop .inv .2) (λ c. c .before .loop .inv .3) returns)

@@ -7,9 +7,6 @@ use Rattle.sampling_flips.proofs.flip_edge_if.Reads as reads
 use Rattle.sampling_flips.proofs.flip_edge_if.Lts as lts
 use Rattle.sampling_flips.proofs.flip_edge.Reads as flip-edge-reads
 
-same-length : tie.Need-same-length
-same-length c = c .before .defect .given
-
 returns : tie.Need-returns
 unfolding flipEach
 returns c = simp (c .before .before .before .before .if1 .taken) (c .before .before .flip-edge .ensures)
@@ -19,4 +16,4 @@ unfolding flipEach
 returns-2 c = simp (c .if1 .left)
 
 pub flip-edge-if-spec : {M : Type 1} → statement M
-flip-edge-if-spec = tie.close (tie.spec (λ c κs. search needs) same-length returns returns-2)
+flip-edge-if-spec = tie.close (tie.spec (λ c κs. search needs) (λ c. c .before .defect .given) returns returns-2)

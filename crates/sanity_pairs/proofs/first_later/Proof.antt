@@ -7,18 +7,6 @@ use borrow.Author.Needs.{needs}
 use Rattle.sanity_pairs.proofs.first_later.Statement.{statement}
 use Rattle.sanity_pairs.proofs.first_later.Tie as tie
 
-first-repeat-requires : tie.Need-first-repeat-requires
-first-repeat-requires c κs = c .before .before .before .before .pre
-
-returns : tie.Need-returns
-returns c = c .first-repeat .ensures
-
-first-repeat-requires-2 : tie.Need-first-repeat-requires-2
-first-repeat-requires-2 c κs = c .before .before .before .before .before .before .pre
-
-returns-2 : tie.Need-returns-2
-returns-2 c = c .first-repeat2 .ensures
-
 first-repeat-requires-3 : tie.Need-first-repeat-requires-3
 first-repeat-requires-3 c κs =
     let s = c .before .before .before .before .before .before in
@@ -26,8 +14,5 @@ first-repeat-requires-3 c κs =
     let below-b = below-first 4096 (s .args .n) (s .args .b .now) (sym (c .before .all-below2 .ensures) ∙ not-false _ (c .if2 .left)) (s .pre .2) in
     (s .pre, λ j h. omega (arith, below-a j h, below-b j h))
 
-returns-3 : tie.Need-returns-3
-returns-3 c = c .first-repeat3 .ensures
-
 pub first-later-spec : {M : Type 1} → statement M
-first-later-spec = tie.close (tie.spec (λ c κs. search needs) first-repeat-requires returns (λ c κs. search needs) first-repeat-requires-2 returns-2 first-repeat-requires-3 returns-3)
+first-later-spec = tie.close (tie.spec (λ c κs. search needs) (λ c κs. c .before .before .before .before .pre) (λ c. c .first-repeat .ensures) (λ c κs. search needs) (λ c κs. c .before .before .before .before .before .before .pre) (λ c. c .first-repeat2 .ensures) first-repeat-requires-3 (λ c. c .first-repeat3 .ensures))

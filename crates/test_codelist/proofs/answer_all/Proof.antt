@@ -16,26 +16,14 @@ abbrev μ-loop : tie.MeasureT-loop
 loop-holds : tie.Need-loop-holds Inv-loop μ-loop
 loop-holds c = (omega arith, refl)
 
-find-requires : tie.Need-find-requires Inv-loop μ-loop
-find-requires c κs = omega arith
-
 sub-answer : tie.Need-sub-answer Inv-loop μ-loop
 sub-answer c = omega (arith, c .find .ensures .0)
-
-part-answer-start : tie.Need-part-answer-start Inv-loop μ-loop
-part-answer-start c = omega arith
 
 part-answer-end : tie.Need-part-answer-end Inv-loop μ-loop
 part-answer-end c = omega (arith, c .find .ensures .1, c .find .ensures .0)
 
-loop-less : tie.Need-loop-less Inv-loop μ-loop
-loop-less c = omega arith
-
 loop-again : tie.Need-loop-again Inv-loop μ-loop
 loop-again c = (omega arith, search needs)
 
-same-length : tie.Need-same-length Inv-loop μ-loop
-same-length c = c .before .loop .inv .1
-
 pub answer-all-spec : {M : Type 1} → statement M
-answer-all-spec = tie.close (tie.spec Inv-loop μ-loop loop-holds find-requires sub-answer part-answer-start part-answer-end (λ c κs. search needs) (λ c κs. search needs) loop-less loop-again same-length (λ c. search needs))
+answer-all-spec = tie.close (tie.spec Inv-loop μ-loop loop-holds (λ c κs. omega arith) sub-answer (λ c. omega arith) part-answer-end (λ c κs. search needs) (λ c κs. search needs) (λ c. omega arith) loop-again (λ c. c .before .loop .inv .1) (λ c. search needs))

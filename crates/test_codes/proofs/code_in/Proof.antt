@@ -17,80 +17,41 @@ whole : {A : Type 0} (m n : ℕ) (x : A) (part : List A) → length part ≡ len
 whole m n x part h =
     omega (arith, length-append part (drop n (replicate m x)), length-drop n (replicate m x), length-take n (replicate m x), length-replicate m x)
 
-array-borrow-prefix-ends-a : tie.Need-array-borrow-prefix-ends-a
-array-borrow-prefix-ends-a c = c .pre .0
-
 slice-aggregate-create-code : tie.Need-slice-aggregate-create-code
 slice-aggregate-create-code c = first {A = ℕ} 19685 (c .before .args .edges) 0 (c .before .pre .0)
-
-array-borrow-prefix-ends-b : tie.Need-array-borrow-prefix-ends-b
-array-borrow-prefix-ends-b c = c .before .pre .1
 
 slice-aggregate-create-code-2 : tie.Need-slice-aggregate-create-code-2
 slice-aggregate-create-code-2 c = first {A = ℕ} 19685 (c .before .before .args .second-ends) 0 (c .before .before .pre .1)
 
-array-borrow-prefix-p : tie.Need-array-borrow-prefix-p
-array-borrow-prefix-p c = c .before .before .pre .0
-
 slice-aggregate-create-code-3 : tie.Need-slice-aggregate-create-code-3
 slice-aggregate-create-code-3 c = first {A = Float} 19685 (c .before .before .before .args .edges) (ofBits binary64 0x3fe0000000000000) (c .before .before .before .pre .0)
-
-array-borrow-prefix-pe : tie.Need-array-borrow-prefix-pe
-array-borrow-prefix-pe c = c .before .before .before .pre .0
 
 slice-aggregate-create-code-4 : tie.Need-slice-aggregate-create-code-4
 slice-aggregate-create-code-4 c = first {A = Float} 19685 (c .before .before .before .before .args .edges) (ofBits binary64 0x3fe0000000000000) (c .before .before .before .before .pre .0)
 
-array-borrow-prefix-half-weight : tie.Need-array-borrow-prefix-half-weight
-array-borrow-prefix-half-weight c = c .before .before .before .before .pre .0
-
 slice-aggregate-create-code-5 : tie.Need-slice-aggregate-create-code-5
 slice-aggregate-create-code-5 c = first {A = ℕ} 19685 (c .before .before .before .before .before .args .edges) 7 (c .before .before .before .before .before .pre .0)
-
-array-borrow-prefix-erasure : tie.Need-array-borrow-prefix-erasure
-array-borrow-prefix-erasure c = c .before .before .before .before .before .pre .0
 
 slice-aggregate-create-code-6 : tie.Need-slice-aggregate-create-code-6
 slice-aggregate-create-code-6 c = first {A = ℕ} 19685 (c .before .before .before .before .before .before .args .edges) 1 (c .before .before .before .before .before .before .pre .0)
 
-array-borrow-prefix-pos-i : tie.Need-array-borrow-prefix-pos-i
-array-borrow-prefix-pos-i c = c .before .before .before .before .before .before .pre .2
-
 slice-aggregate-create-code-7 : tie.Need-slice-aggregate-create-code-7
 slice-aggregate-create-code-7 c = first {A = Float} 4096 (c .before .before .before .before .before .before .before .args .vertices) (ofBits binary64 0x3fe0000000000000) (c .before .before .before .before .before .before .before .pre .2)
-
-array-borrow-prefix-pos-j : tie.Need-array-borrow-prefix-pos-j
-array-borrow-prefix-pos-j c = c .before .before .before .before .before .before .before .pre .2
 
 slice-aggregate-create-code-8 : tie.Need-slice-aggregate-create-code-8
 slice-aggregate-create-code-8 c = first {A = Float} 4096 (c .before .before .before .before .before .before .before .before .args .vertices) (ofBits binary64 0x3fe0000000000000) (c .before .before .before .before .before .before .before .before .pre .2)
 
-array-borrow-prefix-pos-t : tie.Need-array-borrow-prefix-pos-t
-array-borrow-prefix-pos-t c = c .before .before .before .before .before .before .before .before .pre .2
-
 slice-aggregate-create-code-9 : tie.Need-slice-aggregate-create-code-9
 slice-aggregate-create-code-9 c = first {A = Float} 4096 (c .before .before .before .before .before .before .before .before .before .args .vertices) (ofBits binary64 0x3fe0000000000000) (c .before .before .before .before .before .before .before .before .before .pre .2)
-
-array-borrow-prefix-boundary : tie.Need-array-borrow-prefix-boundary
-array-borrow-prefix-boundary c = c .before .before .before .before .before .before .before .before .before .pre .2
 
 slice-aggregate-create-code-10 : tie.Need-slice-aggregate-create-code-10
 slice-aggregate-create-code-10 c = first {A = ℕ} 4096 (c .before .before .before .before .before .before .before .before .before .before .args .vertices) 9 (c .before .before .before .before .before .before .before .before .before .before .pre .2)
 
-array-borrow-prefix-defect : tie.Need-array-borrow-prefix-defect
-array-borrow-prefix-defect c = c .before .before .before .before .before .before .before .before .before .before .pre .2
-
 slice-aggregate-create-code-11 : tie.Need-slice-aggregate-create-code-11
 slice-aggregate-create-code-11 c = first {A = ℕ} 4096 (c .before .before .before .before .before .before .before .before .before .before .before .args .vertices) 1 (c .before .before .before .before .before .before .before .before .before .before .before .pre .2)
 
-array-borrow-prefix-list-lengths : tie.Need-array-borrow-prefix-list-lengths
-array-borrow-prefix-list-lengths c = c .before .before .before .before .before .before .before .before .before .before .before .pre .2
-
 slice-aggregate-create-code-12 : tie.Need-slice-aggregate-create-code-12
 slice-aggregate-create-code-12 c = first {A = ℕ} 4096 (c .before .before .before .before .before .before .before .before .before .before .before .before .args .vertices) 0 (c .before .before .before .before .before .before .before .before .before .before .before .before .pre .2)
-
-array-borrow-prefix-neighbor-numbers : tie.Need-array-borrow-prefix-neighbor-numbers
-array-borrow-prefix-neighbor-numbers c = c .before .before .before .before .before .before .before .before .before .before .before .before .pre .3
 
 slice-aggregate-create-code-13 : tie.Need-slice-aggregate-create-code-13
 slice-aggregate-create-code-13 c = first {A = ℕ} 39370 (c .before .before .before .before .before .before .before .before .before .before .before .before .before .args .entries) 0 (c .before .before .before .before .before .before .before .before .before .before .before .before .before .pre .3)
@@ -136,4 +97,4 @@ slice-aggregate-show-code-8 c =
     whole {A = Float} 4096 (called .before .before .before .before .before .before .before .before .before .before .before .before .before .before .args .vertices) (ofBits binary64 0x3fe0000000000000) (called .create-code .last .1 .1 .1 .1 .1 .1 .1 .1 .1 .1 .1 .0) (c .before .before .before .before .before .before .before .before .before .before .before .before .pos-t2 .given)
 
 pub code-in-spec : {M : Type 1} → statement M
-code-in-spec = tie.close (tie.spec array-borrow-prefix-ends-a slice-aggregate-create-code array-borrow-prefix-ends-b slice-aggregate-create-code-2 array-borrow-prefix-p slice-aggregate-create-code-3 array-borrow-prefix-pe slice-aggregate-create-code-4 array-borrow-prefix-half-weight slice-aggregate-create-code-5 array-borrow-prefix-erasure slice-aggregate-create-code-6 array-borrow-prefix-pos-i slice-aggregate-create-code-7 array-borrow-prefix-pos-j slice-aggregate-create-code-8 array-borrow-prefix-pos-t slice-aggregate-create-code-9 array-borrow-prefix-boundary slice-aggregate-create-code-10 array-borrow-prefix-defect slice-aggregate-create-code-11 array-borrow-prefix-list-lengths slice-aggregate-create-code-12 array-borrow-prefix-neighbor-numbers slice-aggregate-create-code-13 (λ c κs. tt) slice-aggregate-show-code slice-aggregate-show-code-2 slice-aggregate-show-code-3 slice-aggregate-show-code-4 slice-aggregate-show-code-5 slice-aggregate-show-code-6 slice-aggregate-show-code-7 slice-aggregate-show-code-8 (λ c κs. tt) (λ c. tt))
+code-in-spec = tie.close (tie.spec (λ c. c .pre .0) slice-aggregate-create-code (λ c. c .before .pre .1) slice-aggregate-create-code-2 (λ c. c .before .before .pre .0) slice-aggregate-create-code-3 (λ c. c .before .before .before .pre .0) slice-aggregate-create-code-4 (λ c. c .before .before .before .before .pre .0) slice-aggregate-create-code-5 (λ c. c .before .before .before .before .before .pre .0) slice-aggregate-create-code-6 (λ c. c .before .before .before .before .before .before .pre .2) slice-aggregate-create-code-7 (λ c. c .before .before .before .before .before .before .before .pre .2) slice-aggregate-create-code-8 (λ c. c .before .before .before .before .before .before .before .before .pre .2) slice-aggregate-create-code-9 (λ c. c .before .before .before .before .before .before .before .before .before .pre .2) slice-aggregate-create-code-10 (λ c. c .before .before .before .before .before .before .before .before .before .before .pre .2) slice-aggregate-create-code-11 (λ c. c .before .before .before .before .before .before .before .before .before .before .before .pre .2) slice-aggregate-create-code-12 (λ c. c .before .before .before .before .before .before .before .before .before .before .before .before .pre .3) slice-aggregate-create-code-13 (λ c κs. tt) slice-aggregate-show-code slice-aggregate-show-code-2 slice-aggregate-show-code-3 slice-aggregate-show-code-4 slice-aggregate-show-code-5 slice-aggregate-show-code-6 slice-aggregate-show-code-7 slice-aggregate-show-code-8 (λ c κs. tt) (λ c. tt))

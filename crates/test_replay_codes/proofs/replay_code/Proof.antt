@@ -7,23 +7,11 @@ use borrow.Author.Needs.{needs}
 use Rattle.test_replay_codes.proofs.replay_code.Statement.{statement}
 use Rattle.test_replay_codes.proofs.replay_code.Tie as tie
 
-slice-aggregate-create-code : tie.Need-slice-aggregate-create-code
-slice-aggregate-create-code c = length-replicate {A = ℕ} 192 0
-
-slice-aggregate-create-code-2 : tie.Need-slice-aggregate-create-code-2
-slice-aggregate-create-code-2 c = length-replicate {A = ℕ} 192 0
-
 slice-aggregate-create-code-3 : tie.Need-slice-aggregate-create-code-3
 slice-aggregate-create-code-3 c = length-replicate {A = Float} 192 (ofBits binary64 0x0)
 
 slice-aggregate-create-code-4 : tie.Need-slice-aggregate-create-code-4
 slice-aggregate-create-code-4 c = length-replicate {A = Float} 192 (ofBits binary64 0x0)
-
-slice-aggregate-create-code-5 : tie.Need-slice-aggregate-create-code-5
-slice-aggregate-create-code-5 c = length-replicate {A = ℕ} 192 0
-
-slice-aggregate-create-code-6 : tie.Need-slice-aggregate-create-code-6
-slice-aggregate-create-code-6 c = length-replicate {A = ℕ} 192 0
 
 slice-aggregate-create-code-7 : tie.Need-slice-aggregate-create-code-7
 slice-aggregate-create-code-7 c = length-replicate {A = Float} 64 (ofBits binary64 0x0)
@@ -33,18 +21,6 @@ slice-aggregate-create-code-8 c = length-replicate {A = Float} 64 (ofBits binary
 
 slice-aggregate-create-code-9 : tie.Need-slice-aggregate-create-code-9
 slice-aggregate-create-code-9 c = length-replicate {A = Float} 64 (ofBits binary64 0x0)
-
-slice-aggregate-create-code-10 : tie.Need-slice-aggregate-create-code-10
-slice-aggregate-create-code-10 c = length-replicate {A = ℕ} 64 0
-
-slice-aggregate-create-code-11 : tie.Need-slice-aggregate-create-code-11
-slice-aggregate-create-code-11 c = length-replicate {A = ℕ} 64 0
-
-slice-aggregate-create-code-12 : tie.Need-slice-aggregate-create-code-12
-slice-aggregate-create-code-12 c = length-replicate {A = ℕ} 64 0
-
-slice-aggregate-create-code-13 : tie.Need-slice-aggregate-create-code-13
-slice-aggregate-create-code-13 c = length-replicate {A = ℕ} 384 0
 
 slice-aggregate-show-errors : tie.Need-slice-aggregate-show-errors
 slice-aggregate-show-errors c = sym (c .before .before .before .before .before .before .before .before .before .before .before .before .before .before .before .ends-a2 .given)
@@ -82,9 +58,6 @@ slice-aggregate-reorder-vertices-8 c = sym (c .before .before .before .before .b
 slice-aggregate-reorder-vertices-9 : tie.Need-slice-aggregate-reorder-vertices-9
 slice-aggregate-reorder-vertices-9 c = sym (c .before .before .before .before .before .before .before .before .before .before .before .before .before .before .before .numbers2 .given)
 
-slice-aggregate-reorder-vertices-10 : tie.Need-slice-aggregate-reorder-vertices-10
-slice-aggregate-reorder-vertices-10 c = length-replicate {A = ℕ} 384 0
-
 slice-aggregate-show-code : tie.Need-slice-aggregate-show-code
 slice-aggregate-show-code c = sym (c .before .before .before .before .before .before .before .before .before .before .before .ends-a5 .given)
 
@@ -101,4 +74,4 @@ slice-aggregate-show-code-5 : tie.Need-slice-aggregate-show-code-5
 slice-aggregate-show-code-5 c = sym (c .before .before .before .before .before .before .before .numbers4 .given)
 
 pub replay-code-spec : {M : Type 1} → statement M
-replay-code-spec = tie.close (tie.spec slice-aggregate-create-code slice-aggregate-create-code-2 slice-aggregate-create-code-3 slice-aggregate-create-code-4 slice-aggregate-create-code-5 slice-aggregate-create-code-6 slice-aggregate-create-code-7 slice-aggregate-create-code-8 slice-aggregate-create-code-9 slice-aggregate-create-code-10 slice-aggregate-create-code-11 slice-aggregate-create-code-12 slice-aggregate-create-code-13 (λ c κs. tt) (λ c κs. tt) (λ c κs. tt) slice-aggregate-show-errors slice-aggregate-show-errors-2 slice-aggregate-show-errors-3 (λ c κs. tt) slice-aggregate-reorder-vertices slice-aggregate-reorder-vertices-2 slice-aggregate-reorder-vertices-3 slice-aggregate-reorder-vertices-4 slice-aggregate-reorder-vertices-5 slice-aggregate-reorder-vertices-6 slice-aggregate-reorder-vertices-7 slice-aggregate-reorder-vertices-8 slice-aggregate-reorder-vertices-9 slice-aggregate-reorder-vertices-10 (λ c κs. tt) (λ c κs. tt) slice-aggregate-show-code slice-aggregate-show-code-2 slice-aggregate-show-code-3 slice-aggregate-show-code-4 slice-aggregate-show-code-5 (λ c κs. tt) (λ c. search needs))
+replay-code-spec = tie.close (tie.spec (λ c. length-replicate {A = ℕ} 192 0) (λ c. length-replicate {A = ℕ} 192 0) slice-aggregate-create-code-3 slice-aggregate-create-code-4 (λ c. length-replicate {A = ℕ} 192 0) (λ c. length-replicate {A = ℕ} 192 0) slice-aggregate-create-code-7 slice-aggregate-create-code-8 slice-aggregate-create-code-9 (λ c. length-replicate {A = ℕ} 64 0) (λ c. length-replicate {A = ℕ} 64 0) (λ c. length-replicate {A = ℕ} 64 0) (λ c. length-replicate {A = ℕ} 384 0) (λ c κs. tt) (λ c κs. tt) (λ c κs. tt) slice-aggregate-show-errors slice-aggregate-show-errors-2 slice-aggregate-show-errors-3 (λ c κs. tt) slice-aggregate-reorder-vertices slice-aggregate-reorder-vertices-2 slice-aggregate-reorder-vertices-3 slice-aggregate-reorder-vertices-4 slice-aggregate-reorder-vertices-5 slice-aggregate-reorder-vertices-6 slice-aggregate-reorder-vertices-7 slice-aggregate-reorder-vertices-8 slice-aggregate-reorder-vertices-9 (λ c. length-replicate {A = ℕ} 384 0) (λ c κs. tt) (λ c κs. tt) slice-aggregate-show-code slice-aggregate-show-code-2 slice-aggregate-show-code-3 slice-aggregate-show-code-4 slice-aggregate-show-code-5 (λ c κs. tt) (λ c. search needs))

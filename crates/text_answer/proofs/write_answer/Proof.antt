@@ -7,16 +7,10 @@ use Rattle.text_answer.proofs.write_answer.Tie as tie
 enum-told : tie.Need-enum-told
 enum-told c = search needs
 
-same-length : tie.Need-same-length
-same-length c = c .before .text .given
-
 returns : tie.Need-returns
 returns c =
     let s = c .before .before .before .before .before .before .before .args in
     damaged-line (s .line) (c .before .before .write-refusal .ensures) (let t = c .before .before .before .before .enum-told .given in cc)
-
-same-length-2 : tie.Need-same-length-2
-same-length-2 c = c .before .text2 .given
 
 returns-2 : tie.Need-returns-2
 returns-2 c =
@@ -24,4 +18,4 @@ returns-2 c =
     sound-line (s .line) _ _ (c .before .before .write-code .ensures) (c .before .before .before .before .of-bits .ensures) (let t = c .before .before .before .before .before .before .line .given in let u = c .before .before .before .before .before .known-told .given in cc)
 
 pub write-answer-spec : {M : Type 1} → statement M
-write-answer-spec = tie.close (tie.spec enum-told (λ c κs. tt) (λ c. search needs) (λ c κs. tt) (λ c κs. tt) same-length returns same-length-2 returns-2)
+write-answer-spec = tie.close (tie.spec enum-told (λ c κs. tt) (λ c. search needs) (λ c κs. tt) (λ c κs. tt) (λ c. c .before .text .given) returns (λ c. c .before .text2 .given) returns-2)

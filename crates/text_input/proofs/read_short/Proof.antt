@@ -23,50 +23,14 @@ is-well c = sym (well-is (c .before)) ∙ not-false _ (c .if1 .left)
 decimal-sound-requires : tie.Need-decimal-sound-requires
 decimal-sound-requires c κs = (omega arith, omega arith, c .digits-at .ensures .0)
 
-add-at2 : tie.Need-add-at2
-add-at2 c = omega arith
-
-digits-at-requires-2 : tie.Need-digits-at-requires-2
-digits-at-requires-2 c κs = omega arith
-
 decimal-sound-requires-2 : tie.Need-decimal-sound-requires-2
 decimal-sound-requires-2 c κs = (omega arith, omega arith, c .digits-at2 .ensures .0)
-
-add-at3 : tie.Need-add-at3
-add-at3 c = omega arith
-
-add-at3-2 : tie.Need-add-at3-2
-add-at3-2 c = omega arith
-
-digits-at-requires-3 : tie.Need-digits-at-requires-3
-digits-at-requires-3 c κs = omega arith
 
 decimal-sound-requires-3 : tie.Need-decimal-sound-requires-3
 decimal-sound-requires-3 c κs = (omega arith, omega arith, c .digits-at3 .ensures .0)
 
-add-at4 : tie.Need-add-at4
-add-at4 c = omega arith
-
-add-at4-2 : tie.Need-add-at4-2
-add-at4-2 c = omega arith
-
-hex-sound-requires : tie.Need-hex-sound-requires
-hex-sound-requires c κs = omega arith
-
-add-at5 : tie.Need-add-at5
-add-at5 c = omega arith
-
-digits-at-requires-4 : tie.Need-digits-at-requires-4
-digits-at-requires-4 c κs = omega arith
-
 decimal-sound-requires-4 : tie.Need-decimal-sound-requires-4
 decimal-sound-requires-4 c κs = (omega arith, omega arith, c .digits-at4 .ensures .0)
-
-add-is : tie.Need-add-is
-add-is c = omega arith
-
-add-is-2 : tie.Need-add-is-2
-add-is-2 c = omega arith
 
 returns : tie.Need-returns
 returns c = not-formed (c .before .before .before .before .before .before .before .before .before .before .before .before .before .before .before .before .before .args .text .now) (sym (well-is (c .before)) ∙ not-true _ (c .if1 .taken))
@@ -90,4 +54,4 @@ returns-2 : tie.Need-returns-2
 returns-2 c = formed (c .before .before .before .before .before .before .before .before .before .before .before .before .before .before .before .before .before .before .before .before .before .before .args .text .now) _ (is-well (c .before .before .before .before .before)) (line (c .before .before .before .before .before .before .before .before .before .before .before .before .before .before .before .before .before .before .before .before .before .before .args .text .now) (c .before .before .before .before .before .before .before .before .before .before .before .before .before .before .before .before .before .before .before .before .digits-at .result) (c .before .before .before .before .before .before .before .before .before .before .before .before .before .before .before .before .before .before .digits-at2 .result) (c .before .before .before .before .before .before .before .before .before .before .before .before .before .before .before .before .digits-at3 .result) (c .before .before .before .before .before .before .before .before .before .before .before .before .before .digits-at4 .result) (c .before .before .before .before .before .before .before .before .before .before .before .before .before .before .before .before .before .before .before .before .digits-at .ensures .0) (c .before .before .before .before .before .before .before .before .before .before .before .before .before .before .before .before .before .before .digits-at2 .ensures .0) (c .before .before .before .before .before .before .before .before .before .before .before .before .before .before .before .before .digits-at3 .ensures .0) (c .before .before .before .before .before .before .before .before .before .before .before .before .before .digits-at4 .ensures .0) (c .before .before .before .before .decimal-value .ensures) (c .before .before .before .decimal-value2 .ensures) (c .before .before .decimal-value3 .ensures) (c .before .hex-value .ensures) (c .decimal-value4 .ensures))
 
 pub read-short-spec : {M : Type 1} → statement M
-read-short-spec = tie.close (tie.spec (λ c κs. search needs) decimal-sound-requires add-at2 digits-at-requires-2 decimal-sound-requires-2 add-at3 add-at3-2 digits-at-requires-3 decimal-sound-requires-3 add-at4 add-at4-2 hex-sound-requires add-at5 digits-at-requires-4 decimal-sound-requires-4 add-is add-is-2 (λ c κs. tt) (λ c κs. tt) (λ c κs. tt) (λ c κs. tt) (λ c κs. tt) (λ c κs. tt) returns decimal-value-requires decimal-value-requires-2 decimal-value-requires-3 hex-value-requires decimal-value-requires-4 returns-2)
+read-short-spec = tie.close (tie.spec (λ c κs. search needs) decimal-sound-requires (λ c. omega arith) (λ c κs. omega arith) decimal-sound-requires-2 (λ c. omega arith) (λ c. omega arith) (λ c κs. omega arith) decimal-sound-requires-3 (λ c. omega arith) (λ c. omega arith) (λ c κs. omega arith) (λ c. omega arith) (λ c κs. omega arith) decimal-sound-requires-4 (λ c. omega arith) (λ c. omega arith) (λ c κs. tt) (λ c κs. tt) (λ c κs. tt) (λ c κs. tt) (λ c κs. tt) (λ c κs. tt) returns decimal-value-requires decimal-value-requires-2 decimal-value-requires-3 hex-value-requires decimal-value-requires-4 returns-2)

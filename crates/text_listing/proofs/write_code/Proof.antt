@@ -8,23 +8,11 @@ use Rattle.text_listing.proofs.Texts.{made-holds, made-put}
 use Rattle.text_listing.proofs.write_code.Statement.{statement}
 use Rattle.text_listing.proofs.write_code.Tie as tie
 
-slice-aggregate-new : tie.Need-slice-aggregate-new
-slice-aggregate-new c = length-replicate {A = ℕ} 6144 0
-
-slice-aggregate-new-2 : tie.Need-slice-aggregate-new-2
-slice-aggregate-new-2 c = length-replicate {A = ℕ} 6144 0
-
 slice-aggregate-new-3 : tie.Need-slice-aggregate-new-3
 slice-aggregate-new-3 c = length-replicate {A = Float} 6144 (ofBits binary64 0x0)
 
 slice-aggregate-new-4 : tie.Need-slice-aggregate-new-4
 slice-aggregate-new-4 c = length-replicate {A = Float} 6144 (ofBits binary64 0x0)
-
-slice-aggregate-new-5 : tie.Need-slice-aggregate-new-5
-slice-aggregate-new-5 c = length-replicate {A = ℕ} 6144 0
-
-slice-aggregate-new-6 : tie.Need-slice-aggregate-new-6
-slice-aggregate-new-6 c = length-replicate {A = ℕ} 6144 0
 
 slice-aggregate-new-7 : tie.Need-slice-aggregate-new-7
 slice-aggregate-new-7 c = length-replicate {A = Float} 1024 (ofBits binary64 0x0)
@@ -34,18 +22,6 @@ slice-aggregate-new-8 c = length-replicate {A = Float} 1024 (ofBits binary64 0x0
 
 slice-aggregate-new-9 : tie.Need-slice-aggregate-new-9
 slice-aggregate-new-9 c = length-replicate {A = Float} 1024 (ofBits binary64 0x0)
-
-slice-aggregate-new-10 : tie.Need-slice-aggregate-new-10
-slice-aggregate-new-10 c = length-replicate {A = ℕ} 1024 0
-
-slice-aggregate-new-11 : tie.Need-slice-aggregate-new-11
-slice-aggregate-new-11 c = length-replicate {A = ℕ} 1024 0
-
-slice-aggregate-new-12 : tie.Need-slice-aggregate-new-12
-slice-aggregate-new-12 c = length-replicate {A = ℕ} 1024 0
-
-slice-aggregate-new-13 : tie.Need-slice-aggregate-new-13
-slice-aggregate-new-13 c = length-replicate {A = ℕ} 12288 0
 
 slice-aggregate-write-made : tie.Need-slice-aggregate-write-made
 slice-aggregate-write-made c = sym (c .before .before .before .before .before .before .before .before .before .before .before .before .before .ends-a2 .given ∙ length-replicate {A = ℕ} 6144 0)
@@ -62,11 +38,8 @@ slice-aggregate-write-made-4 c = sym (c .before .before .before .before .before 
 write-made-requires : tie.Need-write-made-requires
 write-made-requires c κs = made-holds _ _ _ _ _ _ _ (room-of _ (length-replicate {A = ℕ} 6144 0) (length-replicate {A = ℕ} 6144 0) (length-replicate {A = Float} 6144 (ofBits binary64 0x0)) (length-replicate {A = Float} 6144 (ofBits binary64 0x0)) (length-replicate {A = ℕ} 6144 0) (length-replicate {A = ℕ} 6144 0) (length-replicate {A = Float} 1024 (ofBits binary64 0x0)) (length-replicate {A = Float} 1024 (ofBits binary64 0x0)) (length-replicate {A = Float} 1024 (ofBits binary64 0x0)) (length-replicate {A = ℕ} 1024 0) (length-replicate {A = ℕ} 1024 0) (length-replicate {A = ℕ} 1024 0) (length-replicate {A = ℕ} 12288 0)) (c .before .before .before .before .before .before .before .before .before .before .before .before .before .before .before .before .before .before .new .result) (c .before .before .before .before .before .before .before .before .before .before .before .before .before .before .before .before .before .before .new .ensures)
 
-same-length : tie.Need-same-length
-same-length c = c .before .text .given
-
 returns : tie.Need-returns
 returns c = made-put _ _ _ _ _ _ _ (room-of _ (length-replicate {A = ℕ} 6144 0) (length-replicate {A = ℕ} 6144 0) (length-replicate {A = Float} 6144 (ofBits binary64 0x0)) (length-replicate {A = Float} 6144 (ofBits binary64 0x0)) (length-replicate {A = ℕ} 6144 0) (length-replicate {A = ℕ} 6144 0) (length-replicate {A = Float} 1024 (ofBits binary64 0x0)) (length-replicate {A = Float} 1024 (ofBits binary64 0x0)) (length-replicate {A = Float} 1024 (ofBits binary64 0x0)) (length-replicate {A = ℕ} 1024 0) (length-replicate {A = ℕ} 1024 0) (length-replicate {A = ℕ} 1024 0) (length-replicate {A = ℕ} 12288 0)) (c .before .before .before .before .before .before .before .before .before .before .before .before .before .before .before .before .before .before .before .before .before .new .result) (c .before .before .before .before .before .before .before .before .before .before .before .before .before .before .before .before .before .before .before .before .before .new .ensures) (c .before .before .write-made .ensures)
 
 pub write-code-spec : {M : Type 1} → statement M
-write-code-spec = tie.close (tie.spec slice-aggregate-new slice-aggregate-new-2 slice-aggregate-new-3 slice-aggregate-new-4 slice-aggregate-new-5 slice-aggregate-new-6 slice-aggregate-new-7 slice-aggregate-new-8 slice-aggregate-new-9 slice-aggregate-new-10 slice-aggregate-new-11 slice-aggregate-new-12 slice-aggregate-new-13 (λ c κs. tt) slice-aggregate-write-made slice-aggregate-write-made-2 slice-aggregate-write-made-3 slice-aggregate-write-made-4 write-made-requires same-length returns)
+write-code-spec = tie.close (tie.spec (λ c. length-replicate {A = ℕ} 6144 0) (λ c. length-replicate {A = ℕ} 6144 0) slice-aggregate-new-3 slice-aggregate-new-4 (λ c. length-replicate {A = ℕ} 6144 0) (λ c. length-replicate {A = ℕ} 6144 0) slice-aggregate-new-7 slice-aggregate-new-8 slice-aggregate-new-9 (λ c. length-replicate {A = ℕ} 1024 0) (λ c. length-replicate {A = ℕ} 1024 0) (λ c. length-replicate {A = ℕ} 1024 0) (λ c. length-replicate {A = ℕ} 12288 0) (λ c κs. tt) slice-aggregate-write-made slice-aggregate-write-made-2 slice-aggregate-write-made-3 slice-aggregate-write-made-4 write-made-requires (λ c. c .before .text .given) returns)

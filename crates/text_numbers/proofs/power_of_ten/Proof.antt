@@ -25,12 +25,6 @@ loop-holds c = (omega arith, refl)
 mul-power : tie.Need-mul-power Inv-loop μ-loop
 mul-power c = omega (arith, c .before .loop .inv .1, small (c .before .loop .i) (omega (arith, c .before .before .pre)))
 
-add-i : tie.Need-add-i Inv-loop μ-loop
-add-i c = omega arith
-
-loop-less : tie.Need-loop-less Inv-loop μ-loop
-loop-less c = omega arith
-
 loop-again : tie.Need-loop-again Inv-loop μ-loop
 loop-again c = (omega arith, ap (λ (n : ℕ). n * 10) (c .before .loop .inv .1) ∙ sym (pow-suc 10 (c .before .loop .i)) ∙ ap (λ (n : ℕ). 10 ^ n) (sym (add-one (c .before .loop .i))))
 
@@ -38,4 +32,4 @@ returns : tie.Need-returns Inv-loop μ-loop
 returns c = c .before .loop .inv .1 ∙ ap (λ (n : ℕ). 10 ^ n) (same (c .before .loop .i) (c .before .before .args .k) (omega arith) (omega arith))
 
 pub power-of-ten-spec : {M : Type 1} → statement M
-power-of-ten-spec = tie.close (tie.spec Inv-loop μ-loop loop-holds mul-power add-i loop-less loop-again returns)
+power-of-ten-spec = tie.close (tie.spec Inv-loop μ-loop loop-holds mul-power (λ c. omega arith) (λ c. omega arith) loop-again returns)

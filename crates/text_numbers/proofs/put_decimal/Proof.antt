@@ -42,17 +42,11 @@ loop-holds c =
       omega (arith, c .size .ensures .1),
     )
 
-sub-k : tie.Need-sub-k Inv-loop μ-loop
-sub-k c = omega arith
-
 digit-requires : tie.Need-digit-requires Inv-loop μ-loop
 digit-requires c κs = omega (arith, c .before .before .loop .inv .0)
 
 put-byte-requires : tie.Need-put-byte-requires Inv-loop μ-loop
 put-byte-requires c κs = omega (arith, c .before .before .before .loop .inv .4, c .before .before .before .before .before .before .pre)
-
-loop-less : tie.Need-loop-less Inv-loop μ-loop
-loop-less c = omega arith
 
 loop-again : tie.Need-loop-again Inv-loop μ-loop
 loop-again c =
@@ -67,9 +61,6 @@ loop-again c =
       omega (arith, p .next, l .inv .4),
     )
 
-same-length : tie.Need-same-length Inv-loop μ-loop
-same-length c = c .before .loop .inv .1
-
 returns : tie.Need-returns Inv-loop μ-loop
 returns c =
     let s = c .before .before .before .before .args in
@@ -77,4 +68,4 @@ returns c =
     record { stored = ended (l .text) _ (l .next) (l .k) (s .n) (c .loop-test .left) (l .inv .2); next = omega (arith, l .inv .3) }
 
 pub put-decimal-spec : {M : Type 1} → statement M
-put-decimal-spec = tie.close (tie.spec Inv-loop μ-loop (λ c κs. tt) loop-holds sub-k digit-requires put-byte-requires loop-less loop-again same-length returns)
+put-decimal-spec = tie.close (tie.spec Inv-loop μ-loop (λ c κs. tt) loop-holds (λ c. omega arith) digit-requires put-byte-requires (λ c. omega arith) loop-again (λ c. c .before .loop .inv .1) returns)

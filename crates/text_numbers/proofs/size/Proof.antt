@@ -16,20 +16,8 @@ abbrev μ-loop : tie.MeasureT-loop
 loop-holds : tie.Need-loop-holds Inv-loop μ-loop
 loop-holds c = (omega arith, refl)
 
-power-of-ten-requires : tie.Need-power-of-ten-requires Inv-loop μ-loop
-power-of-ten-requires c κs = omega arith
-
-add-result : tie.Need-add-result Inv-loop μ-loop
-add-result c = omega arith
-
 returns : tie.Need-returns Inv-loop μ-loop
 returns c = (size-here (c .before .before .before .loop .k) (c .before .before .before .before .args .n) (c .before .before .loop-test .taken) (omega (arith, c .before .power-of-ten .ensures)) ∙ sym (c .before .before .before .loop .inv .1), omega arith)
-
-sub-k : tie.Need-sub-k Inv-loop μ-loop
-sub-k c = omega arith
-
-loop-less : tie.Need-loop-less Inv-loop μ-loop
-loop-less c = omega arith
 
 loop-again : tie.Need-loop-again Inv-loop μ-loop
 loop-again c = (omega arith, c .before .before .before .loop .inv .1 ∙ size-below (c .before .before .before .loop .k) (c .before .before .before .before .args .n) (c .before .before .loop-test .taken) (omega (arith, c .before .power-of-ten .ensures)))
@@ -38,4 +26,4 @@ returns-2 : tie.Need-returns-2 Inv-loop μ-loop
 returns-2 c = (size-end (c .before .loop .k) (c .before .before .args .n) (c .loop-test .left) ∙ sym (c .before .loop .inv .1), omega arith)
 
 pub size-spec : {M : Type 1} → statement M
-size-spec = tie.close (tie.spec Inv-loop μ-loop loop-holds power-of-ten-requires add-result returns sub-k loop-less loop-again returns-2)
+size-spec = tie.close (tie.spec Inv-loop μ-loop loop-holds (λ c κs. omega arith) (λ c. omega arith) returns (λ c. omega arith) (λ c. omega arith) loop-again returns-2)

@@ -64,9 +64,6 @@ store-half-weights-requires c κs =
     let s = c .before .before .before .before .before .before .before .before .before .before .before .before .before .before .before .before .before .args in
     long (s .edge-num) (length (s .p .now)) (length (s .half-weight .now)) _ (sym (number (c .before .before)) ∙ c .before .if1 .left)
 
-same-length : tie.Need-same-length
-same-length c = c .before .half-weight .given
-
 returns-2 : tie.Need-returns-2
 returns-2 c =
     let s = c .before .before .before .before .before .before .before .before .before .before .before .before .before .before .before .before .before .before .before .before .args in
@@ -80,4 +77,4 @@ returns-2 c =
     }
 
 pub compute-weights-spec : {M : Type 1} → statement M
-compute-weights-spec = tie.close (tie.spec (λ c κs. tt) (λ c κs. tt) (λ c κs. tt) (λ c. search needs) (λ c κs. tt) (λ c κs. tt) (λ c κs. tt) (λ c κs. tt) (λ c κs. tt) (λ c κs. tt) (λ c κs. tt) (λ c κs. tt) (λ c κs. tt) (λ c κs. tt) (λ c κs. tt) returns store-half-weights-requires same-length returns-2)
+compute-weights-spec = tie.close (tie.spec (λ c κs. tt) (λ c κs. tt) (λ c κs. tt) (λ c. search needs) (λ c κs. tt) (λ c κs. tt) (λ c κs. tt) (λ c κs. tt) (λ c κs. tt) (λ c κs. tt) (λ c κs. tt) (λ c κs. tt) (λ c κs. tt) (λ c κs. tt) (λ c κs. tt) returns store-half-weights-requires (λ c. c .before .half-weight .given) returns-2)

@@ -2,8 +2,5 @@
 use Rattle.weights_calls.proofs.is_largest_half_weight.Statement.{statement}
 use Rattle.weights_calls.proofs.is_largest_half_weight.Tie as tie
 
-returns : tie.Need-returns
-returns c = c .both .ensures
-
 pub is-largest-half-weight-spec : {M : Type 1} → statement M
-is-largest-half-weight-spec = tie.close (tie.spec (λ c κs. tt) returns)
+is-largest-half-weight-spec = tie.close (tie.spec (λ c κs. tt) (λ c. c .both .ensures))

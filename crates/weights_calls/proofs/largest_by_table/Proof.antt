@@ -29,9 +29,6 @@ loop-holds c = (omega arith, c .lesser .ensures, refl, refl, refl, c .before .be
 shared-slice-read-known-weight : tie.Need-shared-slice-read-known-weight Inv-loop μ-loop
 shared-slice-read-known-weight c = omega (arith, c .before .before .loop .inv .1)
 
-known-weight-requires : tie.Need-known-weight-requires Inv-loop μ-loop
-known-weight-requires c κs = c .before .before .before .before .loop .inv .5
-
 add-i : tie.Need-add-i Inv-loop μ-loop
 add-i c = omega (arith, c .before .before .before .before .before .before .before .before .before .before .loop .inv .1, c .before .before .before .before .before .before .before .before .before .loop-test .taken)
 
@@ -55,12 +52,6 @@ loop-again c =
       known,
     )
 
-same-length : tie.Need-same-length Inv-loop μ-loop
-same-length c = c .before .loop .inv .3
-
-same-length-2 : tie.Need-same-length-2 Inv-loop μ-loop
-same-length-2 c = c .before .loop .inv .4
-
 returns : tie.Need-returns Inv-loop μ-loop
 returns c =
     let s = c .before .before .before .before .before .before .args in
@@ -68,4 +59,4 @@ returns c =
     at .inv .2 ∙ ap largestWeight (sym (take-first (s .p .now) (s .n) (at .i) (omega (arith, at .inv .1)) (omega (arith, at .inv .1))))
 
 pub largest-by-table-spec : {M : Type 1} → statement M
-largest-by-table-spec = tie.close (tie.spec Inv-loop μ-loop (λ c κs. tt) loop-holds (λ c. search needs) shared-slice-read-known-weight known-weight-requires (λ c κs. tt) add-i loop-less loop-again same-length same-length-2 returns)
+largest-by-table-spec = tie.close (tie.spec Inv-loop μ-loop (λ c κs. tt) loop-holds (λ c. search needs) shared-slice-read-known-weight (λ c κs. c .before .before .before .before .loop .inv .5) (λ c κs. tt) add-i loop-less loop-again (λ c. c .before .loop .inv .3) (λ c. c .before .loop .inv .4) returns)

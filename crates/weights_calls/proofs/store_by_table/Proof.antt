@@ -29,9 +29,6 @@ loop-holds c = (omega arith, refl, refl, refl, refl, c .before .before .before .
 shared-slice-read-known-half-weight : tie.Need-shared-slice-read-known-half-weight Inv-loop μ-loop
 shared-slice-read-known-half-weight c = omega (arith, c .before .before .before .before .before .before .before .pre .0, c .before .loop-test .taken)
 
-known-half-weight-requires : tie.Need-known-half-weight-requires Inv-loop μ-loop
-known-half-weight-requires c κs = c .before .before .before .before .loop .inv .5
-
 slice-write-column : tie.Need-slice-write-column Inv-loop μ-loop
 slice-write-column c = omega (arith, c .before .before .before .before .before .before .before .before .before .before .before .before .before .before .pre .1, c .before .before .before .before .before .before .before .before .before .loop .inv .1, c .before .before .before .before .before .before .before .before .loop-test .taken)
 
@@ -60,15 +57,6 @@ loop-again c =
       known,
     )
 
-same-length : tie.Need-same-length Inv-loop μ-loop
-same-length c = c .before .loop .inv .1
-
-same-length-2 : tie.Need-same-length-2 Inv-loop μ-loop
-same-length-2 c = c .before .loop .inv .3
-
-same-length-3 : tie.Need-same-length-3 Inv-loop μ-loop
-same-length-3 c = c .before .loop .inv .4
-
 returns : tie.Need-returns Inv-loop μ-loop
 returns c =
     let start = c .before .before .before .before .before .before in
@@ -81,4 +69,4 @@ returns c =
     (omega (arith, start .pre .0, start .pre .1, length-map (take (s .n) (s .p .now)) one, length-take (s .n) (s .p .now)))
 
 pub store-by-table-spec : {M : Type 1} → statement M
-store-by-table-spec = tie.close (tie.spec Inv-loop μ-loop loop-holds (λ c. search needs) shared-slice-read-known-half-weight known-half-weight-requires (λ c. search needs) slice-write-column add-i loop-less loop-again same-length same-length-2 same-length-3 returns)
+store-by-table-spec = tie.close (tie.spec Inv-loop μ-loop loop-holds (λ c. search needs) shared-slice-read-known-half-weight (λ c κs. c .before .before .before .before .loop .inv .5) (λ c. search needs) slice-write-column add-i loop-less loop-again (λ c. c .before .loop .inv .1) (λ c. c .before .loop .inv .3) (λ c. c .before .loop .inv .4) returns)

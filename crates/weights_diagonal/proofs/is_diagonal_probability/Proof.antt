@@ -3,8 +3,5 @@ use borrow.Author.Needs.{needs}
 use Rattle.weights_diagonal.proofs.is_diagonal_probability.Statement.{statement}
 use Rattle.weights_diagonal.proofs.is_diagonal_probability.Tie as tie
 
-returns-2 : tie.Need-returns-2
-returns-2 c = cc
-
 pub is-diagonal-probability-spec : {M : Type 1} → statement M
-is-diagonal-probability-spec = tie.close (tie.spec (λ c. search needs) (λ c. search needs) (λ c κs. tt) (λ c. search needs) returns-2)
+is-diagonal-probability-spec = tie.close (tie.spec (λ c. search needs) (λ c. search needs) (λ c κs. tt) (λ c. search needs) (λ c. cc))

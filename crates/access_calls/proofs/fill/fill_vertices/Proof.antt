@@ -26,27 +26,6 @@ write-lists-requires c κs =
     let g = m .sound in
     ((g .long-a, g .long-b, m .lengths, m .numbers), (g .few-edges, g .few-vertices, g .in-a, g .in-b))
 
-same-length : tie.Need-same-length
-same-length c = c .before .before .before .before .before .before .before .before .before .before .before .before .before .before .before .before .before .before .before .before .before .before .before .before .pos-i .given
-
-same-length-2 : tie.Need-same-length-2
-same-length-2 c = c .before .before .before .before .before .before .before .before .before .before .before .before .before .before .before .before .before .before .before .before .pos-j .given
-
-same-length-3 : tie.Need-same-length-3
-same-length-3 c = c .before .before .before .before .before .before .before .before .before .before .before .before .before .before .before .before .pos-t .given
-
-same-length-4 : tie.Need-same-length-4
-same-length-4 c = c .before .before .before .before .before .before .before .before .before .before .before .before .boundary .given
-
-same-length-5 : tie.Need-same-length-5
-same-length-5 c = c .before .before .before .before .before .before .before .before .defect .given
-
-same-length-6 : tie.Need-same-length-6
-same-length-6 c = c .before .before .before .list-lengths .given
-
-same-length-7 : tie.Need-same-length-7
-same-length-7 c = c .before .neighbor-numbers .given
-
 returns : tie.Need-returns
 returns c =
     let s = c .before .before .before .before .before .before .before .before .before .before .before .before .before .before .before .before .before .before .before .before .before .before .before .before .before .before .before .before .before .before .before .before .before .before .before .before .before .before .before .before .before .before .before .before .before .args in
@@ -93,4 +72,4 @@ returns-2 c =
     }
 
 pub fill-vertices-spec : {M : Type 1} → statement M
-fill-vertices-spec = tie.close (tie.spec (λ c κs. tt) (λ c κs. tt) (λ c κs. tt) (λ c κs. tt) (λ c κs. tt) (λ c κs. tt) write-lists-requires same-length same-length-2 same-length-3 same-length-4 same-length-5 same-length-6 same-length-7 returns (λ c κs. tt) (λ c. search needs) (λ c. search needs) (λ c. search needs) (λ c. search needs) (λ c. search needs) (λ c. search needs) (λ c. search needs) returns-2)
+fill-vertices-spec = tie.close (tie.spec (λ c κs. tt) (λ c κs. tt) (λ c κs. tt) (λ c κs. tt) (λ c κs. tt) (λ c κs. tt) write-lists-requires (λ c. c .before .before .before .before .before .before .before .before .before .before .before .before .before .before .before .before .before .before .before .before .before .before .before .before .pos-i .given) (λ c. c .before .before .before .before .before .before .before .before .before .before .before .before .before .before .before .before .before .before .before .before .pos-j .given) (λ c. c .before .before .before .before .before .before .before .before .before .before .before .before .before .before .before .before .pos-t .given) (λ c. c .before .before .before .before .before .before .before .before .before .before .before .before .boundary .given) (λ c. c .before .before .before .before .before .before .before .before .defect .given) (λ c. c .before .before .before .list-lengths .given) (λ c. c .before .neighbor-numbers .given) returns (λ c κs. tt) (λ c. search needs) (λ c. search needs) (λ c. search needs) (λ c. search needs) (λ c. search needs) (λ c. search needs) (λ c. search needs) returns-2)

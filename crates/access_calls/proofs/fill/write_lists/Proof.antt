@@ -9,11 +9,5 @@ fill-lists-requires c κs =
     let p = c .before .before .before .before .before .before .before .pre in
     ((p .0 .0, (p .0 .1, (p .0 .2, (zeros-room (c .before .before .before .before .before .before .before .args .n) 4096 (p .1 .1), p .0 .3)))), (p .1 .0, (p .1 .2, p .1 .3)))
 
-same-length : tie.Need-same-length
-same-length c = c .before .before .before .before .list-lengths .given
-
-same-length-2 : tie.Need-same-length-2
-same-length-2 c = c .before .before .neighbor-numbers .given
-
 pub write-lists-spec : {M : Type 1} → statement M
-write-lists-spec = tie.close (tie.spec (λ c. search needs) fill-lists-requires same-length same-length-2 (λ c. search needs))
+write-lists-spec = tie.close (tie.spec (λ c. search needs) fill-lists-requires (λ c. c .before .before .before .before .list-lengths .given) (λ c. c .before .before .neighbor-numbers .given) (λ c. search needs))

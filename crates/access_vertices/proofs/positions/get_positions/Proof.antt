@@ -11,15 +11,6 @@ use borrow.Author.Needs.{needs}
 use Rattle.access_vertices.proofs.positions.get_positions.Statement.{statement}
 use Rattle.access_vertices.proofs.positions.get_positions.Tie as tie
 
-same-length : tie.Need-same-length
-same-length c = c .before .before .before .before .before .before .before .before .before .to-i .given
-
-same-length-2 : tie.Need-same-length-2
-same-length-2 c = c .before .before .before .before .before .to-j .given
-
-same-length-3 : tie.Need-same-length-3
-same-length-3 c = c .before .to-t .given
-
 returns : tie.Need-returns
 returns c =
     let s = c .before .before .before .before .before .before .before .before .before .before .before .before .before .before .before .before .before .before .before .before .before .before .before .args in
@@ -53,4 +44,4 @@ returns-2 c =
     }
 
 pub get-positions-spec : {M : Type 1} → statement M
-get-positions-spec = tie.close (tie.spec (λ c κs. tt) (λ c κs. tt) (λ c κs. tt) (λ c κs. tt) same-length same-length-2 same-length-3 returns (λ c κs. tt) (λ c. search needs) (λ c. search needs) (λ c. search needs) returns-2)
+get-positions-spec = tie.close (tie.spec (λ c κs. tt) (λ c κs. tt) (λ c κs. tt) (λ c κs. tt) (λ c. c .before .before .before .before .before .before .before .before .before .to-i .given) (λ c. c .before .before .before .before .before .to-j .given) (λ c. c .before .to-t .given) returns (λ c κs. tt) (λ c. search needs) (λ c. search needs) (λ c. search needs) returns-2)

@@ -20,24 +20,6 @@ code-edges-requires c κs =
     let l = c .before .before .before .before .before .before .before .before .pre .1 in
     (record { room-a = omega (arith, l .long-a); room-b = omega (arith, l .long-b) }, omega (arith, ok .distance .three, ok .distance .few, ok .few-rounds, ok .few-vertices, vertices-are (s .kind) (s .d) (s .rounds) ok))
 
-same-length : tie.Need-same-length
-same-length c = c .before .before .before .before .before .before .before .before .before .before .before .before .before .before .before .before .before .before .before .ends-a .given
-
-same-length-2 : tie.Need-same-length-2
-same-length-2 c = c .before .before .before .before .before .before .before .before .before .before .before .before .before .before .before .before .before .ends-b .given
-
-same-length-3 : tie.Need-same-length-3
-same-length-3 c = c .before .before .before .before .before .before .before .before .before .before .before .before .before .p .given
-
-same-length-4 : tie.Need-same-length-4
-same-length-4 c = c .before .before .before .before .before .before .before .before .before .pe .given
-
-same-length-5 : tie.Need-same-length-5
-same-length-5 c = c .before .before .before .before .before .half-weight .given
-
-same-length-6 : tie.Need-same-length-6
-same-length-6 c = c .before .erasure .given
-
 returns : tie.Need-returns
 returns c =
     let s = c .before .before .before .before .before .before .before .before .before .before .before .before .before .before .before .before .before .before .before .before .before .before .before .before .before .before .before .before .before .args in
@@ -57,4 +39,4 @@ returns c =
     }
 
 pub fill-edges-spec : {M : Type 1} → statement M
-fill-edges-spec = tie.close (tie.spec code-edges-requires (λ c κs. tt) (λ c κs. tt) (λ c κs. tt) (λ c κs. tt) same-length same-length-2 same-length-3 same-length-4 same-length-5 same-length-6 returns)
+fill-edges-spec = tie.close (tie.spec code-edges-requires (λ c κs. tt) (λ c κs. tt) (λ c κs. tt) (λ c κs. tt) (λ c. c .before .before .before .before .before .before .before .before .before .before .before .before .before .before .before .before .before .before .before .ends-a .given) (λ c. c .before .before .before .before .before .before .before .before .before .before .before .before .before .before .before .before .before .ends-b .given) (λ c. c .before .before .before .before .before .before .before .before .before .before .before .before .before .p .given) (λ c. c .before .before .before .before .before .before .before .before .before .pe .given) (λ c. c .before .before .before .before .before .half-weight .given) (λ c. c .before .erasure .given) returns)

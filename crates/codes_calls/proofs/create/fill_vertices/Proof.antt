@@ -19,21 +19,6 @@ code-vertices-requires c κs =
     let l = c .before .before .before .before .before .before .before .before .before .pre .1 in
     (record { room-m = omega (arith, l .long-m); room-i = omega (arith, l .long-i); room-j = omega (arith, l .long-j); room-t = omega (arith, l .long-t) }, omega (arith, ok .distance .three, ok .distance .few, ok .few-rounds))
 
-same-length : tie.Need-same-length
-same-length c = c .before .before .before .before .before .before .before .before .before .pos-i .given
-
-same-length-2 : tie.Need-same-length-2
-same-length-2 c = c .before .before .before .before .before .before .before .pos-j .given
-
-same-length-3 : tie.Need-same-length-3
-same-length-3 c = c .before .before .before .before .before .pos-t .given
-
-same-length-4 : tie.Need-same-length-4
-same-length-4 c = c .before .before .before .before .before .before .before .before .before .before .before .boundary .given
-
-same-length-5 : tie.Need-same-length-5
-same-length-5 c = c .before .defect .given
-
 returns : tie.Need-returns
 returns c =
     let s = c .before .before .before .before .before .before .before .before .before .before .before .before .before .before .before .before .before .before .before .before .before .before .args in
@@ -52,4 +37,4 @@ returns c =
     }
 
 pub fill-vertices-spec : {M : Type 1} → statement M
-fill-vertices-spec = tie.close (tie.spec code-vertices-requires (λ c κs. tt) same-length same-length-2 same-length-3 same-length-4 same-length-5 returns)
+fill-vertices-spec = tie.close (tie.spec code-vertices-requires (λ c κs. tt) (λ c. c .before .before .before .before .before .before .before .before .before .pos-i .given) (λ c. c .before .before .before .before .before .before .before .pos-j .given) (λ c. c .before .before .before .before .before .pos-t .given) (λ c. c .before .before .before .before .before .before .before .before .before .before .before .boundary .given) (λ c. c .before .defect .given) returns)

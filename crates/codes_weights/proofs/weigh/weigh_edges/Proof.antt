@@ -53,9 +53,6 @@ store-weighed-requires c κs =
 add-i : tie.Need-add-i Inv-loop μ-loop
 add-i c = omega (arith, c .before .before .before .before .before .before .before .before .before .before .loop .inv .0)
 
-loop-less : tie.Need-loop-less Inv-loop μ-loop
-loop-less c = omega arith
-
 loop-again : tie.Need-loop-again Inv-loop μ-loop
 loop-again c =
     let s = c .before .before .before .before .before .before .before .before .before .before .before .before .before .before .before .before .before .before .args in
@@ -70,12 +67,6 @@ loop-again c =
       stored (s .half-weight .now) (λ k. cond (d k) (s .other .half) (s .straight .half)) (l .i) (l .inv .4) (w .1) (ap (λ (x : Weighed). x .half) picks ∙ half-of (d (l .i)) (s .other) (s .straight)),
     )
 
-same-length : tie.Need-same-length Inv-loop μ-loop
-same-length c = c .before .loop .inv .1
-
-same-length-2 : tie.Need-same-length-2 Inv-loop μ-loop
-same-length-2 c = c .before .loop .inv .2
-
 returns : tie.Need-returns Inv-loop μ-loop
 returns c =
     let s = c .before .before .before .before .before .before .before .before .before .args in
@@ -88,4 +79,4 @@ returns c =
     }
 
 pub weigh-edges-spec : {M : Type 1} → statement M
-weigh-edges-spec = tie.close (tie.spec Inv-loop μ-loop loop-holds diagonal-at-requires (λ c κs. tt) store-weighed-requires add-i loop-less loop-again same-length same-length-2 returns)
+weigh-edges-spec = tie.close (tie.spec Inv-loop μ-loop loop-holds diagonal-at-requires (λ c κs. tt) store-weighed-requires add-i (λ c. omega arith) loop-again (λ c. c .before .loop .inv .1) (λ c. c .before .loop .inv .2) returns)

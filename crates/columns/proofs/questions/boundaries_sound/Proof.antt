@@ -2,8 +2,5 @@
 use Rattle.columns.proofs.questions.boundaries_sound.Statement.{statement}
 use Rattle.columns.proofs.questions.boundaries_sound.Tie as tie
 
-returns : tie.Need-returns
-returns c = c .bytes-within .ensures
-
 pub boundaries-sound-spec : {M : Type 1} → statement M
-boundaries-sound-spec = tie.close (tie.spec (λ c κs. tt) returns)
+boundaries-sound-spec = tie.close (tie.spec (λ c κs. tt) (λ c. c .bytes-within .ensures))

@@ -2,8 +2,5 @@
 use Rattle.columns.proofs.questions.vertex_count_sound.Statement.{statement}
 use Rattle.columns.proofs.questions.vertex_count_sound.Tie as tie
 
-returns : tie.Need-returns
-returns c = c .both .ensures
-
 pub vertex-count-sound-spec : {M : Type 1} → statement M
-vertex-count-sound-spec = tie.close (tie.spec (λ c κs. tt) returns)
+vertex-count-sound-spec = tie.close (tie.spec (λ c κs. tt) (λ c. c .both .ensures))

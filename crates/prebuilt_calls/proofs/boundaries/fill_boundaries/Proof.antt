@@ -43,39 +43,6 @@ fill-all-requires : tie.Need-fill-all-requires
 unfolding engine-of
 fill-all-requires c κs = let t : tie.Then1 = c .before .before .before .before .before .before .before .before .before .before .before in fillable-at (t .before .before .before .before .before .before .before .before .before .before .before .before .before .before .before .before .before .before .before .before .before .before .before .before .before .before .before) (number-then t)
 
-same-length : tie.Need-same-length
-same-length c = c .before .before .before .before .before .before .before .before .before .before .before .before .before .before .before .before .before .before .before .out-weight .given
-
-same-length-2 : tie.Need-same-length-2
-same-length-2 c = c .before .before .before .before .before .before .before .before .before .before .before .before .before .before .before .before .before .before .out-vertex .given
-
-same-length-3 : tie.Need-same-length-3
-same-length-3 c = c .before .before .before .before .before .before .before .before .before .before .before .before .before .before .before .before .least .given
-
-same-length-4 : tie.Need-same-length-4
-same-length-4 c = c .before .before .before .before .before .before .before .before .before .before .before .before .before .before .before .before2 .given
-
-same-length-5 : tie.Need-same-length-5
-same-length-5 c = c .before .before .before .before .before .before .before .before .before .before .before .before .before .numbers .given
-
-same-length-6 : tie.Need-same-length-6
-same-length-6 c = c .before .before .before .before .before .before .before .before .before .before .before .list-ends .given
-
-same-length-7 : tie.Need-same-length-7
-same-length-7 c = c .before .before .before .before .before .before .before .before .before .status .given
-
-same-length-8 : tie.Need-same-length-8
-same-length-8 c = c .before .before .before .before .before .before .before .weight .given
-
-same-length-9 : tie.Need-same-length-9
-same-length-9 c = c .before .before .before .before .before .previous .given
-
-same-length-10 : tie.Need-same-length-10
-same-length-10 c = c .before .before .before .node .given
-
-same-length-11 : tie.Need-same-length-11
-same-length-11 c = c .before .leaf .given
-
 returns : tie.Need-returns
 unfolding number-at engine-of scratch-at
 returns c = let t : tie.Then1 = c .before .before .before .before .before .before .before .before .before .before .before .before .before .before .before .before .before .before .before .before .before .before .before .before .before .before .before .before .before .before .before .before in
@@ -107,4 +74,4 @@ returns-2 c = let s : tie.Start = c .before .before .before .before .before .bef
     )
 
 pub fill-boundaries-spec : {M : Type 1} → statement M
-fill-boundaries-spec = tie.close (tie.spec (λ c. search needs) (λ c κs. tt) (λ c κs. tt) (λ c κs. tt) (λ c κs. tt) (λ c κs. tt) (λ c κs. tt) (λ c κs. tt) (λ c κs. tt) (λ c κs. tt) (λ c κs. tt) fill-all-requires same-length same-length-2 same-length-3 same-length-4 same-length-5 same-length-6 same-length-7 same-length-8 same-length-9 same-length-10 same-length-11 returns returns-2)
+fill-boundaries-spec = tie.close (tie.spec (λ c. search needs) (λ c κs. tt) (λ c κs. tt) (λ c κs. tt) (λ c κs. tt) (λ c κs. tt) (λ c κs. tt) (λ c κs. tt) (λ c κs. tt) (λ c κs. tt) (λ c κs. tt) fill-all-requires (λ c. c .before .before .before .before .before .before .before .before .before .before .before .before .before .before .before .before .before .before .before .out-weight .given) (λ c. c .before .before .before .before .before .before .before .before .before .before .before .before .before .before .before .before .before .before .out-vertex .given) (λ c. c .before .before .before .before .before .before .before .before .before .before .before .before .before .before .before .before .least .given) (λ c. c .before .before .before .before .before .before .before .before .before .before .before .before .before .before .before .before2 .given) (λ c. c .before .before .before .before .before .before .before .before .before .before .before .before .before .numbers .given) (λ c. c .before .before .before .before .before .before .before .before .before .before .before .list-ends .given) (λ c. c .before .before .before .before .before .before .before .before .before .status .given) (λ c. c .before .before .before .before .before .before .before .weight .given) (λ c. c .before .before .before .before .before .previous .given) (λ c. c .before .before .before .node .given) (λ c. c .before .leaf .given) returns returns-2)

@@ -14,7 +14,7 @@ use Rattle.engine_columns.specs.Records.{Engine, engine}
 use Rattle.engine_walks.specs.Answers.{table}
 use Rattle.query_tables.specs.declared.End.the-variants.{None}
 use Rattle.query_questions.specs.Queries.{graphIn, weightsIn, scratchLong}
-use Rattle.query_tables.specs.Steps.{tableRefusal}
+use Rattle.query_tables.specs.Tables.{tableRefusal}
 use Rattle.query_tables.proofs.Tables.{TableAsked, table-of}
 use Rattle.query_tables.proofs.Sources.{table-weights-length}
 use Rattle.prebuilt_entries.specs.Nearest.{boundaryIn, weightTo, vertexTo}
@@ -78,39 +78,6 @@ store-boundary-requires c κs = let s : tie.Start = c .before .before .before .b
     let few = graph-says (s .args .c .vertices) (s .args .c .edges) (s .args .ends-a .now) (s .args .ends-b .now) (k .sound .columns .graph) .few-vertices in
     (lb ∙ sym (f .1), omega (arith, lb, s .pre .1), omega (arith, f .1, few), omega (arith, s .pre .0 .weights-fit, s .pre .1), omega (arith, s .pre .0 .vertices-fit, s .pre .1))
 
-same-length : tie.Need-same-length
-same-length c = c .before .before .out-weight .given
-
-same-length-2 : tie.Need-same-length-2
-same-length-2 c = c .before .out-vertex .given
-
-same-length-3 : tie.Need-same-length-3
-same-length-3 c = c .before .before .before .before .before .before .before .before .before .before .before .before .before .before .before .before .before .before .before .before .before .before .before .before .before .least .given
-
-same-length-4 : tie.Need-same-length-4
-same-length-4 c = c .before .before .before .before .before .before .before .before .before .before .before .before .before .before .before .before .before .before .before .before .before .before .before .before .before2 .given
-
-same-length-5 : tie.Need-same-length-5
-same-length-5 c = c .before .before .before .before .before .before .before .before .before .before .before .before .before .before .before .before .before .before .before .before .before .before .numbers .given
-
-same-length-6 : tie.Need-same-length-6
-same-length-6 c = c .before .before .before .before .before .before .before .before .before .before .before .before .before .before .before .before .before .before .before .before .list-ends .given
-
-same-length-7 : tie.Need-same-length-7
-same-length-7 c = c .before .before .before .before .before .before .before .before .before .before .before .before .before .before .before .before .before .before .status .given
-
-same-length-8 : tie.Need-same-length-8
-same-length-8 c = c .before .before .before .before .before .before .before .before .before .before .before .before .before .before .before .before .weight .given
-
-same-length-9 : tie.Need-same-length-9
-same-length-9 c = c .before .before .before .before .before .before .before .before .before .before .before .before .before .before .previous .given
-
-same-length-10 : tie.Need-same-length-10
-same-length-10 c = c .before .before .before .before .before .before .before .before .before .before .before .before .node .given
-
-same-length-11 : tie.Need-same-length-11
-same-length-11 c = c .before .before .before .before .before .before .before .before .before .before .leaf .given
-
 returns : tie.Need-returns
 unfolding number-at engine-of scratch-at table-at
 returns c = let s : tie.Start = c .before .before .before .before .before .before .before .before .before .before .before .before .before .before .before .before .before .before .before .before .before .before .before .before .before .before .before .before .before .before .before .before .before .before .before .before .before .before .before .before .before .before .before .before .before .before .before .before .before .before .before in
@@ -127,4 +94,4 @@ returns c = let s : tie.Start = c .before .before .before .before .before .befor
     )
 
 pub fill-one-spec : {M : Type 1} → statement M
-fill-one-spec = tie.close (tie.spec (λ c κs. tt) (λ c. search needs) slice-aggregate-store-boundary slice-reshare-prefix-store-boundary slice-aggregate-store-boundary-2 store-boundary-requires same-length same-length-2 same-length-3 same-length-4 same-length-5 same-length-6 same-length-7 same-length-8 same-length-9 same-length-10 same-length-11 returns)
+fill-one-spec = tie.close (tie.spec (λ c κs. tt) (λ c. search needs) slice-aggregate-store-boundary slice-reshare-prefix-store-boundary slice-aggregate-store-boundary-2 store-boundary-requires (λ c. c .before .before .out-weight .given) (λ c. c .before .out-vertex .given) (λ c. c .before .before .before .before .before .before .before .before .before .before .before .before .before .before .before .before .before .before .before .before .before .before .before .before .before .least .given) (λ c. c .before .before .before .before .before .before .before .before .before .before .before .before .before .before .before .before .before .before .before .before .before .before .before .before .before2 .given) (λ c. c .before .before .before .before .before .before .before .before .before .before .before .before .before .before .before .before .before .before .before .before .before .before .numbers .given) (λ c. c .before .before .before .before .before .before .before .before .before .before .before .before .before .before .before .before .before .before .before .before .list-ends .given) (λ c. c .before .before .before .before .before .before .before .before .before .before .before .before .before .before .before .before .before .before .status .given) (λ c. c .before .before .before .before .before .before .before .before .before .before .before .before .before .before .before .before .weight .given) (λ c. c .before .before .before .before .before .before .before .before .before .before .before .before .before .before .previous .given) (λ c. c .before .before .before .before .before .before .before .before .before .before .before .before .node .given) (λ c. c .before .before .before .before .before .before .before .before .before .before .leaf .given) returns)

@@ -3,7 +3,7 @@ use mathlib.Core.Path.{_≡_, refl, ap, _∙_}
 use Prim.Native.Nat.{ℕ, zero, suc, _+_, _*_, _-_, _<_, _≤_}
 use native.Mathlib.Omega.{arith}
 use lib.ListN.{length}
-use Rattle.engine_walks.proofs.FirstLeast.{orElse}
+use Rattle.engine_walks.specs.Lists.{foundOr}
 use Rattle.prebuilt_entries.specs.Nearest.{nearestIn}
 use Rattle.engine_walks.specs.Settling.{firstLeast}
 use borrow.Author.Needs.{needs}
@@ -11,7 +11,7 @@ use Rattle.prebuilt_entries.proofs.nearest.nearest_place.Statement.{sta
 use Rattle.prebuilt_entries.proofs.nearest.nearest_place.Tie as tie
 
 abbrev Inv-loop : tie.InvT-loop
-Inv-loop boundary least best₀ u₀ best u = (u ≤ length least) × (best ≡ orElse (length least) (nearestIn boundary least u))
+Inv-loop boundary least best₀ u₀ best u = (u ≤ length least) × (best ≡ foundOr (length least) (nearestIn boundary least u))
 
 abbrev μ-loop : tie.MeasureT-loop
 μ-loop boundary least best₀ u₀ best u = length least - u
@@ -34,7 +34,7 @@ returns c =
     let s = c .before .before .before in
     let at = c .before .loop in
     let e : at .u ≡ length (s .args .least .now) = omega (arith, at .inv .0, c .loop-test .left) in
-    at .inv .1 ∙ ap (λ k. orElse (length (s .args .least .now)) (nearestIn (s .args .boundary .now) (s .args .least .now) k)) e
+    at .inv .1 ∙ ap (λ k. foundOr (length (s .args .least .now)) (nearestIn (s .args .boundary .now) (s .args .least .now) k)) e
 
 pub nearest-place-spec : {M : Type 1} → statement M
 nearest-place-spec = tie.close (tie.spec Inv-loop μ-loop loop-holds shared-slice-read-nearer nearer-requires (λ c. search needs) (λ c. search needs) loop-again returns)

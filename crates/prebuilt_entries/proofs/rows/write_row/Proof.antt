@@ -33,9 +33,6 @@ loop-holds : tie.Need-loop-holds Inv-loop μ-loop
 unfolding each
 loop-holds c = (search needs, refl, refl)
 
-shared-slice-read-is-hidden : tie.Need-shared-slice-read-is-hidden Inv-loop μ-loop
-shared-slice-read-is-hidden c = c .before .before .before .before .pre .2
-
 shared-slice-copy-out-row-entry : tie.Need-shared-slice-copy-out-row-entry Inv-loop μ-loop
 shared-slice-copy-out-row-entry c = let s = c .before .before .before .before .before .before in omega (arith, s .pre .0, s .pre .2)
 
@@ -72,9 +69,6 @@ loop-again c =
     let z : toZ w32 (ofZ w32 (c .row-entry .result)) ≡ f u = ap (λ k. toZ w32 (ofZ w32 k)) r ∙ toZ-ofZ w32 (f u) (record { sfits = g }) in
     (omega (arith, hu), length-set (at .out) u (toZ w32 (ofZ w32 (c .row-entry .result))) ∙ at .inv .1, (λ i. set (at .inv .2 i) u (z i)) ∙ store-each column u f)
 
-same-length : tie.Need-same-length Inv-loop μ-loop
-same-length c = c .before .loop .inv .1
-
 returns : tie.Need-returns Inv-loop μ-loop
 returns c =
     let s = c .before .before .before in
@@ -83,4 +77,4 @@ returns c =
     at .inv .2 ∙ ap (λ k. sets (s .args .out .now) 0 (each k (rowEntry (s .args .boundary .now) (s .args .nearest .now) (s .args .v) (s .args .out .now)))) e
 
 pub write-row-spec : {M : Type 1} → statement M
-write-row-spec = tie.close (tie.spec Inv-loop μ-loop loop-holds shared-slice-read-is-hidden (λ c. search needs) (λ c κs. tt) (λ c. search needs) shared-slice-copy-out-row-entry (λ c. search needs) shared-slice-copy-out-row-entry-2 (λ c. search needs) slice-copy-out-row-entry (λ c κs. tt) (λ c. search needs) slice-set-from-out (λ c. search needs) (λ c. search needs) loop-again same-length returns)
+write-row-spec = tie.close (tie.spec Inv-loop μ-loop loop-holds (λ c. c .before .before .before .before .pre .2) (λ c. search needs) (λ c κs. tt) (λ c. search needs) shared-slice-copy-out-row-entry (λ c. search needs) shared-slice-copy-out-row-entry-2 (λ c. search needs) slice-copy-out-row-entry (λ c κs. tt) (λ c. search needs) slice-set-from-out (λ c. search needs) (λ c. search needs) loop-again (λ c. c .before .loop .inv .1) returns)

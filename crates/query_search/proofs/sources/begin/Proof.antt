@@ -9,18 +9,6 @@ use borrow.Author.Needs.{needs}
 use Rattle.query_search.proofs.sources.begin.Statement.{statement}
 use Rattle.query_search.proofs.sources.begin.Tie as tie
 
-same-length : tie.Need-same-length
-same-length c = c .before .before .before .before .before .before .before .before .before .before .before .before .weight .given
-
-same-length-2 : tie.Need-same-length-2
-same-length-2 c = c .before .before .before .before .before .before .before .before .previous .given
-
-same-length-3 : tie.Need-same-length-3
-same-length-3 c = c .before .before .before .node .given
-
-same-length-4 : tie.Need-same-length-4
-same-length-4 c = c .before .leaf .given
-
 returns : tie.Need-returns
 returns c =
     let s = c .before .before .before .before .before .before .before .before .before .before .before .before .before .before .before .before .before .before .before .before in
@@ -31,4 +19,4 @@ returns c =
     (ready-first (s .args .status .now) _ _ _ _ (s .pre .0) w p (omega (arith, k .kept .1 .0, s .pre .3)) (k .kept .1 .1 .0 ∙ s .pre .4) (k .ensures .1) (k .ensures .0), (w, p))
 
 pub begin-spec : {M : Type 1} → statement M
-begin-spec = tie.close (tie.spec (λ c κs. tt) (λ c κs. search needs) (λ c κs. search needs) same-length same-length-2 same-length-3 same-length-4 returns)
+begin-spec = tie.close (tie.spec (λ c κs. tt) (λ c κs. search needs) (λ c κs. search needs) (λ c. c .before .before .before .before .before .before .before .before .before .before .before .before .weight .given) (λ c. c .before .before .before .before .before .before .before .before .previous .given) (λ c. c .before .before .before .node .given) (λ c. c .before .leaf .given) returns)

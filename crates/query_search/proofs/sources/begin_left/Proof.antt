@@ -34,9 +34,6 @@ loop-again c =
     let f : ℕ → ℕ = λ v. delta (getD (s .args .boundary .now) v 0) 1 in
     (omega (arith, at .inv .1, c .before .before .loop-test .taken), simp length-set (at .inv .1), (λ i. set (at .inv .2 i) (at .v) (c .left-mark .ensures i)) ∙ store-each (s .args .status .now) (at .v) f)
 
-same-length : tie.Need-same-length Inv-loop μ-loop
-same-length c = c .before .loop .inv .1
-
 returns : tie.Need-returns Inv-loop μ-loop
 returns c =
     let s = c .before .before .before .before in
@@ -47,4 +44,4 @@ returns c =
     at .inv .2 ∙ ap (λ k. sets (s .args .status .now) 0 (each k f)) e ∙ whole (s .args .status .now) (each n f) (length-each n f)
 
 pub begin-left-spec : {M : Type 1} → statement M
-begin-left-spec = tie.close (tie.spec Inv-loop μ-loop loop-holds shared-slice-read-left-mark (λ c κs. tt) (λ c. search needs) (λ c. search needs) loop-less loop-again same-length returns)
+begin-left-spec = tie.close (tie.spec Inv-loop μ-loop loop-holds shared-slice-read-left-mark (λ c κs. tt) (λ c. search needs) (λ c. search needs) loop-less loop-again (λ c. c .before .loop .inv .1) returns)

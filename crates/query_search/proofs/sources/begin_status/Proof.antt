@@ -3,11 +3,5 @@ use borrow.Author.Needs.{needs}
 use Rattle.query_search.proofs.sources.begin_status.Statement.{statement}
 use Rattle.query_search.proofs.sources.begin_status.Tie as tie
 
-returns : tie.Need-returns
-returns c = cc
-
-returns-2 : tie.Need-returns-2
-returns-2 c = cc
-
 pub begin-status-spec : {M : Type 1} → statement M
-begin-status-spec = tie.close (tie.spec (λ c. search needs) (λ c κs. tt) (λ c. search needs) (λ c κs. search needs) (λ c. search needs) returns (λ c. search needs) returns-2)
+begin-status-spec = tie.close (tie.spec (λ c. search needs) (λ c κs. tt) (λ c. search needs) (λ c κs. search needs) (λ c. search needs) (λ c. cc) (λ c. search needs) (λ c. cc))

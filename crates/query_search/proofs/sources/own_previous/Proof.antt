@@ -32,9 +32,6 @@ loop-again c =
     let at = c .before .loop in
     (omega (arith, at .inv .1, c .loop-test .taken), simp length-set (at .inv .1), ap (λ l. set l (at .v) (at .v)) (at .inv .2) ∙ store-each (s .args .previous .now) (at .v) (λ v. v))
 
-same-length : tie.Need-same-length Inv-loop μ-loop
-same-length c = c .before .loop .inv .1
-
 returns : tie.Need-returns Inv-loop μ-loop
 returns c =
     let s = c .before .before in
@@ -44,4 +41,4 @@ returns c =
     at .inv .2 ∙ ap (λ k. sets (s .args .previous .now) 0 (each k (λ v. v))) e ∙ whole (s .args .previous .now) (each n (λ v. v)) (length-each n (λ v. v))
 
 pub own-previous-spec : {M : Type 1} → statement M
-own-previous-spec = tie.close (tie.spec Inv-loop μ-loop loop-holds cast-previous (λ c. search needs) (λ c. search needs) (λ c. search needs) loop-less loop-again same-length returns)
+own-previous-spec = tie.close (tie.spec Inv-loop μ-loop loop-holds cast-previous (λ c. search needs) (λ c. search needs) (λ c. search needs) loop-less loop-again (λ c. c .before .loop .inv .1) returns)

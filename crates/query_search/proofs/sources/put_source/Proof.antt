@@ -14,12 +14,6 @@ shared-slice-read-if1 c = omega (arith, c .before .before .before .before .pre .
 put-requires : tie.Need-put-requires
 put-requires c κs = let p = c .before .before .before .before .before .before .before .pre in (p .2, (p .1, (p .0, p .3)))
 
-same-length : tie.Need-same-length
-same-length c = c .before .before .before .node .given
-
-same-length-2 : tie.Need-same-length-2
-same-length-2 c = c .before .leaf .given
-
 returns : tie.Need-returns
 returns c =
     let s = c .before .before .before .before .before .before .before .before .before .before .before .before in
@@ -32,4 +26,4 @@ returns-2 c =
     (ap (λ b. cond b (set (s .args .leaf .now) (s .args .v) (s .args .v)) (s .args .leaf .now)) (sym (ne-eqb _ 1 (c .if1 .left))), (s .pre .3, refl))
 
 pub put-source-spec : {M : Type 1} → statement M
-put-source-spec = tie.close (tie.spec shared-slice-read-if1 put-requires same-length same-length-2 returns returns-2)
+put-source-spec = tie.close (tie.spec shared-slice-read-if1 put-requires (λ c. c .before .before .before .node .given) (λ c. c .before .leaf .given) returns returns-2)

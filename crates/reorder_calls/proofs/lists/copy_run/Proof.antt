@@ -31,9 +31,6 @@ loop-again c =
     let l = c .before .before .loop in
     (omega arith, run-more (a .from .now) (a .start) (a .to .now) (a .at) (l .i) (omega (arith, s .pre .0)) (l .inv .1), simp length-set (l .inv .2))
 
-same-length : tie.Need-same-length Inv-loop μ-loop
-same-length c = c .before .loop .inv .2
-
 returns : tie.Need-returns Inv-loop μ-loop
 returns c =
     let s = c .before .before in
@@ -43,4 +40,4 @@ returns c =
     l .inv .1 ∙ ap (λ (k : ℕ). sets (a .to .now) (a .at) (take k (drop (a .start) (a .from .now)))) e
 
 pub copy-run-spec : {M : Type 1} → statement M
-copy-run-spec = tie.close (tie.spec Inv-loop μ-loop loop-holds (λ c. search needs) (λ c. search needs) (λ c. search needs) add-to-2 (λ c. search needs) slice-write-to (λ c. search needs) (λ c. search needs) loop-again same-length returns)
+copy-run-spec = tie.close (tie.spec Inv-loop μ-loop loop-holds (λ c. search needs) (λ c. search needs) (λ c. search needs) add-to-2 (λ c. search needs) slice-write-to (λ c. search needs) (λ c. search needs) loop-again (λ c. c .before .loop .inv .2) returns)

@@ -80,9 +80,6 @@ loop-again c =
       same ∙ l .inv .3,
     )
 
-same-length : tie.Need-same-length Inv-loop μ-loop
-same-length c = c .before .loop .inv .3
-
 returns : tie.Need-returns Inv-loop μ-loop
 returns c =
     let s = c .before .before .before .before .before .before .before in
@@ -91,4 +88,4 @@ returns c =
     lists-end (a .order .now) (a .lengths .now) (a .from .now) (s .pre .0 .0) (s .pre .1 .1 .0) (l .k) (a .to .now) (omega arith) (s .pre .1 .1 .1) (l .inv .2)
 
 pub gather-lists-spec : {M : Type 1} → statement M
-gather-lists-spec = tie.close (tie.spec Inv-loop μ-loop loop-holds (λ c. search needs) (λ c. search needs) (λ c κs. tt) (λ c. search needs) shared-slice-read-wide-2 (λ c κs. tt) mul-copy-run shared-slice-read-copy-run copy-run-requires add-at (λ c. search needs) (λ c. search needs) loop-again same-length returns)
+gather-lists-spec = tie.close (tie.spec Inv-loop μ-loop loop-holds (λ c. search needs) (λ c. search needs) (λ c κs. tt) (λ c. search needs) shared-slice-read-wide-2 (λ c κs. tt) mul-copy-run shared-slice-read-copy-run copy-run-requires add-at (λ c. search needs) (λ c. search needs) loop-again (λ c. c .before .loop .inv .3) returns)

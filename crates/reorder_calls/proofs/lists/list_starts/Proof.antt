@@ -44,9 +44,6 @@ loop-again c =
       simp length-set (l .inv .3),
     )
 
-same-length : tie.Need-same-length Inv-loop μ-loop
-same-length c = c .before .loop .inv .3
-
 returns : tie.Need-returns Inv-loop μ-loop
 returns c =
     let s = c .before .before .before .before in
@@ -55,4 +52,4 @@ returns c =
     (l .inv .1 ∙ ap (λ (k : ℕ). sumTo k (s .args .lengths .now)) e, λ u h. l .inv .2 u (omega arith))
 
 pub list-starts-spec : {M : Type 1} → statement M
-list-starts-spec = tie.close (tie.spec Inv-loop μ-loop loop-holds mul-starts slice-write-starts (λ c. search needs) (λ c. search needs) (λ c κs. tt) add-sum (λ c. search needs) (λ c. search needs) loop-again same-length returns)
+list-starts-spec = tie.close (tie.spec Inv-loop μ-loop loop-holds mul-starts slice-write-starts (λ c. search needs) (λ c. search needs) (λ c κs. tt) add-sum (λ c. search needs) (λ c. search needs) loop-again (λ c. c .before .loop .inv .3) returns)

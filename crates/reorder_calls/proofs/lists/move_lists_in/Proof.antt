@@ -19,15 +19,6 @@ gather-lists-requires c κs =
     let l = simp length-sets at (ap length (c .before .before .before .before .before .copy-u32 .ensures)) in
     ((s .pre .0 .0, s .pre .0 .1, omega (arith, s .pre .0 .2)), (c .before .before .before .before .before .before .before .before .before .before .list-starts .ensures .1, (omega (arith, l, s .pre .1 .1), s .pre .1 .0)))
 
-same-length : tie.Need-same-length
-same-length c = c .before .numbers .given
-
-same-length-2 : tie.Need-same-length-2
-same-length-2 c = c .before .before .before .before .before .before .before .scratch .given
-
-same-length-3 : tie.Need-same-length-3
-same-length-3 c = c .before .before .before .before .before .before .before .before .before .before .before .before .starts .given
-
 returns : tie.Need-returns
 returns c =
     let s = c .before .before .before .before .before .before .before .before .before .before .before .before .before .before .before .before .before .before .before .before in
@@ -41,4 +32,4 @@ returns c =
     )
 
 pub move-lists-in-spec : {M : Type 1} → statement M
-move-lists-in-spec = tie.close (tie.spec (λ c κs. search needs) (λ c κs. tt) gather-lists-requires same-length same-length-2 same-length-3 returns)
+move-lists-in-spec = tie.close (tie.spec (λ c κs. search needs) (λ c κs. tt) gather-lists-requires (λ c. c .before .numbers .given) (λ c. c .before .before .before .before .before .before .before .scratch .given) (λ c. c .before .before .before .before .before .before .before .before .before .before .before .before .starts .given) returns)

@@ -30,24 +30,12 @@ abbrev μ-loop : tie.MeasureT-loop
 loop-holds : tie.Need-loop-holds Inv-loop μ-loop
 loop-holds c = (omega arith, none (drop (c .before .args .at) (c .before .args .text .now)))
 
-add-is-hex-digit : tie.Need-add-is-hex-digit Inv-loop μ-loop
-add-is-hex-digit c = omega arith
-
-shared-slice-read-is-hex-digit : tie.Need-shared-slice-read-is-hex-digit Inv-loop μ-loop
-shared-slice-read-is-hex-digit c = omega arith
-
 returns : tie.Need-returns Inv-loop μ-loop
 returns c =
     let s = c .before .before .before .before .before .before .args in
     let l = c .before .before .before .before .loop in
     let fails = ap isHexDigit (getD-drop (s .at) (s .text .now) (l .i) 0) ∙ sym (c .before .is-hex-digit .ensures) ∙ not-true _ (c .if1 .taken) in
     sym (all-fails isHexDigit (drop (s .at) (s .text .now)) 0 16 (l .i) (omega arith) (omega (arith, length-drop (s .at) (s .text .now))) fails)
-
-add-i : tie.Need-add-i Inv-loop μ-loop
-add-i c = omega arith
-
-loop-less : tie.Need-loop-less Inv-loop μ-loop
-loop-less c = omega arith
 
 loop-again : tie.Need-loop-again Inv-loop μ-loop
 loop-again c =
@@ -63,4 +51,4 @@ returns-2 c =
     sym (ap (λ (k : ℕ). all isHexDigit (take k (drop (s .at) (s .text .now)))) (sixteen (l .i) (omega arith) (omega arith)) ∙ l .inv .1)
 
 pub are-hex-spec : {M : Type 1} → statement M
-are-hex-spec = tie.close (tie.spec Inv-loop μ-loop loop-holds add-is-hex-digit shared-slice-read-is-hex-digit (λ c κs. tt) returns add-i loop-less loop-again returns-2)
+are-hex-spec = tie.close (tie.spec Inv-loop μ-loop loop-holds (λ c. omega arith) (λ c. omega arith) (λ c κs. tt) returns (λ c. omega arith) (λ c. omega arith) loop-again returns-2)

@@ -33,12 +33,6 @@ shared-slice-read-digit-of c = omega (arith, c .before .before .before .before .
 add-v : tie.Need-add-v Inv-loop μ-loop
 add-v c = omega (arith, c .before .before .before .loop .inv .1, decimal-small (drop (c .before .before .before .before .before .args .at) (c .before .before .before .before .before .args .text .now)) ((c .before .before .before .loop .i) + 1) (omega (arith, c .before .before .before .before .before .pre .0, c .before .before .before .before .before .pre .2)) (omega (arith, c .before .before .before .before .before .pre .0, c .before .before .before .before .before .pre .2)), number-more 10 digitOf (drop (c .before .before .before .before .before .args .at) (c .before .before .before .before .before .args .text .now)) (c .before .before .before .loop .i) (omega (arith, c .before .before .before .before .before .pre .1, length-drop (c .before .before .before .before .before .args .at) (c .before .before .before .before .before .args .text .now))), c .digit-of .ensures, ap digitOf (getD-drop (c .before .before .before .before .before .args .at) (c .before .before .before .before .before .args .text .now) (c .before .before .before .loop .i) 0))
 
-add-i : tie.Need-add-i Inv-loop μ-loop
-add-i c = omega arith
-
-loop-less : tie.Need-loop-less Inv-loop μ-loop
-loop-less c = omega arith
-
 loop-again : tie.Need-loop-again Inv-loop μ-loop
 loop-again c = (omega arith, (λ k. (c .before .before .before .loop .inv .1) k * 10 + (c .digit-of .ensures ∙ ap digitOf (sym (getD-drop (c .before .before .before .before .before .args .at) (c .before .before .before .before .before .args .text .now) (c .before .before .before .loop .i) 0))) k) ∙ sym (number-more 10 digitOf (drop (c .before .before .before .before .before .args .at) (c .before .before .before .before .before .args .text .now)) (c .before .before .before .loop .i) (omega (arith, c .before .before .before .before .before .pre .1, length-drop (c .before .before .before .before .before .args .at) (c .before .before .before .before .before .args .text .now)))))
 
@@ -46,4 +40,4 @@ returns : tie.Need-returns Inv-loop μ-loop
 returns c = c .before .loop .inv .1 ∙ ap (λ (k : ℕ). number 10 digitOf 0 (take k (drop (c .before .before .before .args .at) (c .before .before .before .args .text .now)))) (same (c .before .loop .i) (c .before .before .before .args .n) (omega arith) (omega arith))
 
 pub decimal-value-spec : {M : Type 1} → statement M
-decimal-value-spec = tie.close (tie.spec Inv-loop μ-loop loop-holds mul-v add-digit-of shared-slice-read-digit-of (λ c κs. tt) add-v add-i loop-less loop-again returns)
+decimal-value-spec = tie.close (tie.spec Inv-loop μ-loop loop-holds mul-v add-digit-of shared-slice-read-digit-of (λ c κs. tt) add-v (λ c. omega arith) (λ c. omega arith) loop-again returns)

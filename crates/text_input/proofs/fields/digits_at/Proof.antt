@@ -21,20 +21,8 @@ loop-holds c = (omega (arith, c .before .pre), seen-none (c .before .args .text 
 add-loop : tie.Need-add-loop Inv-loop μ-loop
 add-loop c = omega (arith, c .loop .inv .0, c .loop .inv .1, digits-within (drop (c .before .before .args .at) (c .before .before .args .text .now)), length-drop (c .before .before .args .at) (c .before .before .args .text .now), c .before .before .pre)
 
-add-is-digit : tie.Need-add-is-digit Inv-loop μ-loop
-add-is-digit c = omega arith
-
-shared-slice-read-is-digit : tie.Need-shared-slice-read-is-digit Inv-loop μ-loop
-shared-slice-read-is-digit c = omega arith
-
 returns : tie.Need-returns Inv-loop μ-loop
 returns c = (seen-stop (c .before .before .before .before .before .before .args .text .now) (c .before .before .before .before .before .before .args .at) (c .before .before .before .before .loop .n) (c .before .before .before .loop-test .taken) (sym (c .before .is-digit .ensures) ∙ not-true _ (c .if1 .taken)) (c .before .before .before .before .loop .inv .1), omega arith)
-
-add-n : tie.Need-add-n Inv-loop μ-loop
-add-n c = omega arith
-
-loop-less : tie.Need-loop-less Inv-loop μ-loop
-loop-less c = omega arith
 
 loop-again : tie.Need-loop-again Inv-loop μ-loop
 loop-again c = (omega arith, seen-next (c .before .before .before .before .before .before .args .text .now) (c .before .before .before .before .before .before .args .at) (c .before .before .before .before .loop .n) (c .before .before .before .loop-test .taken) (sym (c .before .is-digit .ensures) ∙ not-false _ (c .if1 .left)) (c .before .before .before .before .loop .inv .1))
@@ -46,4 +34,4 @@ returns-2 c =
     (e, omega (arith, e, digits-within (drop (s .at) (s .text .now)), length-drop (s .at) (s .text .now)))
 
 pub digits-at-spec : {M : Type 1} → statement M
-digits-at-spec = tie.close (tie.spec Inv-loop μ-loop loop-holds add-loop add-is-digit shared-slice-read-is-digit (λ c κs. tt) returns add-n loop-less loop-again returns-2)
+digits-at-spec = tie.close (tie.spec Inv-loop μ-loop loop-holds add-loop (λ c. omega arith) (λ c. omega arith) (λ c κs. tt) returns (λ c. omega arith) (λ c. omega arith) loop-again returns-2)

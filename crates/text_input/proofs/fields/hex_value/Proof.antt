@@ -33,12 +33,6 @@ shared-slice-read-hex-digit-of c = omega (arith, c .before .before .before .befo
 add-v : tie.Need-add-v Inv-loop μ-loop
 add-v c = omega (arith, c .before .before .before .loop .inv .1, hex-small (drop (c .before .before .before .before .before .args .at) (c .before .before .before .before .before .args .text .now)) ((c .before .before .before .loop .i) + 1) (c .before .before .before .before .before .pre .1) (omega arith), number-more 16 hexDigitOf (drop (c .before .before .before .before .before .args .at) (c .before .before .before .before .before .args .text .now)) (c .before .before .before .loop .i) (omega (arith, c .before .before .before .before .before .pre .0, length-drop (c .before .before .before .before .before .args .at) (c .before .before .before .before .before .args .text .now))), c .hex-digit-of .ensures, ap hexDigitOf (getD-drop (c .before .before .before .before .before .args .at) (c .before .before .before .before .before .args .text .now) (c .before .before .before .loop .i) 0))
 
-add-i : tie.Need-add-i Inv-loop μ-loop
-add-i c = omega arith
-
-loop-less : tie.Need-loop-less Inv-loop μ-loop
-loop-less c = omega arith
-
 loop-again : tie.Need-loop-again Inv-loop μ-loop
 loop-again c = (omega arith, (λ k. (c .before .before .before .loop .inv .1) k * 16 + (c .hex-digit-of .ensures ∙ ap hexDigitOf (sym (getD-drop (c .before .before .before .before .before .args .at) (c .before .before .before .before .before .args .text .now) (c .before .before .before .loop .i) 0))) k) ∙ sym (number-more 16 hexDigitOf (drop (c .before .before .before .before .before .args .at) (c .before .before .before .before .before .args .text .now)) (c .before .before .before .loop .i) (omega (arith, c .before .before .before .before .before .pre .0, length-drop (c .before .before .before .before .before .args .at) (c .before .before .before .before .before .args .text .now)))))
 
@@ -46,4 +40,4 @@ returns : tie.Need-returns Inv-loop μ-loop
 returns c = c .before .loop .inv .1 ∙ ap (λ (k : ℕ). number 16 hexDigitOf 0 (take k (drop (c .before .before .before .args .at) (c .before .before .before .args .text .now)))) (same (c .before .loop .i) 16 (omega arith) (omega arith))
 
 pub hex-value-spec : {M : Type 1} → statement M
-hex-value-spec = tie.close (tie.spec Inv-loop μ-loop loop-holds mul-v add-hex-digit-of shared-slice-read-hex-digit-of (λ c κs. tt) add-v add-i loop-less loop-again returns)
+hex-value-spec = tie.close (tie.spec Inv-loop μ-loop loop-holds mul-v add-hex-digit-of shared-slice-read-hex-digit-of (λ c κs. tt) add-v (λ c. omega arith) (λ c. omega arith) loop-again returns)

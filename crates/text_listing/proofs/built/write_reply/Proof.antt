@@ -4,16 +4,10 @@ use borrow.Author.Needs.{needs}
 use Rattle.text_listing.proofs.built.write_reply.Statement.{statement}
 use Rattle.text_listing.proofs.built.write_reply.Tie as tie
 
-same-length : tie.Need-same-length
-same-length c = c .before .text .given
-
 returns : tie.Need-returns
 returns c =
     let s = c .before .before .before .before .before .before .before .before .before .before .before .before .args in
     refused-reply _ _ _ _ _ _ _ _ _ (s .reply) _ (c .before .before .write-refusal .ensures) (let t = c .before .before .before .before .before .reply .given in let u = c .before .before .before .before .known-told .given in cc)
-
-same-length-2 : tie.Need-same-length-2
-same-length-2 c = c .before .text2 .given
 
 returns-2 : tie.Need-returns-2
 returns-2 c =
@@ -21,4 +15,4 @@ returns-2 c =
     crossed-reply _ _ _ _ _ _ _ _ _ (s .reply) _ (c .before .before .write-listing .ensures) (let t = c .before .before .before .before .before .reply2 .given in let u = c .before .before .before .before .known-told2 .given in cc)
 
 pub write-reply-spec : {M : Type 1} → statement M
-write-reply-spec = tie.close (tie.spec (λ c. search needs) (λ c κs. tt) (λ c. search needs) (λ c κs. search needs) same-length returns same-length-2 returns-2)
+write-reply-spec = tie.close (tie.spec (λ c. search needs) (λ c κs. tt) (λ c. search needs) (λ c κs. search needs) (λ c. c .before .text .given) returns (λ c. c .before .text2 .given) returns-2)

@@ -22,16 +22,10 @@ write-reply-requires c κs =
     let w = lengths _ _ _ _ _ _ _ _ _ _ _ (holds-weights _ _ _ _ _ _ _ _ _ _ _ h _ _ (c .before .before .before .before .before .before .store-weights .ensures)) in
     ((h .few-vertices, w .3, h .few-edges, w .0, w .1), w .2)
 
-same-length : tie.Need-same-length
-same-length c = c .before .before .before .before .before .before .before .before .weights .given
-
-same-length-2 : tie.Need-same-length-2
-same-length-2 c = c .before .text .given
-
 returns : tie.Need-returns
 returns c =
     let h = c .before .before .before .before .before .before .before .before .before .before .before .before .before .before .before .before .before .pre .0 in
     listed-reply _ _ _ _ _ _ _ _ _ (c .before .before .before .before .before .crossing-of .result) _ _ (holds-weights _ _ _ _ _ _ _ _ _ _ _ h _ _ (c .before .before .before .before .before .before .before .before .before .store-weights .ensures)) (c .before .before .before .before .before .crossing-of .ensures) (c .before .before .write-reply .ensures)
 
 pub write-weighed-spec : {M : Type 1} → statement M
-write-weighed-spec = tie.close (tie.spec store-weights-requires crossing-of-requires write-reply-requires same-length same-length-2 returns)
+write-weighed-spec = tie.close (tie.spec store-weights-requires crossing-of-requires write-reply-requires (λ c. c .before .before .before .before .before .before .before .before .weights .given) (λ c. c .before .text .given) returns)

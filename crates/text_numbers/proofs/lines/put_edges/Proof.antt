@@ -31,18 +31,12 @@ put-edge-requires c κs =
 add-e : tie.Need-add-e Inv-loop μ-loop
 add-e c = omega (arith, c .before .before .before .before .before .before .before .before .before .before .pre .1)
 
-loop-less : tie.Need-loop-less Inv-loop μ-loop
-loop-less c = omega arith
-
 loop-again : tie.Need-loop-again Inv-loop μ-loop
 loop-again c =
     let s = c .before .before .before .before .before .before .before .before .before .before .args in
     let l = c .before .before .before .before .before .loop in
     let p = c .before .before .put-edge .ensures in
     (omega arith, long-kept p ∙ l .inv .1, more (edgeLine (s .ends-a .now) (s .ends-b .now) (s .weights .now)) (l .e) (l .inv .2) p)
-
-same-length : tie.Need-same-length Inv-loop μ-loop
-same-length c = c .before .loop .inv .1
 
 returns : tie.Need-returns Inv-loop μ-loop
 unfolding edgeLines
@@ -53,4 +47,4 @@ returns c =
     renamed (ap (λ (k : ℕ). joined k (edgeLine (s .ends-a .now) (s .ends-b .now) (s .weights .now))) all) (l .inv .2)
 
 pub put-edges-spec : {M : Type 1} → statement M
-put-edges-spec = tie.close (tie.spec Inv-loop μ-loop loop-holds put-edge-requires add-e loop-less loop-again same-length returns)
+put-edges-spec = tie.close (tie.spec Inv-loop μ-loop loop-holds put-edge-requires add-e (λ c. omega arith) loop-again (λ c. c .before .loop .inv .1) returns)

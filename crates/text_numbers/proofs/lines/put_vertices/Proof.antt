@@ -30,18 +30,12 @@ put-vertex-requires c κs =
 add-v : tie.Need-add-v Inv-loop μ-loop
 add-v c = omega (arith, c .before .before .before .before .before .before .before .before .pre .1)
 
-loop-less : tie.Need-loop-less Inv-loop μ-loop
-loop-less c = omega arith
-
 loop-again : tie.Need-loop-again Inv-loop μ-loop
 loop-again c =
     let s = c .before .before .before .before .before .before .before .before .args in
     let l = c .before .before .before .before .before .loop in
     let p = c .before .before .put-vertex .ensures in
     (omega arith, long-kept p ∙ l .inv .1, more (vertexLine (s .boundary .now)) (l .v) (l .inv .2) p)
-
-same-length : tie.Need-same-length Inv-loop μ-loop
-same-length c = c .before .loop .inv .1
 
 returns : tie.Need-returns Inv-loop μ-loop
 unfolding vertexLines
@@ -52,4 +46,4 @@ returns c =
     renamed (ap (λ (k : ℕ). joined k (vertexLine (s .boundary .now))) all) (l .inv .2)
 
 pub put-vertices-spec : {M : Type 1} → statement M
-put-vertices-spec = tie.close (tie.spec Inv-loop μ-loop loop-holds put-vertex-requires add-v loop-less loop-again same-length returns)
+put-vertices-spec = tie.close (tie.spec Inv-loop μ-loop loop-holds put-vertex-requires add-v (λ c. omega arith) loop-again (λ c. c .before .loop .inv .1) returns)

@@ -30,9 +30,6 @@ returns c =
       writes = sym (after-refused (setEachRefusal (s .met) (s .edge-num) (s .column .now)) (replicate (s .edge-num) (s .value)) (s .column .now) (λ e. c .before .if1 .taken (is ∙ e)));
     }
 
-same-length : tie.Need-same-length
-same-length c = c .before .column .given
-
 returns-2 : tie.Need-returns-2
 returns-2 c =
     let s = c .before .before .before .before .before .before .before .before .before .before .before .args in
@@ -46,4 +43,4 @@ returns-2 c =
     }
 
 pub set-each-spec : {M : Type 1} → statement M
-set-each-spec = tie.close (tie.spec (λ c κs. tt) (λ c. search needs) (λ c κs. tt) (λ c κs. tt) (λ c κs. tt) (λ c κs. tt) (λ c κs. tt) returns (λ c κs. tt) same-length returns-2)
+set-each-spec = tie.close (tie.spec (λ c κs. tt) (λ c. search needs) (λ c κs. tt) (λ c κs. tt) (λ c κs. tt) (λ c κs. tt) (λ c κs. tt) returns (λ c κs. tt) (λ c. c .before .column .given) returns-2)

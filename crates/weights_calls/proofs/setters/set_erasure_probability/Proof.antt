@@ -3,11 +3,8 @@ use Rattle.weights_calls.proofs.Tested.{tested}
 use Rattle.weights_calls.proofs.setters.set_erasure_probability.Statement.{statement}
 use Rattle.weights_calls.proofs.setters.set_erasure_probability.Tie as tie
 
-same-length : tie.Need-same-length
-same-length c = c .before .column .given
-
 returns : tie.Need-returns
 returns c = tested (c .before .before .before .before .is-erasure-probability .ensures) (c .before .before .set-each .ensures)
 
 pub set-erasure-probability-spec : {M : Type 1} → statement M
-set-erasure-probability-spec = tie.close (tie.spec (λ c κs. tt) (λ c κs. tt) same-length returns)
+set-erasure-probability-spec = tie.close (tie.spec (λ c κs. tt) (λ c κs. tt) (λ c. c .before .pe .given) returns)

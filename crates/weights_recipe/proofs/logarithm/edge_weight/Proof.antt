@@ -22,12 +22,6 @@ returns c = infinite ∙ sym (at-zero (c .before .args .p) (c .if1 .taken))
 loop-holds : tie.Need-loop-holds Inv-loop μ-loop
 loop-holds c = (omega arith, refl)
 
-add-k : tie.Need-add-k Inv-loop μ-loop
-add-k c = omega arith
-
-loop-less : tie.Need-loop-less Inv-loop μ-loop
-loop-less c = omega arith
-
 loop-again : tie.Need-loop-again Inv-loop μ-loop
 loop-again c = (omega arith, turn (c .before .before .loop .k) (c .before .before .loop .q) (c .before .loop-test .taken) (c .if2 .left) ∙ c .before .before .loop .inv .1)
 
@@ -41,4 +35,4 @@ returns-2 c =
     last-line k q (c .before .sum-series .result) (c .before .sum-series .ensures) ∙ past-zero (at-loop .before .before .args .p) (ended k q) (at-loop .before .if1 .left) (is ∙ at-loop .loop .inv .1)
 
 pub edge-weight-spec : {M : Type 1} → statement M
-edge-weight-spec = tie.close (tie.spec Inv-loop μ-loop returns loop-holds add-k loop-less loop-again (λ c κs. tt) (λ c. search needs) returns-2)
+edge-weight-spec = tie.close (tie.spec Inv-loop μ-loop returns loop-holds (λ c. omega arith) (λ c. omega arith) loop-again (λ c κs. tt) (λ c. search needs) returns-2)

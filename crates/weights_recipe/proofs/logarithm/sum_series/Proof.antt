@@ -31,18 +31,6 @@ abbrev μ-loop : tie.MeasureT-loop
 loop-holds : tie.Need-loop-holds Inv-loop μ-loop
 loop-holds c = (omega arith, refl)
 
-sub-n : tie.Need-sub-n Inv-loop μ-loop
-sub-n c = omega arith
-
-mul-h : tie.Need-mul-h Inv-loop μ-loop
-mul-h c = omega arith
-
-add-h : tie.Need-add-h Inv-loop μ-loop
-add-h c = omega arith
-
-loop-less : tie.Need-loop-less Inv-loop μ-loop
-loop-less c = omega arith
-
 loop-again : tie.Need-loop-again Inv-loop μ-loop
 loop-again c = (omega arith, step (c .before .before .loop .n) _ _ (c .before .loop-test .taken) ∙ c .before .before .loop .inv .1)
 
@@ -50,4 +38,4 @@ returns : tie.Need-returns Inv-loop μ-loop
 returns c = sym (end _ _ _ (c .loop-test .left)) ∙ c .before .loop .inv .1
 
 pub sum-series-spec : {M : Type 1} → statement M
-sum-series-spec = tie.close (tie.spec Inv-loop μ-loop loop-holds sub-n mul-h add-h (λ c. search needs) loop-less loop-again returns)
+sum-series-spec = tie.close (tie.spec Inv-loop μ-loop loop-holds (λ c. omega arith) (λ c. omega arith) (λ c. omega arith) (λ c. search needs) (λ c. omega arith) loop-again returns)

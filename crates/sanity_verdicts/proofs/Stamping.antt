@@ -9,13 +9,13 @@ use borrow.Author.Tests.{eq-eqb, ne-eqb, eqb-true}
 use lib.Dec.{eqb}
 use lib.ListN.{length, getD, set, take, drop, length-set, length-take, length-drop}
 use lib.Seq.{getD-set-same, getD-set-other, getD-take, getD-drop}
 use Rattle.sanity_verdicts.specs.declared.Verdict.{Verdict}
 use Rattle.sanity_verdicts.specs.declared.Verdict.the-variants.{Sound, NoEdges, EdgeTwice}
 use Rattle.sanity_verdicts.specs.Sanity.{edgeNumbered, vertexNumbered, firstOf, foundIf, twice, atVertex}
 use Rattle.columns_neighbors.specs.Lists.{sumTo, listAt}
 use Rattle.sanity_verdicts.specs.Steps.{isSound}
-use Rattle.sanity_lists.specs.Steps.{Seen, Stamped, Below}
+use Rattle.sanity_verdicts.specs.ListSteps.{Seen, Stamped, Below}
 use Rattle.sanity_verdicts.proofs.Scans.{first-next, first-stop, first-all, first-any, found-false}
 
 module _ (numbers : List ℕ) (start : ℕ) where
   -- seen at place j, and nowhere

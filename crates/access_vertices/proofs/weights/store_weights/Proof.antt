@@ -1,4 +1,4 @@
--- `access_weights::store_weights` meets its contract. Invariant: the weights of the first k edges are stored. Assumes nothing.
+-- `access_vertices::weights::store_weights` meets its contract. Invariant: the weights of the first k edges are stored. Assumes nothing.
 use mathlib.Core.Path.{_≡_, refl, sym, ap, _∙_}
 use Prim.Native.Nat.{ℕ, _+_, _-_, _*_, _≤_, _<_}
 use native.Mathlib.Omega.{arith}
@@ -7,10 +7,10 @@ use lib.Seq.{sets, length-sets}
 use Rattle.columns.specs.Lists.{each, over}
 use Rattle.columns.proofs.Columns.{sets-more, sets-over}
 use Rattle.columns.proofs.Counting.{each-more, length-each}
-use Rattle.access_weights.specs.Weights.{weights}
+use Rattle.access_vertices.specs.Weights.{weights}
 use borrow.Author.Needs.{needs}
-use Rattle.access_weights.proofs.store_weights.Statement.{statement}
-use Rattle.access_weights.proofs.store_weights.Tie as tie
+use Rattle.access_vertices.proofs.weights.store_weights.Statement.{statement}
+use Rattle.access_vertices.proofs.weights.store_weights.Tie as tie
 
 abbrev Inv-loop : tie.InvT-loop
 Inv-loop half-weight n weight₀ k₀ weight k =
@@ -38,9 +38,6 @@ loop-again c =
     let next = ap (λ r. set r (l .k) (f (l .k))) (l .inv .2) ∙ sym (sets-more (s .weight .now) (each (l .k) f) (l .k) (f (l .k)) (length-each (l .k) f)) ∙ ap (sets (s .weight .now) 0) (sym (each-more (l .k) f)) in
     (omega arith, ap length next ∙ length-sets (s .weight .now) 0 (each (l .k + 1) f), next)
 
-same-length : tie.Need-same-length Inv-loop μ-loop
-same-length c = c .before .loop .inv .1
-
 returns : tie.Need-returns Inv-loop μ-loop
 unfolding weights
 returns c =
@@ -51,4 +48,4 @@ returns c =
     l .inv .2 ∙ sets-over (s .args .weight .now) (each (l .k) f) (omega (arith, length-each (l .k) f, s .pre .0)) ∙ ap (λ (n : ℕ). over (each n f) (s .args .weight .now)) all
 
 pub store-weights-spec : {M : Type 1} → statement M
-store-weights-spec = tie.close (tie.spec Inv-loop μ-loop loop-holds (λ c. search needs) (λ c. search needs) mul-weight-2 (λ c. search needs) slice-write-weight (λ c. search needs) (λ c. search needs) loop-again same-length returns)
+store-weights-spec = tie.close (tie.spec Inv-loop μ-loop loop-holds (λ c. search needs) (λ c. search needs) mul-weight-2 (λ c. search needs) slice-write-weight (λ c. search needs) (λ c. search needs) loop-again (λ c. c .before .loop .inv .1) returns)

@@ -4,7 +4,7 @@ ghost use mathlib.Core.Path.{_≡_};
 ghost use Prim.Native.Nat.{ℕ, _<_, _≤_};
 ghost use lib.ListN.{length, getD};
 ghost use Rattle.columns.specs.Lists.{over};
-ghost use Rattle.access_weights.specs.Weights.{weights};
+ghost use Rattle.access_vertices.specs.Weights.{weights};
 
 // Stores twice the half weight of each of the first n edges.
 pub fn store_weights(half_weight: &[Weight], n: usize, weight: &mut [Weight])

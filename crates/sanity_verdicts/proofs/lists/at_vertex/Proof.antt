@@ -1,17 +1,14 @@
--- `sanity_lists::at_vertex` meets its contract. Assumes nothing.
+-- `sanity_verdicts::lists::at_vertex` meets its contract. Assumes nothing.
 use mathlib.Core.Path.{_∙_}
-use Rattle.sanity_lists.proofs.Stamping.{no-edges, some-edges, below-more}
+use Rattle.sanity_verdicts.proofs.Stamping.{no-edges, some-edges, below-more}
 use borrow.Author.Needs.{needs}
-use Rattle.sanity_lists.proofs.at_vertex.Statement.{statement}
-use Rattle.sanity_lists.proofs.at_vertex.Tie as tie
+use Rattle.sanity_verdicts.proofs.lists.at_vertex.Statement.{statement}
+use Rattle.sanity_verdicts.proofs.lists.at_vertex.Tie as tie
 
 returns : tie.Need-returns
 returns c =
     let s = c .before .before .before in
     (no-edges _ (s .args .len) (s .args .v) (c .if1 .taken), below-more (s .args .v) (s .pre .1))
-
-same-length : tie.Need-same-length
-same-length c = c .before .mark .given
 
 returns-2 : tie.Need-returns-2
 returns-2 c =
@@ -20,4 +17,4 @@ returns-2 c =
     (t .0 ∙ some-edges _ (s .args .len) (s .args .v) (c .before .before .before .before .if1 .left), t .1)
 
 pub at-vertex-spec : {M : Type 1} → statement M
-at-vertex-spec = tie.close (tie.spec returns (λ c κs. search needs) same-length returns-2)
+at-vertex-spec = tie.close (tie.spec returns (λ c κs. search needs) (λ c. c .before .mark .given) returns-2)

@@ -10,7 +10,7 @@ use lib.Seq.{take-suc}
 use lib.Dec.{eqb}
 use borrow.Author.Tests.{eqb-true}
 use Rattle.engine_walks.specs.Graph.{Graph, endA, endB}
-use Rattle.engine_walks.specs.Settling.{State, offer, relaxEdge, relax}
+use Rattle.engine_walks.specs.Settling.{State, offer, relaxEdge, relax, relaxAlong}
 
 -- edge k, if its end x is a
 abbrev pub endsAt : (a x k : ℕ) → List ℕ
@@ -27,11 +27,6 @@ pub incident-is : (g : Graph) (a : ℕ) (l : ℕ → List ℕ) → l 0 ≡ []
 unfolding incident
 incident-is g a l p q zero = p
 incident-is g a l p q (suc k) = q k ∙ ap (λ s. s ++ (endsAt a (endA g k) k ++ endsAt a (endB g k) k)) (incident-is g a l p q k)
-
--- the offers of a, which was taken with weight W and previous q, along the listed edges
-unfoldable pub relaxAlong : (g : Graph) (w : ℕ → ℕ) (a q W : ℕ) → List ℕ → State → State
-relaxAlong g w a q W [] s = s
-relaxAlong g w a q W (e ∷ l) s = relaxAlong g w a q W l (relaxEdge g w a q W e s)
 
 module _ (g : Graph) (w : ℕ → ℕ) (a q W : ℕ) where
   along-append : (l m : List ℕ) (s : State) → relaxAlong g w a q W (l ++ m) s ≡ relaxAlong g w a q W m (relaxAlong g w a q W l s)

@@ -19,12 +19,12 @@ use Rattle.query_questions.specs.Queries.{graphIn, weightsIn, queryRefusal}
 use Rattle.query_questions.specs.Scratch.{ScratchColumns, ScratchAfter}
 use Rattle.query_tables.specs.Ends.{endIn, endInRange}
 
--- the number of the first question of a table query that is not met, or 0; `scratch` says whether scratch is long enough
+-- Questions at the door, 6, 7 and 13, in order, of a table query: the number of the first that is not met, or 0; `scratch` says whether scratch is long enough.
 abbrev pub tableRefusal : Engine → (scratch : Bool) (source : ℕ) → End → (weights previous : ℕ) → ℕ
 tableRefusal e scratch source end weights previous =
     queryRefusal e (leb (e .counts .vertices) weights && (leb (e .counts .vertices) previous && scratch)) (ltb source (e .counts .vertices) && endInRange end (e .counts .vertices)) 0
 
--- the answer, and both columns of the table
+-- Engine, Table: the answer of `all_edges_with_terminate`, and both columns.
 pub record TableStep (e : Engine) (scratch : Bool) (source : ℕ) (end : End) (r : Done) (weights₀ : List ℤ) (previous₀ : List ℕ) (weights : List ℤ) (previous : List ℕ) : Type 0 where
   pub answer : Answered (said r) (tableRefusal e scratch source end (length weights₀) (length previous₀)) tt tt
   pub weights-after : weights ≡ after (tableRefusal e scratch source end (length weights₀) (length previous₀)) (table (graphIn e) (weightsIn e) source (endIn end) .weights) weights₀
@@ -34,8 +34,8 @@ pub record TableStep (e : Engine) (scratch : Bool) (source : ℕ) (end : End) (r
 abbrev pub TableScratch : Engine → (source : ℕ) → End → Done → ScratchColumns → ScratchColumns → Type 0
 TableScratch e source end r s₀ s = ScratchAfter (said r .number) (graphIn e) (settled (graphIn e) (weightsIn e) (only source) (endIn end)) s₀ s
 
--- Engine, Table, and Crossing, last sentence: what a table from v with no end leaves where it serves another call: the two columns of the table and scratch, by the number of that
--- call's answer. A refused call leaves them as they were.
+-- Engine, Table, and Crossing, last sentence: what a table from v with no end leaves where it serves another call: the two columns of the table and scratch, by
+-- the number of that call's answer. A refused call leaves them as they were.
 pub record TableInside (number : ℕ) (e : Engine) (v : ℕ) (least₀ : List ℤ) (before₀ : List ℕ) (s₀ : ScratchColumns) (least : List ℤ) (before : List ℕ) (s : ScratchColumns) : Type 0 where
   pub least-after : least ≡ after number (table (graphIn e) (weightsIn e) v none .weights) least₀
   pub before-after : before ≡ after number (table (graphIn e) (weightsIn e) v none .previous) before₀

@@ -2,14 +2,14 @@
 ghost use mathlib.Core.Path.{_≡_};
 ghost use Prim.Native.Nat.{_+_, _<_, _≤_};
 ghost use lib.ListN.{length, getD, take, drop};
 ghost use Rattle.sanity_verdicts.specs.Sanity.{firstOf, twice, atVertex};
 ghost use Rattle.columns_neighbors.specs.Lists.{sumTo, listAt};
-ghost use Rattle.sanity_lists.specs.Steps.{Seen, Stamped, Below};
+ghost use Rattle.sanity_verdicts.specs.ListSteps.{Seen, Stamped, Below};
+use super::Verdict;
+use super::is_sound;
 use columns::EdgeIndex;
 use columns::VertexIndex;
 use columns::wide;
-use sanity_verdicts::Verdict;
-use sanity_verdicts::is_sound;
 
 // Whether x is one of the first i numbers from place start on.
 fn stands_before(numbers: &[u32], start: usize, i: usize, x: u32) -> bool

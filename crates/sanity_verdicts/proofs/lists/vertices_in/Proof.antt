@@ -1,22 +1,22 @@
--- `sanity_lists::vertices_in` meets its contract. Invariant: no finding at the first v vertices; start is where the list of v starts; no stamp is above v. Assumes nothing.
+-- `sanity_verdicts::lists::vertices_in` meets its contract. Invariant: no finding at the first v vertices; start is where the list of v starts; no stamp is above v. Assumes nothing.
 use mathlib.Core.Path.{_≡_, refl, sym, ap, _∙_}
 use mathlib.Core.List.{List}
 use Prim.Native.Nat.{ℕ, _+_, _-_, _≤_, _<_}
 use native.Mathlib.Omega.{arith}
 use lib.ListN.{length, getD}
 use borrow.Author.Tests.{not-true, not-false}
 use Rattle.sanity_verdicts.specs.declared.Verdict.{Verdict}
 use Rattle.sanity_verdicts.specs.declared.Verdict.the-variants.{Sound}
 use Rattle.sanity_verdicts.specs.Sanity.{firstOf, atVertex}
 use Rattle.columns_neighbors.specs.Lists.{sumTo, listAt}
 use Rattle.sanity_verdicts.specs.Steps.{isSound}
-use Rattle.sanity_lists.specs.Steps.{Below}
+use Rattle.sanity_verdicts.specs.ListSteps.{Below}
 use Rattle.sanity_verdicts.proofs.Scans.{sound-of, first-none, first-next, first-stop}
 use Rattle.columns_neighbors.proofs.Placing.{sum-more, sum-ascends}
-use Rattle.sanity_lists.proofs.Stamping.{vertex-is}
+use Rattle.sanity_verdicts.proofs.Stamping.{vertex-is}
 use borrow.Author.Needs.{needs}
-use Rattle.sanity_lists.proofs.vertices_in.Statement.{statement}
-use Rattle.sanity_lists.proofs.vertices_in.Tie as tie
+use Rattle.sanity_verdicts.proofs.lists.vertices_in.Statement.{statement}
+use Rattle.sanity_verdicts.proofs.lists.vertices_in.Tie as tie
 
 -- the finding at vertex u
 abbrev finding : List ℕ → List ℕ → ℕ → Verdict

@@ -1,13 +1,13 @@
--- `sanity_lists::stands_before` meets its contract. Invariant: x is none of the first j numbers. Assumes nothing.
+-- `sanity_verdicts::lists::stands_before` meets its contract. Invariant: x is none of the first j numbers. Assumes nothing.
 use mathlib.Core.Path.{_≡_}
 use Prim.Native.Nat.{ℕ, _+_, _-_, _≤_, _<_}
 use native.Mathlib.Omega.{arith}
 use lib.ListN.{getD}
 use Rattle.sanity_verdicts.proofs.Scans.{below-next}
-use Rattle.sanity_lists.proofs.Stamping.{seen-at, seen-none}
+use Rattle.sanity_verdicts.proofs.Stamping.{seen-at, seen-none}
 use borrow.Author.Needs.{needs}
-use Rattle.sanity_lists.proofs.stands_before.Statement.{statement}
-use Rattle.sanity_lists.proofs.stands_before.Tie as tie
+use Rattle.sanity_verdicts.proofs.lists.stands_before.Statement.{statement}
+use Rattle.sanity_verdicts.proofs.lists.stands_before.Tie as tie
 
 abbrev Inv-loop : tie.InvT-loop
 Inv-loop numbers start i x j₀ j = (j ≤ i) × ((m : ℕ) → m < j → getD numbers (start + m) 0 ≡ x → ⊥)

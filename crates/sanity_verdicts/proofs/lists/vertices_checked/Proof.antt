@@ -1,11 +1,11 @@
--- `sanity_lists::vertices_checked` meets its contract. Assumes nothing.
+-- `sanity_verdicts::lists::vertices_checked` meets its contract. Assumes nothing.
 use Prim.Native.Nat.{ℕ}
 use native.Mathlib.Omega.{arith}
 use lib.ListN.{length-replicate}
 use Rattle.columns_pairs.proofs.PairTests.{zeros-at}
 use borrow.Author.Needs.{needs}
-use Rattle.sanity_lists.proofs.vertices_checked.Statement.{statement}
-use Rattle.sanity_lists.proofs.vertices_checked.Tie as tie
+use Rattle.sanity_verdicts.proofs.lists.vertices_checked.Statement.{statement}
+use Rattle.sanity_verdicts.proofs.lists.vertices_checked.Tie as tie
 
 vertices-in-requires : tie.Need-vertices-in-requires
 vertices-in-requires c κs =

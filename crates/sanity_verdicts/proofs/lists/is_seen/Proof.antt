@@ -1,9 +1,9 @@
--- `sanity_lists::is_seen` meets its contract. Assumes nothing.
+-- `sanity_verdicts::lists::is_seen` meets its contract. Assumes nothing.
 use native.Mathlib.Omega.{arith}
-use Rattle.sanity_lists.proofs.Stamping.{seen-stamp}
+use Rattle.sanity_verdicts.proofs.Stamping.{seen-stamp}
 use borrow.Author.Needs.{needs}
-use Rattle.sanity_lists.proofs.is_seen.Statement.{statement}
-use Rattle.sanity_lists.proofs.is_seen.Tie as tie
+use Rattle.sanity_verdicts.proofs.lists.is_seen.Statement.{statement}
+use Rattle.sanity_verdicts.proofs.lists.is_seen.Tie as tie
 
 shared-slice-read-result : tie.Need-shared-slice-read-result
 shared-slice-read-result c = omega (arith, c .before .before .before .before .pre .1 .len)

@@ -1,8 +1,8 @@
--- `sanity_lists::stamp_next` meets its contract. Assumes nothing.
-use Rattle.sanity_lists.proofs.Stamping.{stamp-one, stamp-none}
+-- `sanity_verdicts::lists::stamp_next` meets its contract. Assumes nothing.
+use Rattle.sanity_verdicts.proofs.Stamping.{stamp-one, stamp-none}
 use borrow.Author.Needs.{needs}
-use Rattle.sanity_lists.proofs.stamp_next.Statement.{statement}
-use Rattle.sanity_lists.proofs.stamp_next.Tie as tie
+use Rattle.sanity_verdicts.proofs.lists.stamp_next.Statement.{statement}
+use Rattle.sanity_verdicts.proofs.lists.stamp_next.Tie as tie
 
 returns : tie.Need-returns
 returns c =

@@ -1,12 +1,12 @@
--- `sanity_lists::twice_in` meets its contract. Invariant: the first i numbers are stamped, and none of them stands there twice. Assumes nothing.
+-- `sanity_verdicts::lists::twice_in` meets its contract. Invariant: the first i numbers are stamped, and none of them stands there twice. Assumes nothing.
 use mathlib.Core.Path.{_≡_, refl, sym, _∙_, subst}
 use Prim.Native.Nat.{ℕ, _+_, _-_, _≤_, _<_}
 use native.Mathlib.Omega.{arith}
-use Rattle.sanity_lists.specs.Steps.{Stamped}
-use Rattle.sanity_lists.proofs.Stamping.{part, NoneTwice, none-start, none-next, twice-stop, twice-none, stamp-new, stamp-below}
+use Rattle.sanity_verdicts.specs.ListSteps.{Stamped}
+use Rattle.sanity_verdicts.proofs.Stamping.{part, NoneTwice, none-start, none-next, twice-stop, twice-none, stamp-new, stamp-below}
 use borrow.Author.Needs.{needs}
-use Rattle.sanity_lists.proofs.twice_in.Statement.{statement}
-use Rattle.sanity_lists.proofs.twice_in.Tie as tie
+use Rattle.sanity_verdicts.proofs.lists.twice_in.Statement.{statement}
+use Rattle.sanity_verdicts.proofs.lists.twice_in.Tie as tie
 
 abbrev Inv-loop : tie.InvT-loop
 Inv-loop numbers start len v mark₀ stamp i₀ mark i =

@@ -1,2 +1,0 @@
--- Weights: twice the half weights.
-pub mod Weights

@@ -1,2 +1,0 @@
--- Stamping: numbers twice in a list.
-pub mod Stamping

@@ -1,2 +1,0 @@
--- Steps: what the contracts of private functions cite besides.
-pub mod Steps

@@ -8,7 +8,7 @@ use lib.ListN.{length, take}
 use Rattle.columns.specs.Lists.{after}
 use Rattle.columns.specs.Questions.{ask, allBelow, vertexCountSound, edgeCountSound, marksSound, halfWeightsSound}
 use Rattle.columns_answers.specs.Said.{Answered}
-use Rattle.columns_answers.specs.Done.{said}
+use Rattle.columns_answers.specs.Done.{doneSaid}
 use Rattle.columns.specs.declared.Done.{Done}
 use Rattle.columns_room.specs.Graph.{codeGraph, codeSound}
 use Rattle.columns_room.specs.Room.{twoLong, threeLong}
@@ -73,7 +73,7 @@ setMarksRefusal sound n list column = ask (leb n (length column)) 6 (ask sound 7
 
 -- Taken over, the trait `ExampleCode`: the bytes that the list names are 1, the others 0; the answer, and the column afterwards.
 pub record SetMarks (sound : Bool) (n : ℕ) (list column₀ column : List ℕ) (answer : Done) : Type 0 where
-  pub answers : Answered (said answer) (setMarksRefusal sound n list column₀) tt tt
+  pub answers : Answered (doneSaid answer) (setMarksRefusal sound n list column₀) tt tt
   pub left : column ≡ after (setMarksRefusal sound n list column₀) (marks n list) column₀
 
 -- ---- set_syndrome: both, each question of both before the next
@@ -100,7 +100,7 @@ setSyndromeRefusal v e lists column =
 
 -- Taken over, the trait `ExampleCode`: the bytes that the lists name are 1, the others 0; the answer, and both columns afterwards.
 pub record SetSyndrome (v e : ℕ) (lists column₀ column : Syndrome) (answer : Done) : Type 0 where
-  pub answers : Answered (said answer) (setSyndromeRefusal v e lists column₀) tt tt
+  pub answers : Answered (doneSaid answer) (setSyndromeRefusal v e lists column₀) tt tt
   pub defects-after : column .defects ≡ after (setSyndromeRefusal v e lists column₀) (marks v (lists .defects)) (column₀ .defects)
   pub erasures-after : column .erasures ≡ after (setSyndromeRefusal v e lists column₀) (marks e (lists .erasures)) (column₀ .erasures)
 

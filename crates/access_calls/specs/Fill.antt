@@ -8,7 +8,7 @@ use lib.Ieee.{Float}
 use Rattle.columns.specs.Lists.{after}
 use Rattle.columns.specs.Questions.{ask}
 use Rattle.columns_answers.specs.Said.{Answered}
-use Rattle.columns_answers.specs.Done.{said}
+use Rattle.columns_answers.specs.Done.{doneSaid}
 use Rattle.columns.specs.Places.{zeroFloat}
 use Rattle.columns.specs.declared.Done.{Done}
 use Rattle.columns_room.specs.Room.{threeLong, edgeColumnsLong}
@@ -42,7 +42,7 @@ fillRefusal v e a b c = ask (vertexColumnsLong v c && edgeColumnsLong e a b (c .
 -- Taken over, the trait `ExampleCode`; Six builders, on new edges:
 -- new vertices at position 0, inner, without defect, and their neighbour lists; the answer, and each column afterwards.
 pub record FilledVertices (v e : ℕ) (a b : List ℕ) (c₀ c : Vertices) (answer : Done) : Type 0 where
-  pub answers : Answered (said answer) (fillRefusal v e a b c₀) tt tt
+  pub answers : Answered (doneSaid answer) (fillRefusal v e a b c₀) tt tt
   pub i-after : c .i ≡ after (fillRefusal v e a b c₀) (replicate v zeroFloat) (c₀ .i)
   pub j-after : c .j ≡ after (fillRefusal v e a b c₀) (replicate v zeroFloat) (c₀ .j)
   pub t-after : c .t ≡ after (fillRefusal v e a b c₀) (replicate v zeroFloat) (c₀ .t)

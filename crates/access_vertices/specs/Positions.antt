@@ -8,7 +8,7 @@ use lib.Ieee.{Float}
 use Rattle.columns.specs.Lists.{after}
 use Rattle.columns.specs.Questions.{ask, vertexCountSound}
 use Rattle.columns_answers.specs.Said.{Answered}
-use Rattle.columns_answers.specs.Done.{said}
+use Rattle.columns_answers.specs.Done.{doneSaid}
 use Rattle.columns.specs.declared.Done.{Done}
 use Rattle.columns_room.specs.Room.{threeLong}
 
@@ -32,7 +32,7 @@ positionsRefusal v from to = ask (positionsLong v from && positionsLong v to) 6 
 
 -- Taken over, the trait `ExampleCode`: the position of every vertex is copied; the answer, and the columns that it copies into afterwards.
 pub record GotPositions (v : ℕ) (from to₀ to : Positions) (answer : Done) : Type 0 where
-  pub answers : Answered (said answer) (positionsRefusal v from to₀) tt tt
+  pub answers : Answered (doneSaid answer) (positionsRefusal v from to₀) tt tt
   pub i-after : to .i ≡ after (positionsRefusal v from to₀) (take v (from .i)) (to₀ .i)
   pub j-after : to .j ≡ after (positionsRefusal v from to₀) (take v (from .j)) (to₀ .j)
   pub t-after : to .t ≡ after (positionsRefusal v from to₀) (take v (from .t)) (to₀ .t)

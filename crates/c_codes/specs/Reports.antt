@@ -5,7 +5,7 @@ use Rattle.codes_calls.specs.CreateCode as created
 use Rattle.codes_questions.specs.declared.Count.{Count}
 use Rattle.codes_questions.specs.Answers as count
 use Rattle.weights_calls.specs.declared.WeightOfP.{WeightOfP}
-use Rattle.weights_calls.specs.Answers.{said}
+use Rattle.weights_calls.specs.Answers.{weightSaid}
 use Rattle.sanity_verdicts.specs.declared.Verdict.{Verdict}
 use Rattle.sanity_verdicts.specs.Sanity as sanity
 use Rattle.access_vertices.specs.declared.Truth.{Truth}
@@ -18,28 +18,28 @@ use Rattle.c_codes.specs.declared.reports.VerdictReport.{VerdictReport}
 
 -- Expected forms by place, last paragraph: the struct holds the number and the values of a `Created`.
 pub record ReportsCreated (a : Created) (r : TwoCounts) : Type 0 where
-  pub number : r .number ≡ created.said a .number
-  pub first : r .first ≡ created.said a .values .0
-  pub second : r .second ≡ created.said a .values .1
+  pub number : r .number ≡ created.createdSaid a .number
+  pub first : r .first ≡ created.createdSaid a .values .0
+  pub second : r .second ≡ created.createdSaid a .values .1
 
 -- Expected forms by place, last paragraph: the struct holds the number and the values of a `Count`.
 pub record ReportsCount (a : Count) (r : OneCount) : Type 0 where
-  pub number : r .number ≡ count.said a .number
-  pub count : r .count ≡ count.said a .values
+  pub number : r .number ≡ count.codeCountSaid a .number
+  pub count : r .count ≡ count.codeCountSaid a .values
 
 -- Expected forms by place, last paragraph: the struct holds the number and the values of a `WeightOfP`.
 pub record ReportsWeighed (a : WeightOfP) (r : WeighedReport) : Type 0 where
-  pub number : r .number ≡ said a .number
-  pub weight : r .weight ≡ said a .values
+  pub number : r .number ≡ weightSaid a .number
+  pub weight : r .weight ≡ weightSaid a .values
 
 -- Expected forms by place, last paragraph: the struct holds the number and the values of a `Verdict`.
 pub record ReportsVerdict (a : Verdict) (r : VerdictReport) : Type 0 where
-  pub number : r .number ≡ sanity.said a .number
-  pub verdict : r .verdict ≡ sanity.said a .values .0
-  pub first : r .first ≡ sanity.said a .values .1
-  pub second : r .second ≡ sanity.said a .values .2
+  pub number : r .number ≡ sanity.verdictSaid a .number
+  pub verdict : r .verdict ≡ sanity.verdictSaid a .values .0
+  pub first : r .first ≡ sanity.verdictSaid a .values .1
+  pub second : r .second ≡ sanity.verdictSaid a .values .2
 
 -- Expected forms by place, last paragraph: the struct holds the number and the values of a `Truth`.
 pub record ReportsTruth (a : Truth) (r : TruthReport) : Type 0 where
-  pub number : r .number ≡ marked.said a .number
-  pub value : r .value ≡ marked.said a .values
+  pub number : r .number ≡ marked.truthSaid a .number
+  pub value : r .value ≡ marked.truthSaid a .values

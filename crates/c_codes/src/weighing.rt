@@ -2,7 +2,7 @@ ghost use Rattle.c_reports.specs.Reports.{Reported, ReportsDone};
 ghost use Rattle.c_codes.specs.Reports.{ReportsWeighed};
 ghost use Rattle.columns_answers.specs.Said.{Answered};
 ghost use Rattle.columns.specs.Places.{zeroFloat};
-ghost use Rattle.weights_calls.specs.Answers.{said};
+ghost use Rattle.weights_calls.specs.Answers.{weightSaid};
 ghost use Rattle.weights_calls.specs.Setters.{SetEach};
 ghost use Rattle.weights_calls.specs.Calls.{weightRefusal, ComputedWeights};
 ghost use Rattle.weights_recipe.specs.Logarithm.{edgeWeight};
@@ -15,7 +15,7 @@ use columns::Weight;
 // The weight of an edge with probability p.
 #[no_mangle]
 pub extern "C" fn moldingcress_weight_of_p(p: f64) -> WeighedReport
-    ensures { λ q. ⌜ Reported ReportsWeighed (λ r. Answered (said r) (weightRefusal p) (edgeWeight p) zeroFloat) q ⌝ }
+    ensures { λ q. ⌜ Reported ReportsWeighed (λ r. Answered (weightSaid r) (weightRefusal p) (edgeWeight p) zeroFloat) q ⌝ }
 {
     weighed_report(weights_calls::weight_of_p(p))
 }

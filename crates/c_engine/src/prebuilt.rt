@@ -12,10 +12,10 @@ ghost use Rattle.query_tables.specs.declared.End.the-variants.{None};
 ghost use Rattle.query_questions.specs.Queries.{scratchLong, graphIn, weightsIn};
 ghost use Rattle.query_questions.specs.Scratch.{scratchOf};
 ghost use Rattle.query_tables.specs.Tables.{tableRefusal, TableInside};
-ghost use Rattle.columns_answers.specs.Done.{said};
+ghost use Rattle.columns_answers.specs.Done.{doneSaid};
 ghost use Prim.Native.Nat.{_-_};
 ghost use Rattle.prebuilt_calls.specs.Rows.{RowStep, RowScratch};
-ghost use Rattle.prebuilt_calls.specs.Nearest.{said as boundary-said, BoundarySaid};
+ghost use Rattle.prebuilt_calls.specs.Nearest.{nearestSaid, BoundarySaid};
 ghost use Rattle.prebuilt_calls.specs.Boundaries.{BoundariesStep};
 ghost use Rattle.c_reports.specs.Reports.{Reported, ReportsDone};
 ghost use Rattle.c_engine.specs.PrebuiltReports.{ReportsBoundary};
@@ -106,7 +106,7 @@ pub extern "C" fn moldingcress_get_boundary_weight(
         vertex None (length (now (least .entry))) (length (now (before .entry))))
         (graphIn (engine (counts vertices edges entries) (now («ends_a» .entry)) (now («ends_b» .entry)) (now (weights .entry)) (now (boundary .entry)) (now («log_edges» .entry)) (now («log_weights» .entry))))
         (weightsIn (engine (counts vertices edges entries) (now («ends_a» .entry)) (now («ends_b» .entry)) (now (weights .entry)) (now (boundary .entry)) (now («log_edges» .entry)) (now («log_weights» .entry))))
-        vertex r) × (TableInside (boundary-said r .number) (engine (counts vertices edges entries) (now («ends_a» .entry)) (now («ends_b» .entry)) (now (weights .entry)) (now (boundary .entry)) (now («log_edges» .entry)) (now («log_weights» .entry))) vertex (now (least .entry)) (now (before .entry))
+        vertex r) × (TableInside (nearestSaid r .number) (engine (counts vertices edges entries) (now («ends_a» .entry)) (now («ends_b» .entry)) (now (weights .entry)) (now (boundary .entry)) (now («log_edges» .entry)) (now («log_weights» .entry))) vertex (now (least .entry)) (now (before .entry))
         (scratchOf (now (numbers .entry)) (now («list_ends» .entry)) (now (status .entry)) (now (weight .entry)) (now (previous .entry)) (now (node .entry)) (now (leaf .entry)))
         (now (least .exit)) (now (before .exit))
         (scratchOf (now (numbers .exit)) (now («list_ends» .exit)) (now (status .exit)) (now (weight .exit)) (now (previous .exit)) (now (node .exit)) (now (leaf .exit))))) q ⌝ }
@@ -162,7 +162,7 @@ pub extern "C" fn moldingcress_fill_boundaries(
 ) -> u32
     ensures { λ q. ⌜ Reported ReportsDone (λ r. (BoundariesStep (engine (counts vertices edges entries) (now («ends_a» .entry)) (now («ends_b» .entry)) (now (weights .entry)) (now (boundary .entry)) (now («log_edges» .entry)) (now («log_weights» .entry)))
         (scratchLong vertices edges (length (now (numbers .entry))) (length (now («list_ends» .entry))) (length (now (status .entry))) (length (now (weight .entry))) (length (now (previous .entry))) (length (now (node .entry))) (length (now (leaf .entry))))
-        (length (now (least .entry))) (length (now (before .entry))) r (now («out_weight» .entry)) (now («out_vertex» .entry)) (now («out_weight» .exit)) (now («out_vertex» .exit))) × (TableInside (said r .number) (engine (counts vertices edges entries) (now («ends_a» .entry)) (now («ends_b» .entry)) (now (weights .entry)) (now (boundary .entry)) (now («log_edges» .entry)) (now («log_weights» .entry))) (vertices - 1) (now (least .entry)) (now (before .entry))
+        (length (now (least .entry))) (length (now (before .entry))) r (now («out_weight» .entry)) (now («out_vertex» .entry)) (now («out_weight» .exit)) (now («out_vertex» .exit))) × (TableInside (doneSaid r .number) (engine (counts vertices edges entries) (now («ends_a» .entry)) (now («ends_b» .entry)) (now (weights .entry)) (now (boundary .entry)) (now («log_edges» .entry)) (now («log_weights» .entry))) (vertices - 1) (now (least .entry)) (now (before .entry))
         (scratchOf (now (numbers .entry)) (now («list_ends» .entry)) (now (status .entry)) (now (weight .entry)) (now (previous .entry)) (now (node .entry)) (now (leaf .entry)))
         (now (least .exit)) (now (before .exit))
         (scratchOf (now (numbers .exit)) (now («list_ends» .exit)) (now (status .exit)) (now (weight .exit)) (now (previous .exit)) (now (node .exit)) (now (leaf .exit))))) q ⌝ }

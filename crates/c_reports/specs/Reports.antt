@@ -3,7 +3,7 @@
 use Prim.Native.Nat.{ℕ}
 use mathlib.Core.Path.{_≡_}
 use Rattle.columns.specs.declared.Done.{Done}
-use Rattle.columns_answers.specs.Done.{said}
+use Rattle.columns_answers.specs.Done.{doneSaid}
 use Rattle.columns_answers.specs.declared.ListCount.{ListCount}
 use Rattle.columns_answers.specs.declared.SyndromeCounts.{SyndromeCounts}
 use Rattle.columns_answers.specs.Counts.{listSaid, syndromeSaid}
@@ -18,7 +18,7 @@ pub record Reported {A : Type 0} {B : Type 0} (Reports : A → B → Type 0) (Ca
 
 -- Expected forms by place, last paragraph: the number of an answer that has no value.
 abbrev pub ReportsDone : Done → ℕ → Type 0
-ReportsDone a r = r ≡ said a .number
+ReportsDone a r = r ≡ doneSaid a .number
 
 -- Expected forms by place, last paragraph: the number of a list handed back, and how many numbers it has.
 pub record ReportsList (a : ListCount) (r : OneCount) : Type 0 where

@@ -17,7 +17,7 @@ use Rattle.engine_walks.proofs.TableAndPath.{path-is-least}
 use Rattle.query_questions.specs.Queries.{graphIn, weightsIn}
 use Rattle.query_questions.specs.Scratch.{ScratchColumns}
 use Rattle.query_paths.specs.declared.PathAnswer.{PathAnswer as Reply}
-use Rattle.query_paths.specs.GetPath.{said, lengthOf, lengthAndTotal, verticesAfter, stepsAfter, PathStep}
+use Rattle.query_paths.specs.GetPath.{foundSaid, lengthOf, lengthAndTotal, verticesAfter, stepsAfter, PathStep}
 use Rattle.query_paths.specs.GetPath as P
 use Rattle.query_paths.proofs.PathAsked.{before-17}
 use Rattle.claims.specs.QueriesCalled.{PathColumns, walked}
@@ -51,26 +51,26 @@ module _ (e : Engine) (a b : ℕ) (r : Reply) (columns₀ columns : PathColumns)
   unmet : {n : ℕ} → number ≡ suc n → PathMet e a b columns₀ scratch₀ → ⊥
   unmet d m = omega (arith, d, path-number e a b columns₀ scratch₀ m)
 
-  replies : (n : ℕ) (o : Option FoundPath) → number ≡ n → path g w a b ≡ o → said r .number ≡ P.pathRefusal n o
+  replies : (n : ℕ) (o : Option FoundPath) → number ≡ n → path g w a b ≡ o → foundSaid r .number ≡ P.pathRefusal n o
   replies n o d p = step .answer .number-is ∙ (λ i. P.pathRefusal (d i) (p i))
 
   by-case : (n : ℕ) (o : Option FoundPath) → number ≡ n → path g w a b ≡ o → (n ≡ 0 → PathAnswer g w a b o) → PathSays e a b r columns₀ columns scratch₀
   by-case (suc n) o d p h =
-      let q : said r .number ≡ suc n = replies (suc n) o d p in
+      let q : foundSaid r .number ≡ suc n = replies (suc n) o d p in
       record {
         not-reached = ((λ z. absurd (before-17 e (scratchFits e scratch₀) a b (length (columns₀ .vertices)) (length (columns₀ .steps)) (d ∙ sym q ∙ z))), λ z. absurd (unmet d (z .0)));
         reached = ((λ z. absurd (omega (arith, z, q))), λ z. absurd (unmet d (z .0)));
         least = λ z. absurd (omega (arith, z, q));
       }
   by-case zero none d p h =
-      let q : said r .number ≡ 17 = replies 0 none d p in
+      let q : foundSaid r .number ≡ 17 = replies 0 none d p in
       record {
         not-reached = ((λ z. (met d, h refl)), λ z. q);
         reached = ((λ z. absurd (omega (arith, z, q))), λ z. absurd (h refl (z .1)));
         least = λ z. absurd (omega (arith, z, q));
       }
   by-case zero (some f) d p h =
-      let q : said r .number ≡ 0 = replies 0 (some f) d p in
+      let q : foundSaid r .number ≡ 0 = replies 0 (some f) d p in
       let x = values-of (step .answer) (λ i. P.pathRefusal (d i) (p i)) ∙ ap lengthAndTotal p in
       let i : IsPath g w a b f = h refl in
       let ev : take (lengthOf r) (columns .vertices) ≡ f .vertices =

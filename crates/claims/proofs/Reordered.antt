@@ -11,7 +11,7 @@ use lib.Dec.{eqb}
 use borrow.Author.Tests.{eq-eqb, ne-eqb}
 use Rattle.columns.specs.Lists.{joined, when}
 use Rattle.columns.specs.declared.Done.{Done}
-use Rattle.columns_answers.specs.Done.{said}
+use Rattle.columns_answers.specs.Done.{doneSaid}
 use Rattle.columns_neighbors.specs.Lists.{chosen}
 use Rattle.columns_room.specs.Graph.{CodeGraph, codeGraph}
 use Rattle.sampling_calls.specs.Syndrome.{hit, endsIn, isDefectOf, syndromeOf}
@@ -94,7 +94,7 @@ module _ (v e : ℕ) (order : List ℕ) (before last : ReorderColumns) (r : Renu
   )
 
 -- the syndrome of a graph after an accepted reordering is the translated syndrome of the graph before it, as sets
-pub syndrome-kept : (v e : ℕ) (order : List ℕ) (before last : ReorderColumns) (answer : Done) → ReorderedVertices v e order before answer last → said answer .number ≡ 0
+pub syndrome-kept : (v e : ℕ) (order : List ℕ) (before last : ReorderColumns) (answer : Done) → ReorderedVertices v e order before answer last → doneSaid answer .number ≡ 0
     → (ks : List ℕ) → ((i : ℕ) → i < length ks → getD ks i 0 < e) → (x : ℕ)
     → List·Memᴰ x (syndromeOf (codeGraph v e (last .endsA) (last .endsB) (last .boundary)) ks)
     ↔ List·Memᴰ x (renamed order (syndromeOf (codeGraph v e (before .endsA) (before .endsB) (before .boundary)) ks))

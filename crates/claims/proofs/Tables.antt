@@ -2,7 +2,7 @@
 use mathlib.Core.Path.{_≡_, sym, ap, _∙_, subst}
 use Prim.Native.Nat.{ℕ}
 use lib.ListN.{take}
-use Rattle.columns_answers.specs.Done.{said}
+use Rattle.columns_answers.specs.Done.{doneSaid}
 use Rattle.columns.specs.declared.Done.{Done}
 use Rattle.columns.proofs.Columns.{take-over, after-accepted}
 use Rattle.engine_columns.specs.Records.{Engine}
@@ -25,7 +25,7 @@ module _ (e : Engine) (source : ℕ) (o : End) (r : Done) (columns₀ columns : 
   abbrev number : ℕ
   number = tableNumber e source o columns₀ scratch₀
 
-  is-number : said r .number ≡ number
+  is-number : doneSaid r .number ≡ number
   is-number = step .answer .number-is
 
   -- the first places of the columns left

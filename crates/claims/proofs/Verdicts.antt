@@ -17,7 +17,7 @@ use Rattle.codes_layers.proofs.Counted.{edges-counted}
 use Rattle.codes_graphs.proofs.Sound.{first-over, second-over, first-is, second-is, built}
 use Rattle.codes_graphs.proofs.Lists.{vertex-touched}
 use Rattle.sanity_verdicts.specs.declared.Verdict.the-variants.{Sound}
-use Rattle.sanity_verdicts.specs.Sanity.{said}
+use Rattle.sanity_verdicts.specs.Sanity.{verdictSaid}
 use Rattle.sanity_calls.proofs.Verdicts.{sanityAnswer}
 use Rattle.sanity_calls.proofs.Theorems.{EndsEdge, sound-verdict}
 use Rattle.codes_calls.specs.Columns.{CodeColumns}
@@ -96,7 +96,7 @@ module _ (kind d rounds q : ℕ) (lent back : CodeColumns) (z : q ≡ 0) (v e : 
       → back .listLengths ≡ after q (newColumns kind d rounds .listLengths) (lent .listLengths) → back .neighborNumbers ≡ after q (newColumns kind d rounds .neighborNumbers) (lent .neighborNumbers)
       → GetsZero v e back
   written-zero a b l n r s =
-      ap said
+      ap verdictSaid
       (s .case-is
       ∙ (λ i. sanityAnswer (ve i) (ee i) ((a ∙ after-accepted q (newColumns kind d rounds .endsA) (lent .endsA) z) i) ((b ∙ after-accepted q (newColumns kind d rounds .endsB) (lent .endsB) z) i)
       ((l ∙ after-accepted q (newColumns kind d rounds .listLengths) (lent .listLengths) z) i) ((n ∙ after-accepted q (newColumns kind d rounds .neighborNumbers) (lent .neighborNumbers) z) i))

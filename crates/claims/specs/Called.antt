@@ -11,7 +11,7 @@ use denote.Ref.{now}
 use Rattle.engine_columns.specs.declared.EngineCounts.{EngineCounts}
 use Rattle.engine_columns.specs.declared.EngineAnswer.{EngineAnswer}
 use Rattle.engine_columns.specs.declared.EngineAnswer.the-variants.{Counts}
-use Rattle.engine_columns.specs.Records.{Engine, engine, kept, said}
+use Rattle.engine_columns.specs.Records.{Engine, engine, kept, engineSaid}
 use Rattle.engine_columns.specs.Step.{Call, loadErasures, loadWeights, reset}
 use Rattle.engine_columns.specs.Open.{GraphColumns, graphColumns}
 use Rattle.engine_tally.specs.Tally.{lengthsOf}
@@ -84,7 +84,7 @@ pub data CrossingCalled : Engine → OwnLengths → CrossingReply → (column₀
 pub data Calls : Engine → List ListedCall → List ℕ → Engine → Type 0 where
   none : {e : Engine} → Calls e [] [] e
   modified : {e e₁ e₂ : Engine} {cs : List ListedCall} {ns : List ℕ} (call : Call) (r : EngineAnswer)
-      → Called call e r e₁ → Calls e₁ cs ns e₂ → Calls e (modifies (record { call = call; lent = lengthsOf e }) ∷ cs) (said r .number ∷ ns) e₂
+      → Called call e r e₁ → Calls e₁ cs ns e₂ → Calls e (modifies (record { call = call; lent = lengthsOf e }) ∷ cs) (engineSaid r .number ∷ ns) e₂
   crossing : {e e₂ : Engine} {cs : List ListedCall} {ns : List ℕ} (own : OwnLengths) (r : CrossingReply) (column₀ column : List ℤ)
       → CrossingCalled e own r column₀ column → Calls e cs ns e₂ → Calls e (crosses (lengthsOf e) own ∷ cs) (replyNumber r ∷ ns) e₂
 

@@ -6,7 +6,7 @@ use mathlib.Core.List.{List}
 use mathlib.Core.Option.{Option}
 use lib.ListN.{take}
 use lib.IntN.{ℤ}
-use Rattle.columns_answers.specs.Done.{said}
+use Rattle.columns_answers.specs.Done.{doneSaid}
 use Rattle.columns.specs.declared.Done.{Done}
 use Rattle.engine_columns.specs.Records.{Engine}
 use Rattle.engine_walks.specs.Graph.{Joined, LeftJoinsRight}
@@ -25,16 +25,16 @@ use Rattle.claims.specs.Met.{TableMet, PathMet, CrossingMet}
 -- Engine, Settling and Table; questions at the door, 6, 7 and 13: accepted exactly where these are met. The columns' first places then are the table of the graph and the
 -- weights lent: least weights and a tree of previous vertices, -1 and 0 elsewhere, and what a named end means for the rows.
 pub record TableSays (e : Engine) (source : ℕ) (end : Option ℕ) (r : Done) (columns₀ columns : TableColumns) (scratch₀ : ScratchColumns) : Type 0 where
-  pub accepted : said r .number ≡ 0 ↔ TableMet e source end columns₀ scratch₀
-  pub is-table : said r .number ≡ 0
+  pub accepted : doneSaid r .number ≡ 0 ↔ TableMet e source end columns₀ scratch₀
+  pub is-table : doneSaid r .number ≡ 0
       → IsTable (graphIn e) (weightsIn e) source end (record { weights = take (e .counts .vertices) (columns .weights); previous = take (e .counts .vertices) (columns .previous) })
 
 -- Engine, Path; questions at the door, 17: exactly where the earlier questions are met and no walk joins a and b; a path exactly where they are met and some walk does.
 -- The columns' first places then are a walk from a to b that meets no vertex twice, whose steps sum to the total; no walk weighs less.
 pub record PathSays (e : Engine) (a b : ℕ) (r : PathAnswer) (columns₀ columns : PathColumns) (scratch₀ : ScratchColumns) : Type 0 where
-  pub not-reached : P.said r .number ≡ 17 ↔ (PathMet e a b columns₀ scratch₀ × ¬ Joined (graphIn e) a b)
-  pub reached : P.said r .number ≡ 0 ↔ (PathMet e a b columns₀ scratch₀ × Joined (graphIn e) a b)
-  pub least : P.said r .number ≡ 0
+  pub not-reached : P.foundSaid r .number ≡ 17 ↔ (PathMet e a b columns₀ scratch₀ × ¬ Joined (graphIn e) a b)
+  pub reached : P.foundSaid r .number ≡ 0 ↔ (PathMet e a b columns₀ scratch₀ × Joined (graphIn e) a b)
+  pub least : P.foundSaid r .number ≡ 0
       → IsPath (graphIn e) (weightsIn e) a b (record { vertices = take (lengthOf r) (columns .vertices); steps = take (lengthOf r) (columns .steps); total = totalOf r })
 
 -- Engine, Crossing; demand 3; questions at the door, 18: exactly where 6 and 7 are met and no walk joins a left vertex to a right one; accepted exactly where

@@ -5,7 +5,7 @@ use lib.Ieee.{Float}
 use Rattle.weights_diagonal.specs.declared.DiagonalProbability.{DiagonalProbability}
 use Rattle.columns_answers.specs.Said.{accepts}
 use Rattle.sanity_verdicts.specs.declared.Verdict.{Verdict}
-use Rattle.sanity_verdicts.specs.Sanity.{said, SanityChecked}
+use Rattle.sanity_verdicts.specs.Sanity.{verdictSaid, SanityChecked}
 use Rattle.codes_calls.specs.declared.Created.the-variants.{Code}
 use Rattle.codes_calls.specs.Columns.{CodeColumns}
 use Rattle.codes_calls.specs.CreateCode.{CreateCode}
@@ -13,7 +13,7 @@ use Rattle.codes_calls.specs.NewCode.{WeightedCode}
 
 -- Six builders, sanity_check, sentence 3: whatever `sanity_check` answers to the columns of a code of v vertices and e edges is verdict 0.
 abbrev pub GetsZero : (v e : ℕ) → CodeColumns → Type 0
-GetsZero v e back = (r : Verdict) → SanityChecked v e (back .endsA) (back .endsB) (back .listLengths) (back .neighborNumbers) r → said r ≡ accepts (0, 0, 0)
+GetsZero v e back = (r : Verdict) → SanityChecked v e (back .endsA) (back .endsB) (back .listLengths) (back .neighborNumbers) r → verdictSaid r ≡ accepts (0, 0, 0)
 
 -- Six builders, sanity_check, sentence 3: of the columns that an accepted `create_code` hands back, whatever was lent.
 abbrev pub CreatedCodesAreSound : Type 0

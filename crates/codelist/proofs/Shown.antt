@@ -11,7 +11,7 @@ use Rattle.columns.specs.Questions.{ask}
 use Rattle.columns.proofs.Columns.{after-accepted, take-over, length-over}
 use Rattle.text_answer.specs.declared.Listed.{Listed}
 use Rattle.text_answer.specs.declared.Listed.the-variants.{Text}
-use Rattle.text_answer.specs.Answer.{answerText, textRoom, textRefusal, said, CodeListed}
+use Rattle.text_answer.specs.Answer.{answerText, textRoom, textRefusal, textSaid, CodeListed}
 use Rattle.text_answer.proofs.Cases.{text-case}
 use Rattle.text_answer.proofs.Sizes.{every-text-fits}
 
@@ -27,7 +27,7 @@ module _ (input text₀ text : List ℕ) (r : Listed) (h : textRoom ≤ length t
 
   pub shown : (n : ℕ) → r ≡ Text n → (n ≤ length text) × (take n text ≡ answerText input)
   shown n e =
-      let k : length (answerText input) ≡ n = ap (λ (x : Listed). said x .values) (sym answered ∙ e) in
+      let k : length (answerText input) ≡ n = ap (λ (x : Listed). textSaid x .values) (sym answered ∙ e) in
       let f = every-text-fits input in
       let l = length-over (answerText input) text₀ (omega (arith, f, h)) in
       (omega (arith, k, f, h, l, ap length written), ap (take n) written ∙ take-over (answerText input) text₀ n k)

@@ -14,9 +14,9 @@ use Rattle.codes_calls.specs.declared.Created.the-variants.{Code, Refuse
 use Rattle.codes_calls.specs.Columns.{CodeColumns, edgeRoom, vertexRoom, longEnough, HandedBack}
 
 -- Expected forms by place, last paragraph: document 01's number and values for each case of `Created`; the values are how many vertices and how many edges.
-abbrev pub said : Created → Said (ℕ × ℕ)
-said (Code vertices edges) = accepts (vertices, edges)
-said (Refused number) = refuses number (0, 0)
+abbrev pub createdSaid : Created → Said (ℕ × ℕ)
+createdSaid (Code vertices edges) = accepts (vertices, edges)
+createdSaid (Refused number) = refuses number (0, 0)
 
 -- Questions at the door, 2 to 6, in order, of `create_code`, by the columns' lengths.
 unfoldable pub createRefusal : (kind d rounds vertexRoom edgeRoom numbers : ℕ) → ℕ
@@ -47,7 +47,7 @@ newColumns kind d rounds = record {
 
 -- Six builders: the answer of `create_code`, and its columns afterwards; q is the question's number.
 pub record CodeCreated (kind d rounds q : ℕ) (c₀ c : CodeColumns) (r : Created) : Type 0 where
-  pub answer : Answered (said r) q (vertexNum kind d rounds, edgeNum kind d rounds) (0, 0)
+  pub answer : Answered (createdSaid r) q (vertexNum kind d rounds, edgeNum kind d rounds) (0, 0)
   pub columns : HandedBack q (newColumns kind d rounds) c₀ c
 
 -- Six builders: what `create_code` answers and leaves.

@@ -13,7 +13,7 @@ use Rattle.weights_diagonal.specs.declared.DiagonalProbability.{DiagonalProbabi
 use Rattle.codes_calls.specs.declared.Created.{Created}
 use Rattle.codes_calls.specs.Columns.{CodeColumns, edgeRoom, vertexRoom, longEnough, HandedBack}
 use Rattle.columns_answers.specs.Said.{Answered}
-use Rattle.codes_calls.specs.CreateCode.{said, newColumns}
+use Rattle.codes_calls.specs.CreateCode.{createdSaid, newColumns}
 use Rattle.codes_calls.specs.Probabilities.{probabilities, diagonalOf}
 
 -- Questions at the door, 2 to 6 and 8 to 10, in order, by the columns' lengths: 9 asks of p and of the diagonal probability, 10 of the weights of the code's edges.
@@ -49,7 +49,7 @@ weightedColumns kind d rounds p diagonal max = record {
 
 -- Weights: the answer of a call that builds a code with a diagonal probability, and its columns afterwards; q is the question's number.
 pub record Weighted (kind d rounds : ℕ) (p : Float) (diagonal : DiagonalProbability) (max q : ℕ) (c₀ c : CodeColumns) (r : Created) : Type 0 where
-  pub answer : Answered (said r) q (vertexNum kind d rounds, edgeNum kind d rounds) (0, 0)
+  pub answer : Answered (createdSaid r) q (vertexNum kind d rounds, edgeNum kind d rounds) (0, 0)
   pub columns : HandedBack q (weightedColumns kind d rounds p diagonal max) c₀ c
 
 -- Weights, on the diagonal probability: what such a call answers and leaves, where the diagonal probability is absent or a number.

@@ -7,17 +7,17 @@ use Rattle.codes_layers.specs.Counts.{vertexNum, edgeNum}
 use Rattle.codes_layers.specs.Accepts.{codeRefusal}
 
 -- Expected forms by place, last paragraph: document 01's number for each case of `Count`, and the value: 0 where the call was refused.
-abbrev pub said : Count → Said ℕ
-said (Counted n) = accepts n
-said (Refused number) = refuses number 0
+abbrev pub codeCountSaid : Count → Said ℕ
+codeCountSaid (Counted n) = accepts n
+codeCountSaid (Refused number) = refuses number 0
 
 -- Six builders, Vertices; Questions at the door, 2 to 5: what `vertex_num` answers.
 abbrev pub CountsVertices : (kind d rounds : ℕ) → Count → Type 0
-CountsVertices kind d rounds r = Answered (said r) (codeRefusal kind d rounds 0) (vertexNum kind d rounds) 0
+CountsVertices kind d rounds r = Answered (codeCountSaid r) (codeRefusal kind d rounds 0) (vertexNum kind d rounds) 0
 
 -- Six builders, Edges; Questions at the door, 2 to 5: what `edge_num` answers.
 abbrev pub CountsEdges : (kind d rounds : ℕ) → Count → Type 0
-CountsEdges kind d rounds r = Answered (said r) (codeRefusal kind d rounds 0) (edgeNum kind d rounds) 0
+CountsEdges kind d rounds r = Answered (codeCountSaid r) (codeRefusal kind d rounds 0) (edgeNum kind d rounds) 0
 
 -- Questions at the door, 3, its bounds: the number of 3 to 4,095 nearest to d.
 abbrev pub distanceWithin : ℕ → ℕ

@@ -4,6 +4,6 @@ use Rattle.columns.specs.declared.Done.the-variants.{Accepted, Refused}
 use Rattle.columns_answers.specs.Said.{Said, accepts, refuses}
 
 -- Expected forms by place, last paragraph: document 01's number for each case of `Done`; there are no values.
-abbrev pub said : Done → Said (Unit {0})
-said Accepted = accepts tt
-said (Refused number) = refuses number tt
+abbrev pub doneSaid : Done → Said (Unit {0})
+doneSaid Accepted = accepts tt
+doneSaid (Refused number) = refuses number tt

@@ -1,4 +1,4 @@
--- What document 01 says of an answer. Each enum that a call answers has one function into Said, case by case, named `said` or for the enum; the promises of its calls use it by Answered.
+-- What document 01 says of an answer. Each enum that a call answers has one function into Said, case by case, named for the enum; the promises of its calls use it by Answered.
 use Prim.Native.Nat.{ℕ}
 use mathlib.Core.Path.{_≡_}
 use mathlib.Core.Bool.{Bool, true, false, cond}

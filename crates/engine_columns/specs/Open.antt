@@ -8,7 +8,7 @@ use Rattle.columns.specs.Lists.{after}
 use Rattle.columns.specs.Questions.{ask}
 use Rattle.columns_answers.specs.Said.{Answered}
 use Rattle.engine_columns.specs.declared.EngineAnswer.{EngineAnswer}
-use Rattle.engine_columns.specs.Records.{counts, noCounts, said}
+use Rattle.engine_columns.specs.Records.{counts, noCounts, engineSaid}
 use Rattle.engine_columns.specs.Questions.{columnsLong, columnsSound}
 
 -- Records, on engine graphs: the columns of a graph without its log.
@@ -30,7 +30,7 @@ openRefusal v e handed lent =
 
 -- Engine, Open: the answer, and every column: an accepted open copies, and the log is empty.
 pub record OpenStep (v e : ℕ) (handed lent : GraphColumns) (r : EngineAnswer) (opened : GraphColumns) : Type 0 where
-  pub answer : Answered (said r) (openRefusal v e handed lent) (counts v e 0) noCounts
+  pub answer : Answered (engineSaid r) (openRefusal v e handed lent) (counts v e 0) noCounts
   pub endsA-after : opened .endsA ≡ after (openRefusal v e handed lent) (take e (handed .endsA)) (lent .endsA)
   pub endsB-after : opened .endsB ≡ after (openRefusal v e handed lent) (take e (handed .endsB)) (lent .endsB)
   pub weights-after : opened .weights ≡ after (openRefusal v e handed lent) (take e (handed .weights)) (lent .weights)

@@ -31,9 +31,9 @@ abbrev pub noCounts : EngineCounts
 noCounts = counts 0 0 0
 
 -- Expected forms by place, last paragraph: document 01's number and values for each case of `EngineAnswer`; the counts to go on with are 0 at a refusal.
-abbrev pub said : EngineAnswer → Said EngineCounts
-said (Counts c) = accepts c
-said (Refused number) = refuses number noCounts
+abbrev pub engineSaid : EngineAnswer → Said EngineCounts
+engineSaid (Counts c) = accepts c
+engineSaid (Refused number) = refuses number noCounts
 
 -- Engine, Tally, sentence 2: the counts after an answer, which the next call is lent: an accepted call hands them back, a refused one leaves them.
 abbrev pub kept : EngineCounts → EngineAnswer → EngineCounts

@@ -9,7 +9,7 @@ use Rattle.columns.specs.Limits.{weightLimit}
 use Rattle.columns.specs.Questions.{ask, allBelow, allWithin}
 use Rattle.columns_answers.specs.Said.{Answered}
 use Rattle.engine_columns.specs.declared.EngineAnswer.{EngineAnswer}
-use Rattle.engine_columns.specs.Records.{Engine, engine, counts, noCounts, said}
+use Rattle.engine_columns.specs.Records.{Engine, engine, counts, noCounts, engineSaid}
 use Rattle.engine_log.specs.Load.{loaded, earlier, named, undone, erased, given}
 use Rattle.engine_columns.specs.Questions.{engineLong, engineSound}
 
@@ -52,5 +52,5 @@ changed reset e =
 
 -- Engine, Load and Reset; Questions at the door, sentence 2: the answer, and every column left, refusals included.
 pub record Step (call : Call) (before : Engine) (r : EngineAnswer) (after : Engine) : Type 0 where
-  pub answer : Answered (said r) (engineRefusal call before) (changed call before .counts) noCounts
+  pub answer : Answered (engineSaid r) (engineRefusal call before) (changed call before .counts) noCounts
   pub left : after ≡ cond (eqb (engineRefusal call before) 0) (changed call before) before

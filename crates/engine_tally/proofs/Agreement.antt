@@ -17,7 +17,7 @@ use Rattle.columns_neighbors.specs.Sound.{SoundGraph}
 use Rattle.columns_neighbors.proofs.Ends.{graph-says, says-graph}
 use Rattle.engine_columns.specs.declared.EngineCounts.{EngineCounts}
 use Rattle.engine_columns.specs.declared.EngineAnswer.{EngineAnswer}
-use Rattle.engine_columns.specs.Records.{Engine, engine, counts, said}
+use Rattle.engine_columns.specs.Records.{Engine, engine, counts, engineSaid}
 use Rattle.engine_log.specs.Load.{loaded, earlier, named, undone, erased, given}
 use Rattle.engine_columns.specs.Questions.{columnsLong, engineLong}
 use Rattle.engine_columns.specs.Step.{Call, loadErasures, loadWeights, reset, engineRefusal, changed, loadedBy, Step}
@@ -157,7 +157,7 @@ accepted-agrees reset t e a z = reset-agrees t e a
 
 -- one call
 pub step-agrees : (call : Call) (t : Tally) (e e₁ : Engine) (r : EngineAnswer) → Agrees t e → Step call e r e₁
-    → (said r .number ≡ tallyRefusal call (lengthsOf e) t) × Agrees (tallyStep (record { call = call; lent = lengthsOf e }) t) e₁
+    → (engineSaid r .number ≡ tallyRefusal call (lengthsOf e) t) × Agrees (tallyStep (record { call = call; lent = lengthsOf e }) t) e₁
 step-agrees call t e e₁ r a s = (
   s .answer .number-is ∙ refusal-same call t e a,
   rw (s .left, ← refusal-same call t e a) (go (eqb (engineRefusal call e) 0) refl),
@@ -195,7 +195,7 @@ copied-graph v e a b a′ b′ la lb s =
       apart = λ j k h l o. s .apart j k h l (rw (ga j (omega arith), gb j (omega arith), ga k l, gb k l) at o);
     }
 
-pub opened-agrees : (v e : ℕ) (h l o : GraphColumns) (r : EngineAnswer) (le lw : List ℕ) → OpenStep v e h l r o → said r .number ≡ 0
+pub opened-agrees : (v e : ℕ) (h l o : GraphColumns) (r : EngineAnswer) (le lw : List ℕ) → OpenStep v e h l r o → engineSaid r .number ≡ 0
     → Agrees (tallyOf v e h) (engine (counts v e 0) (o .endsA) (o .endsB) (o .weights) (o .boundary) le lw)
 opened-agrees v e h l o r le lw s z =
     let d : openRefusal v e h l ≡ 0 = sym (s .answer .number-is) ∙ z in

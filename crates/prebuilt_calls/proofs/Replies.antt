@@ -12,7 +12,7 @@ use lib.IntN.{ℤ}
 use Rattle.columns.specs.Lists.{each, over, after}
 use Rattle.columns.proofs.Counting.{length-each}
 use Rattle.columns.proofs.Columns.{drop-over, after-refused}
-use Rattle.columns_answers.specs.Done.{said}
+use Rattle.columns_answers.specs.Done.{doneSaid}
 use Rattle.columns.specs.declared.Done.{Done}
 use Rattle.columns_neighbors.specs.Lists.{lists}
 use Rattle.engine_columns.specs.Records.{Engine}
@@ -32,7 +32,7 @@ use Rattle.prebuilt_calls.specs.Steps.{TablesInside}
 
 -- by another name of the number
 pub inside-of : {e : Engine} {scratch : Bool} {v : ℕ} {d : Done} {least₀ least : List ℤ} {before₀ before : List ℕ} {s₀ s : ScratchColumns} (number : ℕ)
-    → TableStep e scratch v None d least₀ before₀ least before → TableScratch e v None d s₀ s → said d .number ≡ number → TableInside number e v least₀ before₀ s₀ least before s
+    → TableStep e scratch v None d least₀ before₀ least before → TableScratch e v None d s₀ s → doneSaid d .number ≡ number → TableInside number e v least₀ before₀ s₀ least before s
 inside-of {e} {v = v} {least₀ = least₀} {before₀ = before₀} {s₀ = s₀} {s} number t k q =
     let p = sym (t .answer .number-is) ∙ q in
     record {

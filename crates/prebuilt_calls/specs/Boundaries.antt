@@ -9,7 +9,7 @@ use lib.Dec.{leb}
 use lib.IntN.{ℤ}
 use Rattle.columns.specs.Lists.{each, after}
 use Rattle.columns_answers.specs.Said.{Answered}
-use Rattle.columns_answers.specs.Done.{said}
+use Rattle.columns_answers.specs.Done.{doneSaid}
 use Rattle.columns.specs.declared.Done.{Done}
 use Rattle.engine_columns.specs.Records.{Engine}
 use Rattle.engine_walks.specs.Graph.{Graph}
@@ -40,7 +40,7 @@ boundariesRefusal e scratch weights vertices least before =
 
 -- complete_graph.rs, `PrebuiltCompleteGraph`: the answer of `fill_boundaries`, and both columns.
 pub record BoundariesStep (e : Engine) (scratch : Bool) (least before : ℕ) (r : Done) (weights₀ : List ℤ) (vertices₀ : List ℕ) (weights : List ℤ) (vertices : List ℕ) : Type 0 where
-  pub answer : Answered (said r) (boundariesRefusal e scratch (length weights₀) (length vertices₀) least before) tt tt
+  pub answer : Answered (doneSaid r) (boundariesRefusal e scratch (length weights₀) (length vertices₀) least before) tt tt
   pub weights-after : weights
       ≡ after (boundariesRefusal e scratch (length weights₀) (length vertices₀) least before) (each (e .counts .vertices) (boundaryWeight (graphIn e) (weightsIn e))) weights₀
   pub vertices-after : vertices

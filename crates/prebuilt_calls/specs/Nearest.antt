@@ -12,10 +12,10 @@ use Rattle.prebuilt_entries.specs.Nearest.{amount, boundaryIn}
 
 -- Expected forms by place, last paragraph: document 01's number for each case of `BoundaryAnswer`, and the values:
 -- 1 where there is a virtual vertex, its number and the weight; 0 where there is none and where the call was refused.
-abbrev pub said : BoundaryAnswer → Said (ℕ × ℕ × ℕ)
-said (Nearest u weight) = accepts (1, u .0, weight)
-said NoBoundary = accepts (0, 0, 0)
-said (Refused n) = refuses n (0, 0, 0)
+abbrev pub nearestSaid : BoundaryAnswer → Said (ℕ × ℕ × ℕ)
+nearestSaid (Nearest u weight) = accepts (1, u .0, weight)
+nearestSaid NoBoundary = accepts (0, 0, 0)
+nearestSaid (Refused n) = refuses n (0, 0, 0)
 
 -- complete_graph.rs, `get_boundary_weight`: the values for a vertex or none: its weight stands in `weights`.
 abbrev pub boundaryFound : List ℤ → Option ℕ → ℕ × ℕ × ℕ
@@ -25,4 +25,4 @@ boundaryFound weights (some u) = (1, u, amount (weightIn weights u))
 -- complete_graph.rs, `get_boundary_weight`: the answer, where q is the number of the first question that is not met: by the table from v with no end.
 abbrev pub BoundarySaid : (q : ℕ) (g : Graph) (w : ℕ → ℕ) (v : ℕ) → BoundaryAnswer → Type 0
 BoundarySaid q g w v r =
-    Answered (said r) q (boundaryFound (table g w v none .weights) (boundaryIn (g .boundary) (table g w v none .weights) (g .vertices) v)) (0, 0, 0)
+    Answered (nearestSaid r) q (boundaryFound (table g w v none .weights) (boundaryIn (g .boundary) (table g w v none .weights) (g .vertices) v)) (0, 0, 0)

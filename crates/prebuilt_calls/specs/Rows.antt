@@ -9,7 +9,7 @@ use lib.Dec.{leb, ltb}
 use lib.IntN.{ℤ}
 use Rattle.columns.specs.Lists.{each, after}
 use Rattle.columns_answers.specs.Said.{Answered}
-use Rattle.columns_answers.specs.Done.{said}
+use Rattle.columns_answers.specs.Done.{doneSaid}
 use Rattle.columns.specs.declared.Done.{Done}
 use Rattle.engine_columns.specs.Records.{Engine}
 use Rattle.engine_walks.specs.Graph.{Graph}
@@ -31,10 +31,10 @@ rowRefusal e scratch v nearest out before =
 
 -- complete_graph.rs, `PrebuiltCompleteGraph`: the answer of `fill_row`, and the row's column.
 pub record RowStep (e : Engine) (scratch : Bool) (v : ℕ) (nearest : List ℤ) (before : ℕ) (r : Done) (out₀ out : List ℤ) : Type 0 where
-  pub answer : Answered (said r) (rowRefusal e scratch v (length nearest) (length out₀) before) tt tt
+  pub answer : Answered (doneSaid r) (rowRefusal e scratch v (length nearest) (length out₀) before) tt tt
   pub out-after : out ≡ after (rowRefusal e scratch v (length nearest) (length out₀) before) (row (graphIn e) (weightsIn e) nearest v) out₀
 
 -- Engine, Table: what `fill_row` leaves in the column of previous vertices, which serves as scratch, and in scratch, by the table from v with no end. A refused call leaves them as they were.
 pub record RowScratch (e : Engine) (v : ℕ) (r : Done) (before₀ : List ℕ) (s₀ : ScratchColumns) (before : List ℕ) (s : ScratchColumns) : Type 0 where
-  pub before-after : before ≡ after (said r .number) (table (graphIn e) (weightsIn e) v none .previous) before₀
+  pub before-after : before ≡ after (doneSaid r .number) (table (graphIn e) (weightsIn e) v none .previous) before₀
   pub scratch-after : TableScratch e v None r s₀ s

@@ -4,7 +4,7 @@ ghost use Prim.Native.Nat.{_-_, _<_};
 ghost use lib.ListN.{length, set};
 ghost use lib.Seq.{sets};
 ghost use Rattle.columns.specs.Lists.{each};
-ghost use Rattle.columns_answers.specs.Done.{said};
+ghost use Rattle.columns_answers.specs.Done.{doneSaid};
 ghost use Rattle.engine_columns.specs.Records.{engine};
 ghost use Rattle.query_tables.specs.Tables.{TableInside};
 ghost use Rattle.query_questions.specs.Queries.{scratchLong, graphIn, weightsIn};
@@ -163,7 +163,7 @@ pub fn fill_boundaries(
     ensures { λ r. ⌜ BoundariesStep (engine c (now («ends_a» .entry)) (now («ends_b» .entry)) (now (weights .entry)) (now (boundary .entry)) (now («log_edges» .entry)) (now («log_weights» .entry)))
         (scratchLong (c .vertices) (c .edges) (length (now (numbers .entry))) (length (now («list_ends» .entry))) (length (now (status .entry))) (length (now (weight .entry))) (length (now (previous .entry))) (length (now (node .entry))) (length (now (leaf .entry))))
         (length (now (least .entry))) (length (now (before .entry))) r (now («out_weight» .entry)) (now («out_vertex» .entry)) (now («out_weight» .exit)) (now («out_vertex» .exit)) ⌝ }
-    ensures { λ r. ⌜ TableInside (said r .number) (engine c (now («ends_a» .entry)) (now («ends_b» .entry)) (now (weights .entry)) (now (boundary .entry)) (now («log_edges» .entry)) (now («log_weights» .entry))) (c .vertices - 1) (now (least .entry)) (now (before .entry))
+    ensures { λ r. ⌜ TableInside (doneSaid r .number) (engine c (now («ends_a» .entry)) (now («ends_b» .entry)) (now (weights .entry)) (now (boundary .entry)) (now («log_edges» .entry)) (now («log_weights» .entry))) (c .vertices - 1) (now (least .entry)) (now (before .entry))
         (scratchOf (now (numbers .entry)) (now («list_ends» .entry)) (now (status .entry)) (now (weight .entry)) (now (previous .entry)) (now (node .entry)) (now (leaf .entry)))
         (now (least .exit)) (now (before .exit))
         (scratchOf (now (numbers .exit)) (now («list_ends» .exit)) (now (status .exit)) (now (weight .exit)) (now (previous .exit)) (now (node .exit)) (now (leaf .exit))) ⌝ }

@@ -3,14 +3,14 @@ ghost use mathlib.Core.Path.{_≡_};
 ghost use Prim.Native.Nat.{_<_, _≤_};
 ghost use lib.ListN.{length};
 ghost use Rattle.columns_answers.specs.Said.{accepts};
-ghost use Rattle.columns_answers.specs.Done.{said};
+ghost use Rattle.columns_answers.specs.Done.{doneSaid};
 ghost use Rattle.engine_columns.specs.Records.{engine};
 ghost use Rattle.query_tables.specs.declared.End.the-variants.{None};
 ghost use Rattle.query_questions.specs.Queries.{scratchLong, graphIn, weightsIn};
 ghost use Rattle.query_tables.specs.Tables.{tableRefusal, TableInside};
 ghost use Rattle.query_questions.specs.Scratch.{scratchOf};
 ghost use Rattle.prebuilt_entries.specs.Nearest.{boundaryIn};
-ghost use Rattle.prebuilt_calls.specs.Nearest.{said as boundary-said, boundaryFound, BoundarySaid};
+ghost use Rattle.prebuilt_calls.specs.Nearest.{nearestSaid, boundaryFound, BoundarySaid};
 use columns::Done;
 use columns::VertexIndex;
 use columns::Weight;
@@ -29,7 +29,7 @@ pub enum BoundaryAnswer {
 // The answer for vertex v, from its table.
 fn boundary_answer(boundary: &[u8], least: &[i32], v: u32) -> BoundaryAnswer
     requires { ⌜ (length (now boundary) ≡ length (now least)) × (v < length (now boundary)) × (length (now least) ≤ 4096) ⌝ }
-    ensures { λ r. ⌜ boundary-said r ≡ accepts (boundaryFound (now (least .entry)) (boundaryIn (now (boundary .entry)) (now (least .entry)) (length (now (least .entry))) v)) ⌝ }
+    ensures { λ r. ⌜ nearestSaid r ≡ accepts (boundaryFound (now (least .entry)) (boundaryIn (now (boundary .entry)) (now (least .entry)) (length (now (least .entry))) v)) ⌝ }
 {
     let at = v as usize;
     if boundary[at] != 0 {
@@ -44,7 +44,7 @@ fn boundary_answer(boundary: &[u8], least: &[i32], v: u32) -> BoundaryAnswer
 
 // The number of an answer.
 fn number(done: Done) -> u32
-    ensures { λ r. ⌜ r ≡ said done .number ⌝ }
+    ensures { λ r. ⌜ r ≡ doneSaid done .number ⌝ }
 {
     match done {
         Done::Accepted => 0,
@@ -78,7 +78,7 @@ pub fn get_boundary_weight(
         (graphIn (engine c (now («ends_a» .entry)) (now («ends_b» .entry)) (now (weights .entry)) (now (boundary .entry)) (now («log_edges» .entry)) (now («log_weights» .entry))))
         (weightsIn (engine c (now («ends_a» .entry)) (now («ends_b» .entry)) (now (weights .entry)) (now (boundary .entry)) (now («log_edges» .entry)) (now («log_weights» .entry))))
         (vertex .0) r ⌝ }
-    ensures { λ r. ⌜ TableInside (boundary-said r .number) (engine c (now («ends_a» .entry)) (now («ends_b» .entry)) (now (weights .entry)) (now (boundary .entry)) (now («log_edges» .entry)) (now («log_weights» .entry))) (vertex .0) (now (least .entry)) (now (before .entry))
+    ensures { λ r. ⌜ TableInside (nearestSaid r .number) (engine c (now («ends_a» .entry)) (now («ends_b» .entry)) (now (weights .entry)) (now (boundary .entry)) (now («log_edges» .entry)) (now («log_weights» .entry))) (vertex .0) (now (least .entry)) (now (before .entry))
         (scratchOf (now (numbers .entry)) (now («list_ends» .entry)) (now (status .entry)) (now (weight .entry)) (now (previous .entry)) (now (node .entry)) (now (leaf .entry)))
         (now (least .exit)) (now (before .exit))
         (scratchOf (now (numbers .exit)) (now («list_ends» .exit)) (now (status .exit)) (now (weight .exit)) (now (previous .exit)) (now (node .exit)) (now (leaf .exit))) ⌝ }

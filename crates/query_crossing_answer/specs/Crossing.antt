@@ -19,17 +19,17 @@ use Rattle.query_questions.specs.Queries.{graphIn, weightsIn}
 use Rattle.query_questions.specs.Scratch.{ScratchColumns, ScratchAfter}
 
 -- Expected forms by place, last paragraph: document 01's number and value for each case of `CrossingReply`: the crossing weight is 0 at a refusal.
-abbrev pub said : CrossingReply → Said ℕ
-said (Crossed weight) = accepts weight
-said (Refused number) = refuses number 0
+abbrev pub crossingSaid : CrossingReply → Said ℕ
+crossingSaid (Crossed weight) = accepts weight
+crossingSaid (Refused number) = refuses number 0
 
 -- Expected forms by place, last paragraph: the number of a reply.
 abbrev pub replyNumber : CrossingReply → ℕ
-replyNumber r = said r .number
+replyNumber r = crossingSaid r .number
 
 -- Expected forms by place, last paragraph: the crossing weight of a reply.
 abbrev pub replyWeight : CrossingReply → ℕ
-replyWeight r = said r .values
+replyWeight r = crossingSaid r .values
 
 -- Questions at the door, 18, from the crossing weight if there is one.
 abbrev pub isJoined : Option ℕ → Bool
@@ -51,7 +51,7 @@ crossingRefusal e scratch weights = crossingAsked e scratch weights (ask (isJoin
 
 -- Engine, Crossing, sentences 1 and 2: the answer, and the weight column.
 pub record CrossingStep (e : Engine) (scratch : Bool) (r : CrossingReply) (weights₀ weights : List ℤ) : Type 0 where
-  pub answer : Answered (said r) (crossingRefusal e scratch (length weights₀)) (weightFound (crossing (graphIn e) (weightsIn e))) 0
+  pub answer : Answered (crossingSaid r) (crossingRefusal e scratch (length weights₀)) (weightFound (crossing (graphIn e) (weightsIn e))) 0
   pub weights-after : weights ≡ after (crossingRefusal e scratch (length weights₀)) (leastFromLeft (graphIn e) (weightsIn e)) weights₀
 
 -- Engine, Crossing, last sentence: scratch holds after success and after 18 what the search from the left leaves; a call that 6 or 7 refuses leaves it as it was.

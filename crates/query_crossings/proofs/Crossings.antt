@@ -27,7 +27,7 @@ use Rattle.engine_walks.specs.Settling.{State, weightAt, firstLeast}
 use Rattle.engine_walks.specs.Answers.{taken, tableWeight, weightOf, fromLeft, leastFromLeft, nearestRight, crossing}
 use Rattle.query_relaxing.specs.Ready.{sumLimit}
 use Rattle.query_crossing_answer.specs.declared.CrossingReply.the-variants.{Crossed, Refused}
-use Rattle.query_crossing_answer.specs.Crossing.{isJoined, weightFound, said, crossingAsked}
+use Rattle.query_crossing_answer.specs.Crossing.{isJoined, weightFound, crossingSaid, crossingAsked}
 use Rattle.query_crossing_answer.specs.Codes.{Coded, whereFound, codeOf}
 use Rattle.query_questions.specs.Scratch.{isFree}
 use Rattle.query_search.proofs.Scratch.{ask-kept}
@@ -40,7 +40,7 @@ coded-of s (some v) h = (refl, h v)
 
 -- ---- what becomes of a code
 
-pub reply-of : (r : ℕ) (c : Option ℕ) → Coded r c → Answered (said (cond (eqb r 2147483648) (Refused 18) (Crossed r))) (ask (isJoined c) 18 0) (weightFound c) 0
+pub reply-of : (r : ℕ) (c : Option ℕ) → Coded r c → Answered (crossingSaid (cond (eqb r 2147483648) (Refused 18) (Crossed r))) (ask (isJoined c) 18 0) (weightFound c) 0
 reply-of r none e = rw (eq-eqb r 2147483648 e) (refuses-of refl (λ q. absurd (omega arith)))
 reply-of r (some w) (e, h) = rw (ne-eqb r 2147483648 (λ q. omega arith), e) (accepts-of refl)
 

@@ -18,17 +18,17 @@ use Rattle.query_questions.specs.Queries.{graphIn, weightsIn, queryRefusal}
 use Rattle.query_questions.specs.Scratch.{ScratchColumns, ScratchAfter}
 
 -- Expected forms by place, last paragraph: document 01's number and values for each case of `PathAnswer`: the path's length and total, both 0 at a refusal.
-abbrev pub said : PathAnswer → Said (ℕ × ℕ)
-said (Found len total) = accepts (len, total)
-said (Refused n) = refuses n (0, 0)
+abbrev pub foundSaid : PathAnswer → Said (ℕ × ℕ)
+foundSaid (Found len total) = accepts (len, total)
+foundSaid (Refused n) = refuses n (0, 0)
 
 -- Expected forms by place, last paragraph: the length of a path, from the answer.
 abbrev pub lengthOf : PathAnswer → ℕ
-lengthOf r = said r .values .0
+lengthOf r = foundSaid r .values .0
 
 -- Expected forms by place, last paragraph: the total of a path, from the answer.
 abbrev pub totalOf : PathAnswer → ℕ
-totalOf r = said r .values .1
+totalOf r = foundSaid r .values .1
 
 -- Questions at the door, 6, 7, 13 and 16, in order, of `get_path`: the number of the first that is not met, or 0; `scratch` says whether scratch is long enough.
 abbrev pub pathAsked : Engine → (scratch : Bool) (a b vertices steps : ℕ) → ℕ
@@ -53,7 +53,7 @@ pathRefusal (suc n) p = suc n
 
 -- Engine, Path, sentence 1: the answer, where the number before 17 and the path are known.
 abbrev pub PathSaid : (refusal : ℕ) → Option FoundPath → PathAnswer → Type 0
-PathSaid refusal p r = Answered (said r) (pathRefusal refusal p) (lengthAndTotal p) (0, 0)
+PathSaid refusal p r = Answered (foundSaid r) (pathRefusal refusal p) (lengthAndTotal p) (0, 0)
 
 -- Engine, Path, sentence 3: the columns after a search: places past the path's length are unchanged, and all places where there is no path.
 abbrev pub verticesAfter : Option FoundPath → List ℕ → List ℕ
@@ -74,4 +74,4 @@ pub record PathStep (e : Engine) (scratch : Bool) (a b : ℕ) (r : PathAnswer) (
 -- Engine, Crossing, last sentence: scratch holds after success and after 17 what the search from a with the end b leaves; a call that an earlier question
 -- refuses leaves it as it was.
 abbrev pub PathScratch : Engine → (a b : ℕ) → PathAnswer → ScratchColumns → ScratchColumns → Type 0
-PathScratch e a b r s₀ s = ScratchAfter (said r .number) (graphIn e) (settled (graphIn e) (weightsIn e) (only a) (some b)) s₀ s
+PathScratch e a b r s₀ s = ScratchAfter (foundSaid r .number) (graphIn e) (settled (graphIn e) (weightsIn e) (only a) (some b)) s₀ s

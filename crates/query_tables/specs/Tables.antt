@@ -9,7 +9,7 @@ use lib.Dec.{leb, ltb}
 use lib.IntN.{ℤ}
 use Rattle.columns.specs.Lists.{after}
 use Rattle.columns_answers.specs.Said.{Answered}
-use Rattle.columns_answers.specs.Done.{said}
+use Rattle.columns_answers.specs.Done.{doneSaid}
 use Rattle.columns.specs.declared.Done.{Done}
 use Rattle.engine_columns.specs.Records.{Engine}
 use Rattle.engine_walks.specs.Settling.{settled}
@@ -26,13 +26,13 @@ tableRefusal e scratch source end weights previous =
 
 -- Engine, Table: the answer of `all_edges_with_terminate`, and both columns.
 pub record TableStep (e : Engine) (scratch : Bool) (source : ℕ) (end : End) (r : Done) (weights₀ : List ℤ) (previous₀ : List ℕ) (weights : List ℤ) (previous : List ℕ) : Type 0 where
-  pub answer : Answered (said r) (tableRefusal e scratch source end (length weights₀) (length previous₀)) tt tt
+  pub answer : Answered (doneSaid r) (tableRefusal e scratch source end (length weights₀) (length previous₀)) tt tt
   pub weights-after : weights ≡ after (tableRefusal e scratch source end (length weights₀) (length previous₀)) (table (graphIn e) (weightsIn e) source (endIn end) .weights) weights₀
   pub previous-after : previous ≡ after (tableRefusal e scratch source end (length weights₀) (length previous₀)) (table (graphIn e) (weightsIn e) source (endIn end) .previous) previous₀
 
 -- Engine, Crossing, last sentence: scratch holds after success what the search from the source leaves; a refused call leaves it as it was.
 abbrev pub TableScratch : Engine → (source : ℕ) → End → Done → ScratchColumns → ScratchColumns → Type 0
-TableScratch e source end r s₀ s = ScratchAfter (said r .number) (graphIn e) (settled (graphIn e) (weightsIn e) (only source) (endIn end)) s₀ s
+TableScratch e source end r s₀ s = ScratchAfter (doneSaid r .number) (graphIn e) (settled (graphIn e) (weightsIn e) (only source) (endIn end)) s₀ s
 
 -- Engine, Table, and Crossing, last sentence: what a table from v with no end leaves where it serves another call: the two columns of the table and scratch, by
 -- the number of that call's answer. A refused call leaves them as they were.

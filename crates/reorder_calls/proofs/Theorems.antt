@@ -9,7 +9,7 @@ use lib.ListN.{length, getD, take, length-take, length-map, List·getD-map}
 use lib.Seq.{getD-take, length-take-le}
 use Rattle.columns.specs.Lists.{over}
 use Rattle.columns.specs.Questions.{allWithin}
-use Rattle.columns_answers.specs.Done.{said}
+use Rattle.columns_answers.specs.Done.{doneSaid}
 use Rattle.columns.specs.declared.Done.{Done}
 use Rattle.columns.proofs.Columns.{getD-any, after-accepted, over-in, length-over}
 use Rattle.columns.proofs.Tests.{both-and, within-first, at-within}
@@ -38,7 +38,7 @@ pub record Renumbered (v e : ℕ) (order : List ℕ) (before last : ReorderColum
   pub boundary-kept : (u : ℕ) → u < v → getD (last .boundary) (newNumber order u) 0 ≡ getD (before .boundary) u 0
 
 -- an accepted reordering
-module _ (v e : ℕ) (order : List ℕ) (before last : ReorderColumns) (answer : Done) (call : ReorderedVertices v e order before answer last) (accepted : said answer .number ≡ 0) where
+module _ (v e : ℕ) (order : List ℕ) (before last : ReorderColumns) (answer : Done) (call : ReorderedVertices v e order before answer last) (accepted : doneSaid answer .number ≡ 0) where
   refusal-is : reorderRefusal v e order before ≡ 0
   refusal-is = sym (call .answers .number-is) ∙ accepted
 

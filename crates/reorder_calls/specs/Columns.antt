@@ -10,7 +10,7 @@ use Rattle.columns.specs.Lists.{joined, after}
 use Rattle.columns.specs.Questions.{ask, allBelow, marksSound}
 use Rattle.columns.specs.Places.{zeroFloat}
 use Rattle.columns_answers.specs.Said.{Answered}
-use Rattle.columns_answers.specs.Done.{said}
+use Rattle.columns_answers.specs.Done.{doneSaid}
 use Rattle.columns.specs.declared.Done.{Done}
 use Rattle.columns_neighbors.specs.Lists.{sumTo, listAt}
 use Rattle.columns_room.specs.Room.{twoLong, threeLong, listsLong}
@@ -76,7 +76,7 @@ reorderRefusal v e order c =
 -- Sampling, syndromes, reordering, paragraph 2, sentence 5: the answer, and every column afterwards;
 -- after an accepted call the scratch starts with the old neighbour lists.
 pub record ReorderedVertices (v e : ℕ) (order : List ℕ) (c₀ : ReorderColumns) (answer : Done) (c : ReorderColumns) : Type 0 where
-  pub answers : Answered (said answer) (reorderRefusal v e order c₀) tt tt
+  pub answers : Answered (doneSaid answer) (reorderRefusal v e order c₀) tt tt
   pub endsA-is : c .endsA ≡ after (reorderRefusal v e order c₀) (renamed order (take e (c₀ .endsA))) (c₀ .endsA)
   pub endsB-is : c .endsB ≡ after (reorderRefusal v e order c₀) (renamed order (take e (c₀ .endsB))) (c₀ .endsB)
   pub boundary-is : c .boundary ≡ after (reorderRefusal v e order c₀) (moved order 0 (c₀ .boundary)) (c₀ .boundary)

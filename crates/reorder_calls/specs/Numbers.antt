@@ -9,7 +9,7 @@ use Rattle.columns.specs.Limits.{vertexLimit}
 use Rattle.columns.specs.Lists.{after}
 use Rattle.columns.specs.Questions.{ask, allBelow}
 use Rattle.columns_answers.specs.Said.{Said, accepts, refuses, Answered}
-use Rattle.columns_answers.specs.Done.{said}
+use Rattle.columns_answers.specs.Done.{doneSaid}
 use Rattle.columns.specs.declared.Done.{Done}
 use Rattle.reorder_calls.specs.declared.TranslatedAnswer.{TranslatedAnswer}
 use Rattle.reorder_calls.specs.declared.TranslatedAnswer.the-variants.{Count, Refused}
@@ -27,7 +27,7 @@ buildRefusal order column =
 
 -- Sampling, syndromes, reordering, paragraph 2, sentence 5: the answer, and the new number of each old vertex.
 pub record BuiltOldToNew (order column₀ : List ℕ) (answer : Done) (column : List ℕ) : Type 0 where
-  pub answers : Answered (said answer) (buildRefusal order column₀) tt tt
+  pub answers : Answered (doneSaid answer) (buildRefusal order column₀) tt tt
   pub column-is : column ≡ after (buildRefusal order column₀) (oldToNew order) column₀
 
 -- ---- translated_defect_to_reordered

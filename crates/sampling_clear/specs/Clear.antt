@@ -8,7 +8,7 @@ use lib.Dec.{leb}
 use Rattle.columns.specs.Lists.{after}
 use Rattle.columns.specs.Questions.{ask, vertexCountSound, edgeCountSound}
 use Rattle.columns_answers.specs.Said.{Answered}
-use Rattle.columns_answers.specs.Done.{said}
+use Rattle.columns_answers.specs.Done.{doneSaid}
 use Rattle.columns.specs.declared.Done.{Done}
 
 -- Questions at the door, 6 and 7, of `clear_errors`; both columns are only written, so 7 asks the counts alone.
@@ -18,6 +18,6 @@ clearRefusal v e defect erasure =
 
 -- Sampling, syndromes, reordering, paragraph 2, sentence 2: every defect byte 0, every erasure byte 1; the answer, and both columns afterwards.
 pub record ClearedErrors (v e : ℕ) (defect₀ erasure₀ : List ℕ) (answer : Done) (defect erasure : List ℕ) : Type 0 where
-  pub answers : Answered (said answer) (clearRefusal v e defect₀ erasure₀) tt tt
+  pub answers : Answered (doneSaid answer) (clearRefusal v e defect₀ erasure₀) tt tt
   pub defect-is : defect ≡ after (clearRefusal v e defect₀ erasure₀) (replicate v 0) defect₀
   pub erasure-is : erasure ≡ after (clearRefusal v e defect₀ erasure₀) (replicate e 1) erasure₀

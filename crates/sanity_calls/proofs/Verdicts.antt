@@ -17,11 +17,11 @@ use Rattle.sanity_verdicts.specs.declared.Verdict.the-variants.{Sound, Empty, D
 use Rattle.columns_neighbors.specs.Lists.{sumTo, listAt}
 use Rattle.columns_room.specs.Room.{twoLong, listsLong}
 use Rattle.columns_room.proofs.Refusals.{two-long, lists-long}
-use Rattle.sanity_verdicts.specs.Sanity.{edgeNumbered, vertexNumbered, said, orElse, firstOf, foundIf, duplicate, twice, atVertex, verdict, sanityLong, SanityChecked}
+use Rattle.sanity_verdicts.specs.Sanity.{edgeNumbered, vertexNumbered, verdictSaid, orElse, firstOf, foundIf, duplicate, twice, atVertex, verdict, sanityLong, SanityChecked}
 
 -- ---- a verdict is no refusal
 
-or-finding : (x y : Verdict) → said x .accepted ≡ true → said y .accepted ≡ true → said (orElse x y) .accepted ≡ true
+or-finding : (x y : Verdict) → verdictSaid x .accepted ≡ true → verdictSaid y .accepted ≡ true → verdictSaid (orElse x y) .accepted ≡ true
 or-finding Sound y p q = q
 or-finding Empty y p q = p
 or-finding (DuplicateEdge j k) y p q = p
@@ -29,21 +29,21 @@ or-finding (NoEdges v) y p q = p
 or-finding (EdgeTwice j v) y p q = p
 or-finding (Refused n) y p q = p
 
-first-finding : (n : ℕ) (f : ℕ → Verdict) → ((i : ℕ) → said (f i) .accepted ≡ true) → said (firstOf n f) .accepted ≡ true
+first-finding : (n : ℕ) (f : ℕ → Verdict) → ((i : ℕ) → verdictSaid (f i) .accepted ≡ true) → verdictSaid (firstOf n f) .accepted ≡ true
 unfolding firstOf
 first-finding zero f h = refl
 first-finding (suc n) f h = or-finding (firstOf n f) (f n) (first-finding n f h) (h n)
 
-pick-finding : (b : Bool) (x y : Verdict) → said x .accepted ≡ true → said y .accepted ≡ true → said (cond b x y) .accepted ≡ true
+pick-finding : (b : Bool) (x y : Verdict) → verdictSaid x .accepted ≡ true → verdictSaid y .accepted ≡ true → verdictSaid (cond b x y) .accepted ≡ true
 pick-finding true x y p q = p
 pick-finding false x y p q = q
 
-pair-finding : (a b : List ℕ) (k : ℕ) → said (duplicate a b k) .accepted ≡ true
+pair-finding : (a b : List ℕ) (k : ℕ) → verdictSaid (duplicate a b k) .accepted ≡ true
 unfolding duplicate
 pair-finding a b k =
     first-finding k (λ j. foundIf (samePair a b j k) (DuplicateEdge (edgeNumbered j) (edgeNumbered k))) (λ j. pick-finding (samePair a b j k) (DuplicateEdge (edgeNumbered j) (edgeNumbered k)) Sound refl refl)
 
-vertex-finding : (list : List ℕ) (n v : ℕ) → said (atVertex list n v) .accepted ≡ true
+vertex-finding : (list : List ℕ) (n v : ℕ) → verdictSaid (atVertex list n v) .accepted ≡ true
 unfolding atVertex twice
 vertex-finding list n v =
     pick-finding (eqb n 0) (NoEdges (vertexNumbered v)) (twice list v) refl
@@ -53,7 +53,7 @@ vertex-finding list n v =
     same : ℕ → ℕ → Verdict
     same i j = foundIf (eqb (getD list j 0) (getD list i 0)) (EdgeTwice (edgeNumbered (getD list i 0)) (vertexNumbered v))
 
-accepted-said : (x : Verdict) → said x .accepted ≡ true → said x ≡ accepts (said x .values)
+accepted-said : (x : Verdict) → verdictSaid x .accepted ≡ true → verdictSaid x ≡ accepts (verdictSaid x .values)
 accepted-said Sound e = refl
 accepted-said Empty e = refl
 accepted-said (DuplicateEdge j k) e = refl
@@ -62,12 +62,12 @@ accepted-said (EdgeTwice j v) e = refl
 accepted-said (Refused n) e = absurd (false≢true e)
 
 -- the verdict, or question 6
-said-of : (long : Bool) (x r : Verdict) → said x .accepted ≡ true → r ≡ cond long x (Refused 6)
-    → Answered (said r) (ask long 6 0) (said x .values) (0, 0, 0)
+said-of : (long : Bool) (x r : Verdict) → verdictSaid x .accepted ≡ true → r ≡ cond long x (Refused 6)
+    → Answered (verdictSaid r) (ask long 6 0) (verdictSaid x .values) (0, 0, 0)
 said-of true x r f e =
-    subst (λ (s : Said (ℕ × ℕ × ℕ)). Answered s 0 (said x .values) (0, 0, 0)) (sym (ap said e ∙ accepted-said x f)) (accepts-of refl)
+    subst (λ (s : Said (ℕ × ℕ × ℕ)). Answered s 0 (verdictSaid x .values) (0, 0, 0)) (sym (ap verdictSaid e ∙ accepted-said x f)) (accepts-of refl)
 said-of false x r f e =
-    subst (λ (y : Verdict). Answered (said y) 6 (said x .values) (0, 0, 0)) (sym e) (refuses-of refl (λ z. absurd (omega arith)))
+    subst (λ (y : Verdict). Answered (verdictSaid y) 6 (verdictSaid x .values) (0, 0, 0)) (sym e) (refuses-of refl (λ z. absurd (omega arith)))
 
 module _ (v e : ℕ) (a b lengths numbers : List ℕ) where
   -- what the two scans find
@@ -110,7 +110,7 @@ module _ (v e : ℕ) (a b lengths numbers : List ℕ) where
       both-and (both-and (both-and (le-leb _ _ (l .a-long)) (le-leb _ _ (l .b-long))) (le-leb _ _ (l .lengths-long)))
       (both-and (le-leb _ _ (l .twice-long)) (le-leb _ _ (l .sum-long)))
 
-  not-refused : said (verdict v e a b lengths numbers) .accepted ≡ true
+  not-refused : verdictSaid (verdict v e a b lengths numbers) .accepted ≡ true
   unfolding verdict
   not-refused =
       pick-finding (eqb v 0 || eqb e 0) Empty scans refl

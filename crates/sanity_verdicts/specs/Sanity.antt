@@ -28,13 +28,13 @@ vertexNumbered v = record { 0 = v }
 -- Six builders, sanity_check, sentence 1; Expected forms by place, last paragraph: the number of the question that refuses, 0 where none does,
 -- and the verdict with its two values, 0 where there is none: 0 sound, 1 empty, 2 duplicate edge (first and later number),
 -- 3 vertex without edges (its number), 4 edge twice at a vertex (edge, vertex).
-abbrev pub said : Verdict → Said (ℕ × ℕ × ℕ)
-said Sound = accepts (0, 0, 0)
-said Empty = accepts (1, 0, 0)
-said (DuplicateEdge earlier later) = accepts (2, earlier .0, later .0)
-said (NoEdges vertex) = accepts (3, vertex .0, 0)
-said (EdgeTwice edge vertex) = accepts (4, edge .0, vertex .0)
-said (Refused number) = refuses number (0, 0, 0)
+abbrev pub verdictSaid : Verdict → Said (ℕ × ℕ × ℕ)
+verdictSaid Sound = accepts (0, 0, 0)
+verdictSaid Empty = accepts (1, 0, 0)
+verdictSaid (DuplicateEdge earlier later) = accepts (2, earlier .0, later .0)
+verdictSaid (NoEdges vertex) = accepts (3, vertex .0, 0)
+verdictSaid (EdgeTwice edge vertex) = accepts (4, edge .0, vertex .0)
+verdictSaid (Refused number) = refuses number (0, 0, 0)
 
 -- ---- the first finding
 
@@ -89,4 +89,4 @@ sanityLong v e a b lengths numbers = (twoLong e (length a) (length b) && leb v (
 -- the call's case, and in document 01's numbers the question, the verdict and its values.
 pub record SanityChecked (v e : ℕ) (a b lengths numbers : List ℕ) (answer : Verdict) : Type 0 where
   pub case-is : answer ≡ cond (sanityLong v e a b lengths numbers) (verdict v e a b lengths numbers) (Refused 6)
-  pub answers : Answered (said answer) (ask (sanityLong v e a b lengths numbers) 6 0) (said (verdict v e a b lengths numbers) .values) (0, 0, 0)
+  pub answers : Answered (verdictSaid answer) (ask (sanityLong v e a b lengths numbers) 6 0) (verdictSaid (verdict v e a b lengths numbers) .values) (0, 0, 0)

@@ -11,7 +11,7 @@ use Rattle.columns.specs.Questions.{ask}
 use Rattle.columns_answers.specs.Said.{Said, accepts, refuses, Answered}
 use Rattle.text_input.specs.declared.CodeLine.{CodeLine}
 use Rattle.text_input.specs.declared.LineRead.{LineRead}
-use Rattle.text_input.specs.Line.{wellFormed, lineOf, said as lineSaid}
+use Rattle.text_input.specs.Line.{wellFormed, lineOf, lineSaid}
 use Rattle.text_numbers.specs.Text.{refusalLine}
 use Rattle.text_listing.specs.Listing.{codeText}
 use Rattle.text_answer.specs.declared.Listed.{Listed}
@@ -39,9 +39,9 @@ abbrev pub textRoom : ℕ
 textRoom = 320000
 
 -- Expected forms by place, last paragraph: document 01's number for each case of `Listed`, and how many bytes the text has: 0 where the call was refused.
-abbrev pub said : Listed → Said ℕ
-said (Text bytes) = accepts bytes
-said (Refused number) = refuses number 0
+abbrev pub textSaid : Listed → Said ℕ
+textSaid (Text bytes) = accepts bytes
+textSaid (Refused number) = refuses number 0
 
 -- Questions at the door, 6, of the text column.
 abbrev pub textRefusal : List ℕ → ℕ
@@ -49,5 +49,5 @@ textRefusal text = ask (leb textRoom (length text)) 6 0
 
 -- The program codelist: the call's answer, and the text column before and after.
 pub record CodeListed (input before text : List ℕ) (r : Listed) : Type 0 where
-  pub answer : Answered (said r) (textRefusal before) (length (answerText input)) 0
+  pub answer : Answered (textSaid r) (textRefusal before) (length (answerText input)) 0
   pub written : text ≡ after (textRefusal before) (answerText input) before

@@ -14,7 +14,7 @@ use Rattle.columns.proofs.Tests.{and-both}
 use Rattle.text_input.specs.declared.CodeLine.{CodeLine}
 use Rattle.text_input.specs.declared.LineRead.{LineRead}
 use Rattle.text_input.specs.declared.LineRead.the-variants.{WellFormed, NotWellFormed}
-use Rattle.text_input.specs.Line.{comma, newline, isHexDigit, digits, digitOf, hexDigitOf, number, decimalOf, hexOf, afterDecimal, decimalSound, hexSound, fromD, fromRounds, fromP, fromM, wellFormed, lineOf, noLine, said, ReadsLine, LongInputsAlike}
+use Rattle.text_input.specs.Line.{comma, newline, isHexDigit, digits, digitOf, hexDigitOf, number, decimalOf, hexOf, afterDecimal, decimalSound, hexSound, fromD, fromRounds, fromP, fromM, wellFormed, lineOf, noLine, lineSaid, ReadsLine, LongInputsAlike}
 use Rattle.columns_answers.specs.Said.{Answered}
 use Rattle.columns_answers.proofs.Said.{accepts-of, refuses-of}
 use Rattle.text_input.proofs.Runs.{digits-within}
@@ -100,7 +100,7 @@ pub too-long : (t : List ℕ) → 57 < length t → ReadsLine t NotWellFormed
 too-long t h = not-formed t (not-well t h)
 
 -- a refusal says nothing of the numbers
-no-values : (r : LineRead) (a b : Bool) (v w : CodeLine) → a ≡ false → b ≡ false → Answered (said r) (ask a 1 0) v noLine → Answered (said r) (ask b 1 0) w noLine
+no-values : (r : LineRead) (a b : Bool) (v w : CodeLine) → a ≡ false → b ≡ false → Answered (lineSaid r) (ask a 1 0) v noLine → Answered (lineSaid r) (ask b 1 0) w noLine
 no-values r true b v w p q x = absurd (false≢true (sym p))
 no-values r false true v w p q x = absurd (false≢true (sym q))
 no-values r false false v w p q x = record { number-is = x .number-is; values-are = x .values-are; accepted-is = x .accepted-is }

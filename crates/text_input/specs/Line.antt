@@ -108,13 +108,13 @@ abbrev pub noLine : CodeLine
 noLine = record { kind = 0; d = 0; rounds = 0; bits = 0; max = 0 }
 
 -- Expected forms by place, last paragraph: document 01's number and values for each case of `LineRead`: the five numbers, 0 where the line was refused.
-abbrev pub said : LineRead → Said CodeLine
-said (WellFormed l) = accepts l
-said NotWellFormed = refuses 1 noLine
+abbrev pub lineSaid : LineRead → Said CodeLine
+lineSaid (WellFormed l) = accepts l
+lineSaid NotWellFormed = refuses 1 noLine
 
 -- Questions at the door, 1: what reading a line answers, and the five numbers.
 abbrev pub ReadsLine : List ℕ → LineRead → Type 0
-ReadsLine t r = Answered (said r) (ask (wellFormed t) 1 0) (lineOf t) noLine
+ReadsLine t r = Answered (lineSaid r) (ask (wellFormed t) 1 0) (lineOf t) noLine
 
 -- ---- a part of an input
 

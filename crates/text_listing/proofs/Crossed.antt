@@ -27,7 +27,7 @@ use Rattle.codes_graphs.specs.Graphs.{builtGraph}
 use Rattle.codes_graphs.proofs.Sound.{built}
 use Rattle.query_crossing_answer.specs.declared.CrossingReply.{CrossingReply}
 use Rattle.query_questions.specs.Queries.{graphIn, weightsIn, scratchLong}
-use Rattle.query_crossing_answer.specs.Crossing.{isJoined, weightFound, said, crossingRefusal}
+use Rattle.query_crossing_answer.specs.Crossing.{isJoined, weightFound, crossingSaid, crossingRefusal}
 use Rattle.columns_answers.specs.Said.{Answered}
 use Rattle.text_listing.specs.Listing.{weightsOf, crossingOf}
 use Rattle.text_listing.specs.Steps.{HoldsWeights, ScratchRoom, Replied}
@@ -105,11 +105,11 @@ module _ (kind d rounds : ℕ) (p : _) (max v e : ℕ) (a b w m : List ℕ) (s :
   same-crossing le lw = λ i. crossing (same-graph le lw i) (λ k. getD (s .in-w i) k 0)
 
   pub replied : (le lw : List ℕ) (out n1 n2 n3 n4 n5 n6 n7 : ℕ) (r : CrossingReply) → ScratchRoom out n1 n2 n3 n4 n5 n6 n7
-      → Answered (said r) (crossingRefusal (the-engine le lw) (scratchLong v e n1 n2 n3 n4 n5 n6 n7) out) (weightFound (crossing (graphIn (the-engine le lw)) (weightsIn (the-engine le lw)))) 0
+      → Answered (crossingSaid r) (crossingRefusal (the-engine le lw) (scratchLong v e n1 n2 n3 n4 n5 n6 n7) out) (weightFound (crossing (graphIn (the-engine le lw)) (weightsIn (the-engine le lw)))) 0
       → Replied kind d rounds p max r
   replied le lw out n1 n2 n3 n4 n5 n6 n7 r room q =
       let o : Option ℕ = crossing (graphIn (the-engine le lw)) (weightsIn (the-engine le lw)) in
       let number : crossingRefusal (the-engine le lw) (scratchLong v e n1 n2 n3 n4 n5 n6 n7) out ≡ ask (isJoined o) 18 0 =
       λ i. ask (both-and (engine-long le lw) (scratch-long out n1 n2 n3 n4 n5 n6 n7 room) i) 6 (ask (engine-sound le lw i) 7 (ask (isJoined o) 18 0)) in
-      subst (λ (c : Option ℕ). Answered (said r) (ask (isJoined c) 18 0) (weightFound c) 0) (same-crossing le lw)
-      (subst (λ (n : ℕ). Answered (said r) n (weightFound o) 0) number q)
+      subst (λ (c : Option ℕ). Answered (crossingSaid r) (ask (isJoined c) 18 0) (weightFound c) 0) (same-crossing le lw)
+      (subst (λ (n : ℕ). Answered (crossingSaid r) n (weightFound o) 0) number q)

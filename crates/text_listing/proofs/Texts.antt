@@ -18,7 +18,7 @@ use Rattle.query_crossing_answer.specs.declared.CrossingReply.{CrossingReply}
 use Rattle.query_crossing_answer.specs.declared.CrossingReply.the-variants.{Crossed, Refused}
 use Rattle.columns.specs.Questions.{ask}
 use Rattle.columns_answers.specs.Said.{Answered}
-use Rattle.query_crossing_answer.specs.Crossing.{isJoined, weightFound, said}
+use Rattle.query_crossing_answer.specs.Crossing.{isJoined, weightFound, crossingSaid}
 use Rattle.query_crossing_answer.proofs.Cases.{crossed-case, refused-case}
 use Rattle.codes_calls.specs.declared.Created.{Created}
 use Rattle.codes_calls.specs.declared.Created.the-variants as made
@@ -52,7 +52,7 @@ module _ (kind d rounds : ℕ) (p : Float) (max v e : ℕ) (a b w m : List ℕ) 
   unfolding listing
   same-listing weight = λ i. graphLine kind d rounds (s .vertices i) (s .edges i) ++ (same-vertices i ++ (same-edges i ++ crossingLine weight))
 
-  by-crossing : (o : Option ℕ) (r : CrossingReply) → Answered (said r) (ask (isJoined o) 18 0) (weightFound o) 0
+  by-crossing : (o : Option ℕ) (r : CrossingReply) → Answered (crossingSaid r) (ask (isJoined o) 18 0) (weightFound o) 0
       → replyText kind d rounds v e m a b w r ≡ withCrossing kind d rounds (weightsOf kind d rounds p max) o
   by-crossing (some weight) r q = ap (replyText kind d rounds v e m a b w) (crossed-case r q refl) ∙ same-listing weight
   by-crossing none r q = ap (replyText kind d rounds v e m a b w) (refused-case r q (λ h. absurd (omega arith)))

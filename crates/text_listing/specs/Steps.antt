@@ -15,7 +15,7 @@ use Rattle.codes_calls.specs.declared.Created.{Created}
 use Rattle.codes_calls.specs.declared.Created.the-variants as made
 use Rattle.query_crossing_answer.specs.declared.CrossingReply.{CrossingReply}
 use Rattle.query_crossing_answer.specs.declared.CrossingReply.the-variants.{Crossed, Refused}
-use Rattle.query_crossing_answer.specs.Crossing.{isJoined, weightFound, said}
+use Rattle.query_crossing_answer.specs.Crossing.{isJoined, weightFound, crossingSaid}
 use Rattle.columns_answers.specs.Said.{Answered}
 use Rattle.text_numbers.specs.Text.{refusalLine, listing}
 use Rattle.text_listing.specs.Listing.{weightsOf, crossingOf, listingOf}
@@ -61,7 +61,7 @@ pub record HoldsWeights (kind d rounds : ℕ) (p : Float) (max v e : ℕ) (a b w
 
 -- Engine, Crossing; Questions at the door, 18: what the crossing query answers.
 abbrev pub Replied : (kind d rounds : ℕ) (p : Float) (max : ℕ) → CrossingReply → Type 0
-Replied kind d rounds p max r = Answered (said r) (ask (isJoined (crossingOf kind d rounds p max)) 18 0) (weightFound (crossingOf kind d rounds p max)) 0
+Replied kind d rounds p max r = Answered (crossingSaid r) (ask (isJoined (crossingOf kind d rounds p max)) 18 0) (weightFound (crossingOf kind d rounds p max)) 0
 
 -- The program codelist, sentence 4 and the listing: the text for what the crossing query answers.
 abbrev pub replyText : (kind d rounds v e : ℕ) (boundary a b weights : List ℕ) → CrossingReply → List ℕ

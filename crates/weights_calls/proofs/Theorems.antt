@@ -14,7 +14,7 @@ use lib.Ieee.{Float, nan, inf, fin, binary64, add, sub, mul, div, lt, le, eq, of
 use borrow.Author.Tests.{le-leb, leb-true}
 use Rattle.columns.specs.Limits.{edgeLimit, halfWeightLimit}
 use Rattle.columns.specs.Questions.{ask, all}
-use Rattle.columns_answers.specs.Done.{said}
+use Rattle.columns_answers.specs.Done.{doneSaid}
 use Rattle.columns.specs.Places.{zeroFloat, half}
 use Rattle.columns.specs.declared.Done.{Done}
 use Rattle.columns.specs.declared.Done.the-variants.{Accepted}
@@ -71,7 +71,7 @@ pub written : {edges : ℕ} {p : List Float} {before : List ℕ} {max : ℕ} {co
     → Met edges p before max × Written edges p before max column
 written {edges} {p} {before} {max} {column} {answer} w a =
     let q = computeRefusal edges p before max in
-    let zero : q ≡ 0 = sym (w .answers .number-is) ∙ ap (λ (r : Done). said r .number) a in
+    let zero : q ≡ 0 = sym (w .answers .number-is) ∙ ap (λ (r : Done). doneSaid r .number) a in
     let m = all-met edges p before max zero in
     let ps = take edges p in
     let one : Float → ℕ = λ x. halfWeight max (edgeWeight x) (largestWeight ps) in

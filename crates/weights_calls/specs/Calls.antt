@@ -11,7 +11,7 @@ use Rattle.columns.specs.Lists.{after}
 use Rattle.columns.specs.Questions.{ask, all}
 use Rattle.columns.specs.Places.{zeroFloat}
 use Rattle.columns_answers.specs.Said.{Answered}
-use Rattle.columns_answers.specs.Done.{said}
+use Rattle.columns_answers.specs.Done.{doneSaid}
 use Rattle.columns.specs.declared.Done.{Done}
 use Rattle.weights_recipe.specs.Probabilities.{isProbability}
 use Rattle.weights_recipe.specs.Logarithm.{edgeWeight}
@@ -66,5 +66,5 @@ computeRefusal edges p column max =
 
 -- Weights, `compute_weights`: its answer, and what stands in the half-weight column, `before` it and afterwards.
 pub record ComputedWeights (edges : ℕ) (p : List Float) (before : List ℕ) (max : ℕ) (column : List ℕ) (answer : Done) : Type 0 where
-  pub answers : Answered (said answer) (computeRefusal edges p before max) tt tt
+  pub answers : Answered (doneSaid answer) (computeRefusal edges p before max) tt tt
   pub writes : column ≡ after (computeRefusal edges p before max) (halfWeights max (take edges p)) before

@@ -10,7 +10,7 @@ use Rattle.columns.specs.Limits.{edgeLimit}
 use Rattle.columns.specs.Lists.{after}
 use Rattle.columns.specs.Questions.{ask}
 use Rattle.columns_answers.specs.Said.{Answered}
-use Rattle.columns_answers.specs.Done.{said}
+use Rattle.columns_answers.specs.Done.{doneSaid}
 use Rattle.columns.specs.declared.Done.{Done}
 
 -- Questions at the door, 6, 7 and 9, of `set_probability` and `set_erasure_probability`; `met` is question 9 of the one number.
@@ -19,5 +19,5 @@ setEachRefusal met edges column = ask (leb edges (length column)) 6 (ask (leb ed
 
 -- Records, on edges, p or pe of every edge set to one number: the call's answer, and what stands in the column of p or pe, `before` it and afterwards.
 pub record SetEach (met : Bool) (edges : ℕ) (value : Float) (before column : List Float) (answer : Done) : Type 0 where
-  pub answers : Answered (said answer) (setEachRefusal met edges before) tt tt
+  pub answers : Answered (doneSaid answer) (setEachRefusal met edges before) tt tt
   pub writes : column ≡ after (setEachRefusal met edges before) (replicate edges value) before

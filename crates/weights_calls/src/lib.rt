@@ -30,7 +30,7 @@ ghost use Rattle.columns.specs.Places.{zeroFloat};
 ghost use Rattle.weights_recipe.specs.Logarithm.{edgeWeight};
 ghost use Rattle.weights_recipe.specs.Rounding.{halfWeight};
 ghost use Rattle.columns_answers.specs.Said.{Answered};
-ghost use Rattle.weights_calls.specs.Answers.{said};
+ghost use Rattle.weights_calls.specs.Answers.{weightSaid};
 ghost use Rattle.weights_calls.specs.Steps.{Known, halfWeightOf};
 ghost use Rattle.weights_calls.specs.Calls.{weightRefusal, larger, largestWeight, isLargestHalfWeight, ComputedWeights};
 
@@ -42,7 +42,7 @@ pub enum WeightOfP {
 
 // The weight of an edge with probability p.
 pub fn weight_of_p(p: f64) -> WeightOfP
-    ensures { λ r. ⌜ Answered (said r) (weightRefusal p) (edgeWeight p) zeroFloat ⌝ }
+    ensures { λ r. ⌜ Answered (weightSaid r) (weightRefusal p) (edgeWeight p) zeroFloat ⌝ }
 {
     if is_probability(p) {
         WeightOfP::Weighs(edge_weight(p))

@@ -17,7 +17,7 @@ use Rattle.engine_walks.specs.Answers.{crossing, fromLeft, leastFromLeft}
 use Rattle.query_relaxing.specs.Ready.{stateOf}
 use Rattle.query_questions.specs.Queries.{graphIn, weightsIn, scratchLong}
 use Rattle.query_questions.specs.Scratch.{ScratchColumns, scratchOf, isFree, SearchLeft}
-use Rattle.query_crossing_answer.specs.Crossing.{isJoined, weightFound, said, crossingAsked}
+use Rattle.query_crossing_answer.specs.Crossing.{isJoined, weightFound, crossingSaid, crossingAsked}
 use Rattle.query_crossing_answer.specs.Codes.{Coded}
 use Rattle.query_search.specs.Search.{Settles}
 use Rattle.query_search.proofs.Asked.{ScratchLong, scratch-of}
@@ -158,7 +158,7 @@ returns c =
     let last : State = stateOf (take v (after-it (c .before .before .before .before .before .before .before .before .before .before .before .before .before .before .before .before .before .before .before .before .before .before .before .before) .status)) (take v (after-it (c .before .before .before .before .before .before .before .before .before .before .before .before .before .before .before .before .before .before .before .before .before .before .before .before) .weight)) back in
     let r = c .before .before .before .before .before .before .nearest-right .result in
     let coded : Coded r (crossing g w) = found-is g w last (state-read l o) r _ (status-length l o) (weight-length l o) (λ u h. light-read l o u (omega (arith, status-length l o, h))) (c .before .before .before .before .before .before .nearest-right .ensures back) in
-    let replied : Answered (said (c .reply .result)) (ask (isJoined (crossing g w)) 18 0) (weightFound (crossing g w)) 0 = rw (c .reply .ensures) (reply-of r (crossing g w) coded) in
+    let replied : Answered (crossingSaid (c .reply .result)) (ask (isJoined (crossing g w)) 18 0) (weightFound (crossing g w)) 0 = rw (c .reply .ensures) (reply-of r (crossing g w) coded) in
     let next = refusal-passed (engine-of s) (scratch-at s) (length out₀) (ask (isJoined (crossing g w)) 18 0) z in (
       record {
         answer = rw next replied;

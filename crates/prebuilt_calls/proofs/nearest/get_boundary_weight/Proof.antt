@@ -19,7 +19,7 @@ use Rattle.prebuilt_entries.specs.Nearest.{boundaryIn}
 use Rattle.prebuilt_entries.proofs.Amounts.{cut-fits}
 use Rattle.columns_answers.specs.Said.{accepts}
 use Rattle.columns_answers.proofs.Said.{accepts-of, refuses-of}
-use Rattle.prebuilt_calls.specs.Nearest.{said, boundaryFound}
+use Rattle.prebuilt_calls.specs.Nearest.{nearestSaid, boundaryFound}
 use Rattle.prebuilt_calls.proofs.Replies.{inside-of}
 use borrow.Author.Needs.{needs}
 use Rattle.prebuilt_calls.proofs.nearest.get_boundary_weight.Statement.{statement}
@@ -98,10 +98,10 @@ returns c =
     let k = asked-at s z in
     let w = c .before .before .before .before .before .before .before .before .before .before .before .before .before .before .before .before .before .before .before .before .before .before .before .all-edges .ensures .0 .weights-after ∙ after-accepted (number-at s) (table (graphIn (engine-of s)) (weightsIn (engine-of s)) (s .args .vertex .0) none .weights) (s .args .least .now) z in
     let f = cut-fits (table (graphIn (engine-of s)) (weightsIn (engine-of s)) (s .args .vertex .0) none .weights) (s .args .least .now) (s .args .c .vertices) w (table-weights-length (graphIn (engine-of s)) (weightsIn (engine-of s)) (s .args .vertex .0) none) (k .weights-long) in
-    let r : said (c .boundary-answer .result) ≡ accepts (boundaryFound (table (graphIn (engine-of s)) (weightsIn (engine-of s)) (s .args .vertex .0) none .weights) (boundaryIn (take (s .args .c .vertices) (s .args .boundary .now)) (table (graphIn (engine-of s)) (weightsIn (engine-of s)) (s .args .vertex .0) none .weights) (s .args .c .vertices) (s .args .vertex .0))) =
+    let r : nearestSaid (c .boundary-answer .result) ≡ accepts (boundaryFound (table (graphIn (engine-of s)) (weightsIn (engine-of s)) (s .args .vertex .0) none .weights) (boundaryIn (take (s .args .c .vertices) (s .args .boundary .now)) (table (graphIn (engine-of s)) (weightsIn (engine-of s)) (s .args .vertex .0) none .weights) (s .args .c .vertices) (s .args .vertex .0))) =
     c .boundary-answer .ensures ∙ (λ i. accepts (boundaryFound (f .2 i) (boundaryIn (take (s .args .c .vertices) (s .args .boundary .now)) (f .2 i) (f .1 i) (s .args .vertex .0)))) in
     let b = c .before .before .before .before .before .before .before .before .before .before .before .before .before .before .before .before .before .before .before .before .before .before .before .all-edges in
-    (rw r (accepts-of z), inside-of (said (c .boundary-answer .result) .number) (b .ensures .0) (b .ensures .1) (b .ensures .0 .answer .number-is ∙ z ∙ sym (ap (λ x. x .number) r)))
+    (rw r (accepts-of z), inside-of (nearestSaid (c .boundary-answer .result) .number) (b .ensures .0) (b .ensures .1) (b .ensures .0 .answer .number-is ∙ z ∙ sym (ap (λ x. x .number) r)))
 
 returns-2 : tie.Need-returns-2
 unfolding number-at engine-of scratch-at

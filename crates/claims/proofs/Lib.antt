@@ -1,4 +1,5 @@
 -- Agreeing: what the engine's columns and the tally have in common, for a crossing. Runs: every list of calls. Built: codes. Proved: the demand.
+-- Computed: the starred examples.
 pub mod Agreeing
 pub mod Runs
 pub mod Built

@@ -5,6 +5,7 @@ use mathlib.Core.Bool.{Bool, _&&_}
 use mathlib.Core.List.{List}
 use lib.ListN.{length, replicate}
 use lib.Ieee.{Float}
+use denote.Ref.{RefT, now}
 use Rattle.columns.specs.Lists.{after}
 use Rattle.columns.specs.Questions.{ask}
 use Rattle.columns_answers.specs.Said.{Answered}
@@ -29,6 +30,10 @@ pub record Vertices : Type 0 where
 abbrev pub vertices : List Float → List Float → List Float → List ℕ → List ℕ → List ℕ → List ℕ → Vertices
 vertices i j t boundary defect lengths numbers =
     record { i = i; j = j; t = t; boundary = boundary; defect = defect; lengths = lengths; numbers = numbers }
+
+-- Records, on vertices and on neighbour lists: likewise, lent or left by reference.
+abbrev pub verticesIn : (i j t : RefT (List Float)) (boundary defect lengths numbers : RefT (List ℕ)) → Vertices
+verticesIn i j t boundary defect lengths numbers = vertices (now i) (now j) (now t) (now boundary) (now defect) (now lengths) (now numbers)
 
 -- Questions at the door, 6: vertex columns as long as the vertices.
 unfoldable pub vertexColumnsLong : ℕ → Vertices → Bool

@@ -5,7 +5,7 @@ ghost use lib.ListN.{length};
 ghost use Rattle.columns.specs.Lists.{over};
 ghost use Rattle.columns_neighbors.specs.Lists.{lists, degrees};
 ghost use Rattle.columns_neighbors.specs.Steps.{InRange};
-ghost use Rattle.access_calls.specs.Fill.{vertices, vertexColumnsLong, fillRefusal, FilledVertices};
+ghost use Rattle.access_calls.specs.Fill.{vertices, vertexColumnsLong, fillRefusal, FilledVertices, verticesIn};
 use columns::Done;
 use columns::done_of;
 use columns::questions::asked;
@@ -28,7 +28,7 @@ fn vertex_columns_long(
     list_lengths: &[u32],
     neighbor_numbers: &[u32],
 ) -> bool
-    ensures { λ r. ⌜ r ≡ vertexColumnsLong «vertex_num» (vertices (now («pos_i» .entry)) (now («pos_j» .entry)) (now («pos_t» .entry)) (now (boundary .entry)) (now (defect .entry)) (now («list_lengths» .entry)) (now («neighbor_numbers» .entry))) ⌝ }
+    ensures { λ r. ⌜ r ≡ vertexColumnsLong «vertex_num» (verticesIn («pos_i» .entry) («pos_j» .entry) («pos_t» .entry) (boundary .entry) (defect .entry) («list_lengths» .entry) («neighbor_numbers» .entry)) ⌝ }
 {
     let n = vertex_num as usize;
     let positions = three_long(n, pos_i.len(), pos_j.len(), pos_t.len());
@@ -50,7 +50,7 @@ fn fill_refusal(
     list_lengths: &[u32],
     neighbor_numbers: &[u32],
 ) -> u32
-    ensures { λ r. ⌜ r ≡ fillRefusal «vertex_num» «edge_num» (now («ends_a» .entry)) (now («ends_b» .entry)) (vertices (now («pos_i» .entry)) (now («pos_j» .entry)) (now («pos_t» .entry)) (now (boundary .entry)) (now (defect .entry)) (now («list_lengths» .entry)) (now («neighbor_numbers» .entry))) ⌝ }
+    ensures { λ r. ⌜ r ≡ fillRefusal «vertex_num» «edge_num» (now («ends_a» .entry)) (now («ends_b» .entry)) (verticesIn («pos_i» .entry) («pos_j» .entry) («pos_t» .entry) (boundary .entry) (defect .entry) («list_lengths» .entry) («neighbor_numbers» .entry)) ⌝ }
 {
     let vertices = vertex_columns_long(
         vertex_num,
@@ -107,8 +107,8 @@ pub fn fill_vertices(
     neighbor_numbers: &mut [u32],
 ) -> Done
     ensures { λ r. ⌜ FilledVertices «vertex_num» «edge_num» (now («ends_a» .entry)) (now («ends_b» .entry))
-        (vertices (now («pos_i» .entry)) (now («pos_j» .entry)) (now («pos_t» .entry)) (now (boundary .entry)) (now (defect .entry)) (now («list_lengths» .entry)) (now («neighbor_numbers» .entry)))
-        (vertices (now («pos_i» .exit)) (now («pos_j» .exit)) (now («pos_t» .exit)) (now (boundary .exit)) (now (defect .exit)) (now («list_lengths» .exit)) (now («neighbor_numbers» .exit)))
+        (verticesIn («pos_i» .entry) («pos_j» .entry) («pos_t» .entry) (boundary .entry) (defect .entry) («list_lengths» .entry) («neighbor_numbers» .entry))
+        (verticesIn («pos_i» .exit) («pos_j» .exit) («pos_t» .exit) (boundary .exit) (defect .exit) («list_lengths» .exit) («neighbor_numbers» .exit))
         r ⌝ }
 {
     let number = fill_refusal(

@@ -1,5 +1,5 @@
 ghost use Rattle.c_reports.specs.Reports.{Reported, ReportsDone};
-ghost use Rattle.access_calls.specs.Fill.{vertices, FilledVertices};
+ghost use Rattle.access_calls.specs.Fill.{FilledVertices, verticesIn};
 use c_reports::done_number;
 
 // New vertices for the edges: at position 0, inner, without defect, with their neighbour lists.
@@ -18,8 +18,8 @@ pub extern "C" fn moldingcress_fill_vertices(
     neighbor_numbers: &mut [u32],
 ) -> u32
     ensures { λ q. ⌜ Reported ReportsDone (λ r. FilledVertices «vertex_num» «edge_num» (now («ends_a» .entry)) (now («ends_b» .entry))
-        (vertices (now («pos_i» .entry)) (now («pos_j» .entry)) (now («pos_t» .entry)) (now (boundary .entry)) (now (defect .entry)) (now («list_lengths» .entry)) (now («neighbor_numbers» .entry)))
-        (vertices (now («pos_i» .exit)) (now («pos_j» .exit)) (now («pos_t» .exit)) (now (boundary .exit)) (now (defect .exit)) (now («list_lengths» .exit)) (now («neighbor_numbers» .exit)))
+        (verticesIn («pos_i» .entry) («pos_j» .entry) («pos_t» .entry) (boundary .entry) (defect .entry) («list_lengths» .entry) («neighbor_numbers» .entry))
+        (verticesIn («pos_i» .exit) («pos_j» .exit) («pos_t» .exit) (boundary .exit) (defect .exit) («list_lengths» .exit) («neighbor_numbers» .exit))
         r) q ⌝ }
 {
     done_number(access_calls::fill::fill_vertices(

@@ -8,6 +8,7 @@ ghost use Rattle.codes_calls.specs.NewCode.{NewCode, NewDiagonal};
 ghost use Rattle.c_reports.specs.Reports.{Reported};
 ghost use Rattle.c_codes.specs.Reports.{ReportsCreated};
 ghost use Rattle.c_codes.specs.Arguments.{diagonalFrom};
+ghost use Rattle.codes_calls.specs.Columns.{codeIn};
 
 // The diagonal probability, if there is one: any byte but 0 says so.
 fn diagonal_from(has_diagonal: u8, diagonal: f64) -> DiagonalProbability
@@ -41,7 +42,10 @@ pub extern "C" fn moldingcress_new(
     list_lengths: &mut [u32],
     neighbor_numbers: &mut [u32],
 ) -> TwoCounts
-    ensures { λ q. ⌜ Reported ReportsCreated (λ r. NewCode kind d rounds probability «max_half_weight» (record { endsA = now («ends_a» .entry); endsB = now («ends_b» .entry); p = now (p .entry); pe = now (pe .entry); halfWeight = now («half_weight» .entry); erasure = now (erasure .entry); posI = now («pos_i» .entry); posJ = now («pos_j» .entry); posT = now («pos_t» .entry); boundary = now (boundary .entry); defect = now (defect .entry); listLengths = now («list_lengths» .entry); neighborNumbers = now («neighbor_numbers» .entry) }) (record { endsA = now («ends_a» .exit); endsB = now («ends_b» .exit); p = now (p .exit); pe = now (pe .exit); halfWeight = now («half_weight» .exit); erasure = now (erasure .exit); posI = now («pos_i» .exit); posJ = now («pos_j» .exit); posT = now («pos_t» .exit); boundary = now (boundary .exit); defect = now (defect .exit); listLengths = now («list_lengths» .exit); neighborNumbers = now («neighbor_numbers» .exit) }) r) q ⌝ }
+    ensures { λ q. ⌜ Reported ReportsCreated (λ r. NewCode kind d rounds probability «max_half_weight»
+        (codeIn («ends_a» .entry) («ends_b» .entry) (p .entry) (pe .entry) («half_weight» .entry) (erasure .entry) («pos_i» .entry) («pos_j» .entry) («pos_t» .entry) (boundary .entry) (defect .entry) («list_lengths» .entry) («neighbor_numbers» .entry))
+        (codeIn («ends_a» .exit) («ends_b» .exit) (p .exit) (pe .exit) («half_weight» .exit) (erasure .exit) («pos_i» .exit) («pos_j» .exit) («pos_t» .exit) (boundary .exit) (defect .exit) («list_lengths» .exit) («neighbor_numbers» .exit))
+        r) q ⌝ }
 {
     created_report(codes_calls::weighted::new(
         kind,
@@ -89,7 +93,10 @@ pub extern "C" fn moldingcress_new_diagonal(
     list_lengths: &mut [u32],
     neighbor_numbers: &mut [u32],
 ) -> TwoCounts
-    ensures { λ q. ⌜ Reported ReportsCreated (λ r. NewDiagonal d rounds probability (diagonalFrom «has_diagonal» diagonal) «max_half_weight» (record { endsA = now («ends_a» .entry); endsB = now («ends_b» .entry); p = now (p .entry); pe = now (pe .entry); halfWeight = now («half_weight» .entry); erasure = now (erasure .entry); posI = now («pos_i» .entry); posJ = now («pos_j» .entry); posT = now («pos_t» .entry); boundary = now (boundary .entry); defect = now (defect .entry); listLengths = now («list_lengths» .entry); neighborNumbers = now («neighbor_numbers» .entry) }) (record { endsA = now («ends_a» .exit); endsB = now («ends_b» .exit); p = now (p .exit); pe = now (pe .exit); halfWeight = now («half_weight» .exit); erasure = now (erasure .exit); posI = now («pos_i» .exit); posJ = now («pos_j» .exit); posT = now («pos_t» .exit); boundary = now (boundary .exit); defect = now (defect .exit); listLengths = now («list_lengths» .exit); neighborNumbers = now («neighbor_numbers» .exit) }) r) q ⌝ }
+    ensures { λ q. ⌜ Reported ReportsCreated (λ r. NewDiagonal d rounds probability (diagonalFrom «has_diagonal» diagonal) «max_half_weight»
+        (codeIn («ends_a» .entry) («ends_b» .entry) (p .entry) (pe .entry) («half_weight» .entry) (erasure .entry) («pos_i» .entry) («pos_j» .entry) («pos_t» .entry) (boundary .entry) (defect .entry) («list_lengths» .entry) («neighbor_numbers» .entry))
+        (codeIn («ends_a» .exit) («ends_b» .exit) (p .exit) (pe .exit) («half_weight» .exit) (erasure .exit) («pos_i» .exit) («pos_j» .exit) («pos_t» .exit) (boundary .exit) (defect .exit) («list_lengths» .exit) («neighbor_numbers» .exit))
+        r) q ⌝ }
 {
     created_report(codes_calls::weighted::new_diagonal(
         d,

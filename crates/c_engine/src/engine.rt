@@ -1,7 +1,7 @@
 ghost use Rattle.c_reports.specs.Reports.{Reported};
 ghost use Rattle.c_reports.specs.Engine.{ReportsEngine};
 ghost use Rattle.engine_columns.specs.Open.{OpenStep, graphColumns};
-ghost use Rattle.engine_columns.specs.Records.{engine, kept, counts};
+ghost use Rattle.engine_columns.specs.Records.{kept, counts, engineIn};
 ghost use Rattle.engine_columns.specs.Step.{Step, loadErasures, loadWeights, reset};
 use c_reports::engine::EngineReport;
 use c_reports::engine::engine_report;
@@ -57,9 +57,9 @@ pub extern "C" fn moldingcress_load_erasures(
     list: &[u32],
 ) -> EngineReport
     ensures { λ q. ⌜ Reported ReportsEngine (λ r. Step (loadErasures (now (list .entry)))
-        (engine (counts vertices edges entries) (now («ends_a» .entry)) (now («ends_b» .entry)) (now (weights .entry)) (now (boundary .entry)) (now («log_edges» .entry)) (now («log_weights» .entry)))
+        (engineIn (counts vertices edges entries) («ends_a» .entry) («ends_b» .entry) (weights .entry) (boundary .entry) («log_edges» .entry) («log_weights» .entry))
         r
-        (engine (kept (counts vertices edges entries) r) (now («ends_a» .entry)) (now («ends_b» .entry)) (now (weights .exit)) (now (boundary .entry)) (now («log_edges» .exit)) (now («log_weights» .exit)))) q ⌝ }
+        (engineIn (kept (counts vertices edges entries) r) («ends_a» .entry) («ends_b» .entry) (weights .exit) (boundary .entry) («log_edges» .exit) («log_weights» .exit))) q ⌝ }
 {
     engine_report(engine_calls::load_erasures(
         EngineCounts {
@@ -93,9 +93,9 @@ pub extern "C" fn moldingcress_load_dynamic_weights(
     values: &[Weight],
 ) -> EngineReport
     ensures { λ q. ⌜ Reported ReportsEngine (λ r. Step (loadWeights (now (list .entry)) (now (values .entry)))
-        (engine (counts vertices edges entries) (now («ends_a» .entry)) (now («ends_b» .entry)) (now (weights .entry)) (now (boundary .entry)) (now («log_edges» .entry)) (now («log_weights» .entry)))
+        (engineIn (counts vertices edges entries) («ends_a» .entry) («ends_b» .entry) (weights .entry) (boundary .entry) («log_edges» .entry) («log_weights» .entry))
         r
-        (engine (kept (counts vertices edges entries) r) (now («ends_a» .entry)) (now («ends_b» .entry)) (now (weights .exit)) (now (boundary .entry)) (now («log_edges» .exit)) (now («log_weights» .exit)))) q ⌝ }
+        (engineIn (kept (counts vertices edges entries) r) («ends_a» .entry) («ends_b» .entry) (weights .exit) (boundary .entry) («log_edges» .exit) («log_weights» .exit))) q ⌝ }
 {
     engine_report(engine_calls::load_dynamic_weights(
         EngineCounts {
@@ -128,9 +128,9 @@ pub extern "C" fn moldingcress_reset(
     log_weights: &[Weight],
 ) -> EngineReport
     ensures { λ q. ⌜ Reported ReportsEngine (λ r. Step reset
-        (engine (counts vertices edges entries) (now («ends_a» .entry)) (now («ends_b» .entry)) (now (weights .entry)) (now (boundary .entry)) (now («log_edges» .entry)) (now («log_weights» .entry)))
+        (engineIn (counts vertices edges entries) («ends_a» .entry) («ends_b» .entry) (weights .entry) (boundary .entry) («log_edges» .entry) («log_weights» .entry))
         r
-        (engine (kept (counts vertices edges entries) r) (now («ends_a» .entry)) (now («ends_b» .entry)) (now (weights .exit)) (now (boundary .entry)) (now («log_edges» .entry)) (now («log_weights» .entry)))) q ⌝ }
+        (engineIn (kept (counts vertices edges entries) r) («ends_a» .entry) («ends_b» .entry) (weights .exit) (boundary .entry) («log_edges» .entry) («log_weights» .entry))) q ⌝ }
 {
     engine_report(engine_calls::reset(
         EngineCounts {

@@ -7,12 +7,10 @@ use c_reports::TwoCounts;
 use columns::VertexIndex;
 use columns::Weight;
 use engine_columns::EngineCounts;
-ghost use lib.ListN.{length};
-ghost use Rattle.engine_columns.specs.Records.{engine, counts};
-ghost use Rattle.query_questions.specs.Queries.{scratchLong};
-ghost use Rattle.query_questions.specs.Scratch.{scratchOf};
-ghost use Rattle.query_paths.specs.GetPath.{PathStep, PathScratch};
-ghost use Rattle.query_crossing_answer.specs.Crossing.{CrossingStep, CrossingScratch};
+ghost use Rattle.engine_columns.specs.Records.{counts, engineIn};
+ghost use Rattle.query_questions.specs.Scratch.{scratchIn};
+ghost use Rattle.query_paths.specs.GetPath.{GotPath};
+ghost use Rattle.query_crossing_answer.specs.Crossing.{FoundCrossing};
 ghost use Rattle.c_reports.specs.Reports.{Reported};
 ghost use Rattle.c_engine.specs.QueryReports.{ReportsPath, ReportsCrossing};
 
@@ -41,11 +39,10 @@ pub extern "C" fn moldingcress_get_path(
     node: &mut [u64],
     leaf: &mut [u64],
 ) -> TwoCounts
-    ensures { λ q. ⌜ Reported ReportsPath (λ r. (PathStep (engine (counts vertices edges entries) (now («ends_a» .entry)) (now («ends_b» .entry)) (now (weights .entry)) (now (boundary .entry)) (now («log_edges» .entry)) (now («log_weights» .entry)))
-        (scratchLong vertices edges (length (now (numbers .entry))) (length (now («list_ends» .entry))) (length (now (status .entry))) (length (now (weight .entry))) (length (now (previous .entry))) (length (now (node .entry))) (length (now (leaf .entry))))
-        a b r (now («out_vertices» .entry)) (now («out_steps» .entry)) (now («out_vertices» .exit)) (now («out_steps» .exit))) × (PathScratch (engine (counts vertices edges entries) (now («ends_a» .entry)) (now («ends_b» .entry)) (now (weights .entry)) (now (boundary .entry)) (now («log_edges» .entry)) (now («log_weights» .entry))) a b r
-        (scratchOf (now (numbers .entry)) (now («list_ends» .entry)) (now (status .entry)) (now (weight .entry)) (now (previous .entry)) (now (node .entry)) (now (leaf .entry)))
-        (scratchOf (now (numbers .exit)) (now («list_ends» .exit)) (now (status .exit)) (now (weight .exit)) (now (previous .exit)) (now (node .exit)) (now (leaf .exit))))) q ⌝ }
+    ensures { λ q. ⌜ Reported ReportsPath (λ r. GotPath (engineIn (counts vertices edges entries) («ends_a» .entry) («ends_b» .entry) (weights .entry) (boundary .entry) («log_edges» .entry) («log_weights» .entry)) a b r
+        (now («out_vertices» .entry)) (now («out_vertices» .exit)) (now («out_steps» .entry)) (now («out_steps» .exit))
+        (scratchIn (numbers .entry) («list_ends» .entry) (status .entry) (weight .entry) (previous .entry) (node .entry) (leaf .entry))
+        (scratchIn (numbers .exit) («list_ends» .exit) (status .exit) (weight .exit) (previous .exit) (node .exit) (leaf .exit))) q ⌝ }
 {
     path_report(query_paths::get_path(
         EngineCounts {
@@ -95,11 +92,9 @@ pub extern "C" fn moldingcress_crossing(
     node: &mut [u64],
     leaf: &mut [u64],
 ) -> OneCount
-    ensures { λ q. ⌜ Reported ReportsCrossing (λ r. (CrossingStep (engine (counts vertices edges entries) (now («ends_a» .entry)) (now («ends_b» .entry)) (now (weights .entry)) (now (boundary .entry)) (now («log_edges» .entry)) (now («log_weights» .entry)))
-        (scratchLong vertices edges (length (now (numbers .entry))) (length (now («list_ends» .entry))) (length (now (status .entry))) (length (now (weight .entry))) (length (now (previous .entry))) (length (now (node .entry))) (length (now (leaf .entry))))
-        r (now («out_weight» .entry)) (now («out_weight» .exit))) × (CrossingScratch (engine (counts vertices edges entries) (now («ends_a» .entry)) (now («ends_b» .entry)) (now (weights .entry)) (now (boundary .entry)) (now («log_edges» .entry)) (now («log_weights» .entry))) r
-        (scratchOf (now (numbers .entry)) (now («list_ends» .entry)) (now (status .entry)) (now (weight .entry)) (now (previous .entry)) (now (node .entry)) (now (leaf .entry)))
-        (scratchOf (now (numbers .exit)) (now («list_ends» .exit)) (now (status .exit)) (now (weight .exit)) (now (previous .exit)) (now (node .exit)) (now (leaf .exit))))) q ⌝ }
+    ensures { λ q. ⌜ Reported ReportsCrossing (λ r. FoundCrossing (engineIn (counts vertices edges entries) («ends_a» .entry) («ends_b» .entry) (weights .entry) (boundary .entry) («log_edges» .entry) («log_weights» .entry)) r (now («out_weight» .entry)) (now («out_weight» .exit))
+        (scratchIn (numbers .entry) («list_ends» .entry) (status .entry) (weight .entry) (previous .entry) (node .entry) (leaf .entry))
+        (scratchIn (numbers .exit) («list_ends» .exit) (status .exit) (weight .exit) (previous .exit) (node .exit) (leaf .exit))) q ⌝ }
 {
     crossing_report(query_crossings::crossing(
         EngineCounts {

@@ -6,17 +6,12 @@ use c_reports::done_number;
 use columns::VertexIndex;
 use columns::Weight;
 use engine_columns::EngineCounts;
-ghost use lib.ListN.{length};
-ghost use Rattle.engine_columns.specs.Records.{engine, counts};
-ghost use Rattle.query_tables.specs.declared.End.the-variants.{None};
-ghost use Rattle.query_questions.specs.Queries.{scratchLong, graphIn, weightsIn};
-ghost use Rattle.query_questions.specs.Scratch.{scratchOf};
-ghost use Rattle.query_tables.specs.Tables.{tableRefusal, TableInside};
-ghost use Rattle.columns_answers.specs.Done.{doneSaid};
+ghost use Rattle.engine_columns.specs.Records.{counts, engineIn};
+ghost use Rattle.query_questions.specs.Scratch.{scratchIn};
 ghost use Prim.Native.Nat.{_-_};
-ghost use Rattle.prebuilt_calls.specs.Rows.{RowStep, RowScratch};
-ghost use Rattle.prebuilt_calls.specs.Nearest.{nearestSaid, BoundarySaid};
-ghost use Rattle.prebuilt_calls.specs.Boundaries.{BoundariesStep};
+ghost use Rattle.prebuilt_calls.specs.Rows.{FilledRow};
+ghost use Rattle.prebuilt_calls.specs.Nearest.{GotBoundaryWeight};
+ghost use Rattle.prebuilt_calls.specs.Boundaries.{FilledBoundaries};
 ghost use Rattle.c_reports.specs.Reports.{Reported, ReportsDone};
 ghost use Rattle.c_engine.specs.PrebuiltReports.{ReportsBoundary};
 
@@ -45,12 +40,10 @@ pub extern "C" fn moldingcress_fill_row(
     node: &mut [u64],
     leaf: &mut [u64],
 ) -> u32
-    ensures { λ q. ⌜ Reported ReportsDone (λ r. (RowStep (engine (counts vertices edges entries) (now («ends_a» .entry)) (now («ends_b» .entry)) (now (weights .entry)) (now (boundary .entry)) (now («log_edges» .entry)) (now («log_weights» .entry)))
-        (scratchLong vertices edges (length (now (numbers .entry))) (length (now («list_ends» .entry))) (length (now (status .entry))) (length (now (weight .entry))) (length (now (previous .entry))) (length (now (node .entry))) (length (now (leaf .entry))))
-        vertex (now (nearest .entry)) (length (now (before .entry))) r (now (out .entry)) (now (out .exit))) × (RowScratch (engine (counts vertices edges entries) (now («ends_a» .entry)) (now («ends_b» .entry)) (now (weights .entry)) (now (boundary .entry)) (now («log_edges» .entry)) (now («log_weights» .entry))) vertex r (now (before .entry))
-        (scratchOf (now (numbers .entry)) (now («list_ends» .entry)) (now (status .entry)) (now (weight .entry)) (now (previous .entry)) (now (node .entry)) (now (leaf .entry)))
-        (now (before .exit))
-        (scratchOf (now (numbers .exit)) (now («list_ends» .exit)) (now (status .exit)) (now (weight .exit)) (now (previous .exit)) (now (node .exit)) (now (leaf .exit))))) q ⌝ }
+    ensures { λ q. ⌜ Reported ReportsDone (λ r. FilledRow (engineIn (counts vertices edges entries) («ends_a» .entry) («ends_b» .entry) (weights .entry) (boundary .entry) («log_edges» .entry) («log_weights» .entry)) vertex (now (nearest .entry)) r
+        (now (out .entry)) (now (out .exit)) (now (before .entry)) (now (before .exit))
+        (scratchIn (numbers .entry) («list_ends» .entry) (status .entry) (weight .entry) (previous .entry) (node .entry) (leaf .entry))
+        (scratchIn (numbers .exit) («list_ends» .exit) (status .exit) (weight .exit) (previous .exit) (node .exit) (leaf .exit))) q ⌝ }
 {
     done_number(prebuilt_calls::fill_row(
         EngineCounts {
@@ -101,15 +94,10 @@ pub extern "C" fn moldingcress_get_boundary_weight(
     node: &mut [u64],
     leaf: &mut [u64],
 ) -> BoundaryReport
-    ensures { λ q. ⌜ Reported ReportsBoundary (λ r. (BoundarySaid (tableRefusal (engine (counts vertices edges entries) (now («ends_a» .entry)) (now («ends_b» .entry)) (now (weights .entry)) (now (boundary .entry)) (now («log_edges» .entry)) (now («log_weights» .entry)))
-        (scratchLong vertices edges (length (now (numbers .entry))) (length (now («list_ends» .entry))) (length (now (status .entry))) (length (now (weight .entry))) (length (now (previous .entry))) (length (now (node .entry))) (length (now (leaf .entry))))
-        vertex None (length (now (least .entry))) (length (now (before .entry))))
-        (graphIn (engine (counts vertices edges entries) (now («ends_a» .entry)) (now («ends_b» .entry)) (now (weights .entry)) (now (boundary .entry)) (now («log_edges» .entry)) (now («log_weights» .entry))))
-        (weightsIn (engine (counts vertices edges entries) (now («ends_a» .entry)) (now («ends_b» .entry)) (now (weights .entry)) (now (boundary .entry)) (now («log_edges» .entry)) (now («log_weights» .entry))))
-        vertex r) × (TableInside (nearestSaid r .number) (engine (counts vertices edges entries) (now («ends_a» .entry)) (now («ends_b» .entry)) (now (weights .entry)) (now (boundary .entry)) (now («log_edges» .entry)) (now («log_weights» .entry))) vertex (now (least .entry)) (now (before .entry))
-        (scratchOf (now (numbers .entry)) (now («list_ends» .entry)) (now (status .entry)) (now (weight .entry)) (now (previous .entry)) (now (node .entry)) (now (leaf .entry)))
-        (now (least .exit)) (now (before .exit))
-        (scratchOf (now (numbers .exit)) (now («list_ends» .exit)) (now (status .exit)) (now (weight .exit)) (now (previous .exit)) (now (node .exit)) (now (leaf .exit))))) q ⌝ }
+    ensures { λ q. ⌜ Reported ReportsBoundary (λ r. GotBoundaryWeight (engineIn (counts vertices edges entries) («ends_a» .entry) («ends_b» .entry) (weights .entry) (boundary .entry) («log_edges» .entry) («log_weights» .entry)) vertex r
+        (now (least .entry)) (now (least .exit)) (now (before .entry)) (now (before .exit))
+        (scratchIn (numbers .entry) («list_ends» .entry) (status .entry) (weight .entry) (previous .entry) (node .entry) (leaf .entry))
+        (scratchIn (numbers .exit) («list_ends» .exit) (status .exit) (weight .exit) (previous .exit) (node .exit) (leaf .exit))) q ⌝ }
 {
     boundary_report(prebuilt_calls::nearest::get_boundary_weight(
         EngineCounts {
@@ -160,12 +148,10 @@ pub extern "C" fn moldingcress_fill_boundaries(
     node: &mut [u64],
     leaf: &mut [u64],
 ) -> u32
-    ensures { λ q. ⌜ Reported ReportsDone (λ r. (BoundariesStep (engine (counts vertices edges entries) (now («ends_a» .entry)) (now («ends_b» .entry)) (now (weights .entry)) (now (boundary .entry)) (now («log_edges» .entry)) (now («log_weights» .entry)))
-        (scratchLong vertices edges (length (now (numbers .entry))) (length (now («list_ends» .entry))) (length (now (status .entry))) (length (now (weight .entry))) (length (now (previous .entry))) (length (now (node .entry))) (length (now (leaf .entry))))
-        (length (now (least .entry))) (length (now (before .entry))) r (now («out_weight» .entry)) (now («out_vertex» .entry)) (now («out_weight» .exit)) (now («out_vertex» .exit))) × (TableInside (doneSaid r .number) (engine (counts vertices edges entries) (now («ends_a» .entry)) (now («ends_b» .entry)) (now (weights .entry)) (now (boundary .entry)) (now («log_edges» .entry)) (now («log_weights» .entry))) (vertices - 1) (now (least .entry)) (now (before .entry))
-        (scratchOf (now (numbers .entry)) (now («list_ends» .entry)) (now (status .entry)) (now (weight .entry)) (now (previous .entry)) (now (node .entry)) (now (leaf .entry)))
-        (now (least .exit)) (now (before .exit))
-        (scratchOf (now (numbers .exit)) (now («list_ends» .exit)) (now (status .exit)) (now (weight .exit)) (now (previous .exit)) (now (node .exit)) (now (leaf .exit))))) q ⌝ }
+    ensures { λ q. ⌜ Reported ReportsDone (λ r. FilledBoundaries (engineIn (counts vertices edges entries) («ends_a» .entry) («ends_b» .entry) (weights .entry) (boundary .entry) («log_edges» .entry) («log_weights» .entry)) r
+        (now («out_weight» .entry)) (now («out_weight» .exit)) (now («out_vertex» .entry)) (now («out_vertex» .exit)) (now (least .entry)) (now (least .exit)) (now (before .entry)) (now (before .exit))
+        (scratchIn (numbers .entry) («list_ends» .entry) (status .entry) (weight .entry) (previous .entry) (node .entry) (leaf .entry))
+        (scratchIn (numbers .exit) («list_ends» .exit) (status .exit) (weight .exit) (previous .exit) (node .exit) (leaf .exit))) q ⌝ }
 {
     done_number(prebuilt_calls::boundaries::fill_boundaries(
         EngineCounts {

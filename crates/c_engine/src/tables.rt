@@ -1,10 +1,8 @@
 ghost use Rattle.c_reports.specs.Reports.{Reported, ReportsDone};
 ghost use Rattle.c_reports.specs.Engine.{givenEnd, noEnd};
-ghost use Rattle.query_questions.specs.Queries.{scratchLong};
-ghost use Rattle.query_tables.specs.Tables.{TableStep, TableScratch};
-ghost use Rattle.query_questions.specs.Scratch.{scratchOf};
-ghost use Rattle.engine_columns.specs.Records.{engine, counts};
-ghost use lib.ListN.{length};
+ghost use Rattle.query_tables.specs.Tables.{FoundTable};
+ghost use Rattle.query_questions.specs.Scratch.{scratchIn};
+ghost use Rattle.engine_columns.specs.Records.{counts, engineIn};
 use c_reports::done_number;
 use c_reports::engine::end_of;
 use columns::VertexIndex;
@@ -38,11 +36,10 @@ pub extern "C" fn moldingcress_all_edges_with_terminate(
     node: &mut [u64],
     leaf: &mut [u64],
 ) -> u32
-    ensures { λ q. ⌜ Reported ReportsDone (λ r. (TableStep (engine (counts vertices edges entries) (now («ends_a» .entry)) (now («ends_b» .entry)) (now (weights .entry)) (now (boundary .entry)) (now («log_edges» .entry)) (now («log_weights» .entry)))
-        (scratchLong vertices edges (length (now (numbers .entry))) (length (now («list_ends» .entry))) (length (now (status .entry))) (length (now (weight .entry))) (length (now (previous .entry))) (length (now (node .entry))) (length (now (leaf .entry))))
-        source (givenEnd «has_end» end) r (now («out_weight» .entry)) (now («out_previous» .entry)) (now («out_weight» .exit)) (now («out_previous» .exit))) × (TableScratch (engine (counts vertices edges entries) (now («ends_a» .entry)) (now («ends_b» .entry)) (now (weights .entry)) (now (boundary .entry)) (now («log_edges» .entry)) (now («log_weights» .entry))) source (givenEnd «has_end» end) r
-        (scratchOf (now (numbers .entry)) (now («list_ends» .entry)) (now (status .entry)) (now (weight .entry)) (now (previous .entry)) (now (node .entry)) (now (leaf .entry)))
-        (scratchOf (now (numbers .exit)) (now («list_ends» .exit)) (now (status .exit)) (now (weight .exit)) (now (previous .exit)) (now (node .exit)) (now (leaf .exit))))) q ⌝ }
+    ensures { λ q. ⌜ Reported ReportsDone (λ r. FoundTable (engineIn (counts vertices edges entries) («ends_a» .entry) («ends_b» .entry) (weights .entry) (boundary .entry) («log_edges» .entry) («log_weights» .entry)) source (givenEnd «has_end» end) r
+        (now («out_weight» .entry)) (now («out_weight» .exit)) (now («out_previous» .entry)) (now («out_previous» .exit))
+        (scratchIn (numbers .entry) («list_ends» .entry) (status .entry) (weight .entry) (previous .entry) (node .entry) (leaf .entry))
+        (scratchIn (numbers .exit) («list_ends» .exit) (status .exit) (weight .exit) (previous .exit) (node .exit) (leaf .exit))) q ⌝ }
 {
     done_number(query_tables::all_edges_with_terminate(
         EngineCounts {
@@ -93,11 +90,10 @@ pub extern "C" fn moldingcress_all_edges(
     node: &mut [u64],
     leaf: &mut [u64],
 ) -> u32
-    ensures { λ q. ⌜ Reported ReportsDone (λ r. (TableStep (engine (counts vertices edges entries) (now («ends_a» .entry)) (now («ends_b» .entry)) (now (weights .entry)) (now (boundary .entry)) (now («log_edges» .entry)) (now («log_weights» .entry)))
-        (scratchLong vertices edges (length (now (numbers .entry))) (length (now («list_ends» .entry))) (length (now (status .entry))) (length (now (weight .entry))) (length (now (previous .entry))) (length (now (node .entry))) (length (now (leaf .entry))))
-        source noEnd r (now («out_weight» .entry)) (now («out_previous» .entry)) (now («out_weight» .exit)) (now («out_previous» .exit))) × (TableScratch (engine (counts vertices edges entries) (now («ends_a» .entry)) (now («ends_b» .entry)) (now (weights .entry)) (now (boundary .entry)) (now («log_edges» .entry)) (now («log_weights» .entry))) source noEnd r
-        (scratchOf (now (numbers .entry)) (now («list_ends» .entry)) (now (status .entry)) (now (weight .entry)) (now (previous .entry)) (now (node .entry)) (now (leaf .entry)))
-        (scratchOf (now (numbers .exit)) (now («list_ends» .exit)) (now (status .exit)) (now (weight .exit)) (now (previous .exit)) (now (node .exit)) (now (leaf .exit))))) q ⌝ }
+    ensures { λ q. ⌜ Reported ReportsDone (λ r. FoundTable (engineIn (counts vertices edges entries) («ends_a» .entry) («ends_b» .entry) (weights .entry) (boundary .entry) («log_edges» .entry) («log_weights» .entry)) source noEnd r
+        (now («out_weight» .entry)) (now («out_weight» .exit)) (now («out_previous» .entry)) (now («out_previous» .exit))
+        (scratchIn (numbers .entry) («list_ends» .entry) (status .entry) (weight .entry) (previous .entry) (node .entry) (leaf .entry))
+        (scratchIn (numbers .exit) («list_ends» .exit) (status .exit) (weight .exit) (previous .exit) (node .exit) (leaf .exit))) q ⌝ }
 {
     done_number(query_tables::all_edges(
         EngineCounts {

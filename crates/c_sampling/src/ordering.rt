@@ -1,6 +1,6 @@
 ghost use Rattle.c_reports.specs.Reports.{Reported, ReportsDone};
 ghost use Rattle.c_reports.specs.Errors.{ReportsTranslated};
-ghost use Rattle.reorder_calls.specs.Columns.{reorderColumns, ReorderedVertices};
+ghost use Rattle.reorder_calls.specs.Columns.{ReorderedVertices, reorderIn};
 ghost use Rattle.reorder_calls.specs.Numbers.{BuiltOldToNew, TranslatedDefects};
 use c_reports::done_number;
 use c_reports::errors::LongCount;
@@ -44,9 +44,9 @@ pub extern "C" fn moldingcress_reorder_vertices(
     scratch: &mut [u32],
 ) -> u32
     ensures { λ q. ⌜ Reported ReportsDone (λ r. ReorderedVertices «vertex_num» «edge_num» (now (order .entry))
-        (reorderColumns (now («ends_a» .entry)) (now («ends_b» .entry)) (now (boundary .entry)) (now (defect .entry)) (now («pos_i» .entry)) (now («pos_j» .entry)) (now («pos_t» .entry)) (now («list_lengths» .entry)) (now («neighbor_numbers» .entry)) (now (scratch .entry)))
+        (reorderIn («ends_a» .entry) («ends_b» .entry) (boundary .entry) (defect .entry) («pos_i» .entry) («pos_j» .entry) («pos_t» .entry) («list_lengths» .entry) («neighbor_numbers» .entry) (scratch .entry))
         r
-        (reorderColumns (now («ends_a» .exit)) (now («ends_b» .exit)) (now (boundary .exit)) (now (defect .exit)) (now («pos_i» .exit)) (now («pos_j» .exit)) (now («pos_t» .exit)) (now («list_lengths» .exit)) (now («neighbor_numbers» .exit)) (now (scratch .exit)))) q ⌝ }
+        (reorderIn («ends_a» .exit) («ends_b» .exit) (boundary .exit) (defect .exit) («pos_i» .exit) («pos_j» .exit) («pos_t» .exit) («list_lengths» .exit) («neighbor_numbers» .exit) (scratch .exit))) q ⌝ }
 {
     done_number(reorder_calls::reorder_vertices(
         vertex_num,

@@ -3,7 +3,7 @@ use mathlib.Core.Path.{_≡_, refl, sym, ap, _∙_, subst}
 use mathlib.Core.Bool.{Bool, true, false, _&&_, cond}
 use mathlib.Core.List.{List, [], _∷_}
 use mathlib.Core.Option.{Option, some, none}
-use Prim.Native.Nat.{ℕ, zero, suc, _+_, _<_, _≤_}
+use Prim.Native.Nat.{ℕ, _<_, _≤_}
 use native.Mathlib.Omega.{arith}
 use lib.ListN.{length, getD, take}
 use lib.Seq.{getD-take, length-take-le}
@@ -25,15 +25,22 @@ use Rattle.query_crossing_answer.specs.declared.CrossingReply.the-variants.{Cro
 use Rattle.query_questions.specs.Queries as Q
 use Rattle.query_questions.specs.Queries.{scratchLong}
 use Rattle.query_crossing_answer.specs.Crossing as C
-use Rattle.query_crossing_answer.specs.Crossing.{isJoined, weightFound, replyNumber, CrossingStep}
+use Rattle.query_crossing_answer.specs.Crossing.{isJoined, weightFound, replyNumber, crossingSaid}
 use Rattle.query_crossing_answer.proofs.Cases.{crossed-case}
 use Rattle.query_crossings.proofs.Crossings.{left-length}
 use Rattle.query_search.proofs.Ranges.{in-range}
 use Rattle.claims.specs.Listed.{OwnLengths, tallyGraph, tallyWeights, crossingLong, before18, tallyCrossingRefusal}
+use Rattle.columns_answers.specs.Said.{Answered}
 
 -- whether scratch is long enough, from its lengths
-abbrev pub scratchFits : Engine → OwnLengths → Bool
-scratchFits e o = scratchLong (e .counts .vertices) (e .counts .edges) (o .numbers) (o .listEnds) (o .status) (o .weight) (o .previous) (o .node) (o .leaf)
+abbrev fits : Engine → OwnLengths → Bool
+fits e o = scratchLong (e .counts .vertices) (e .counts .edges) (o .scratch)
+
+-- what a crossing answers and leaves in the weight column, from the lengths of its columns
+pub record CrossingBy (e : Engine) (o : OwnLengths) (r : CrossingReply) (column₀ column : List ℤ) : Type 0 where
+  pub same : length column₀ ≡ o .weights
+  pub answers : Answered (crossingSaid r) (C.crossingRefusal e (fits e o) (length column₀)) (weightFound (crossing (Q.graphIn e) (Q.weightsIn e))) 0
+  pub weights-after : column ≡ after (C.crossingRefusal e (fits e o) (length column₀)) (leastFromLeft (Q.graphIn e) (Q.weightsIn e)) column₀
 
 -- a question that did not stop the call leads to the next
 passed : (p : Bool) (next : ℕ) → ask p 6 0 ≡ 0 → ask p 6 next ≡ next
@@ -64,17 +71,17 @@ module _ (t : Tally) (e : Engine) (a : Agrees t e) where
   pub weight-at : (k : ℕ) → k < t .counts .edges → tallyWeights t k ≡ getD (e .weights) k 0
   weight-at k h = sym (ap (λ w. getD w k 0) (a .weights-are)) ∙ getD-take (t .counts .edges) (e .weights) k 0 h
 
-  number-same : (o : OwnLengths) → C.crossingRefusal e (scratchFits e o) (o .weights) ≡ tallyCrossingRefusal (lengthsOf e) o t
+  number-same : (o : OwnLengths) → C.crossingRefusal e (fits e o) (o .weights) ≡ tallyCrossingRefusal (lengthsOf e) o t
   number-same o =
-      (λ i. ask (long-same 0 e (t .counts) (a .counts-are) i && (leb (a .counts-are i .vertices) (o .weights) && scratchLong (a .counts-are i .vertices) (a .counts-are i .edges) (o .numbers) (o .listEnds) (o .status) (o .weight) (o .previous) (o .node) (o .leaf))) 6
+      (λ i. ask (long-same 0 e (t .counts) (a .counts-are) i && (leb (a .counts-are i .vertices) (o .weights) && scratchLong (a .counts-are i .vertices) (a .counts-are i .edges) (o .scratch))) 6
       (ask (sound-from e (a .sound) i) 7 (ask (isJoined (crossing (graph-same i) (weights-same i))) 18 0)))
 
-  module _ (o : OwnLengths) (r : CrossingReply) (column₀ column : List ℤ) (step : CrossingStep e (scratchFits e o) r column₀ column) (same : length column₀ ≡ o .weights) where
+  module _ (o : OwnLengths) (r : CrossingReply) (column₀ column : List ℤ) (step : CrossingBy e o r column₀ column) where
     abbrev number : ℕ
-    number = C.crossingRefusal e (scratchFits e o) (length column₀)
+    number = C.crossingRefusal e (fits e o) (length column₀)
 
     number-is-tally's : number ≡ tallyCrossingRefusal (lengthsOf e) o t
-    number-is-tally's = ap (C.crossingRefusal e (scratchFits e o)) same ∙ number-same o
+    number-is-tally's = ap (C.crossingRefusal e (fits e o)) (step .same) ∙ number-same o
 
     abbrev found : Option ℕ
     found = crossing (tallyGraph t) (tallyWeights t)
@@ -83,7 +90,7 @@ module _ (t : Tally) (e : Engine) (a : Agrees t e) where
     found-same = λ i. crossing (graph-same i) (weights-same i)
 
     pub crossing-number : replyNumber r ≡ tallyCrossingRefusal (lengthsOf e) o t
-    crossing-number = step .answer .number-is ∙ number-is-tally's
+    crossing-number = step .answers .number-is ∙ number-is-tally's
 
     -- what an accepted crossing reports
     pub accepted-of : replyNumber r ≡ 0 → (W : ℕ) × (found ≡ some W) × (r ≡ Crossed W) × (column ≡ over (leastFromLeft (tallyGraph t) (tallyWeights t)) column₀)
@@ -101,7 +108,7 @@ module _ (t : Tally) (e : Engine) (a : Agrees t e) where
         go (some W) q = (
           W,
           q,
-          crossed-case r (step .answer) zero-number ∙ ap (λ c. Crossed (weightFound c)) (found-same ∙ q),
+          crossed-case r (step .answers) zero-number ∙ ap (λ c. Crossed (weightFound c)) (found-same ∙ q),
           step .weights-after ∙ (λ i. after number (leastFromLeft (graph-same i) (weights-same i)) column₀) ∙ after-accepted number (leastFromLeft (tallyGraph t) (tallyWeights t)) column₀ zero-number,
         )
 

@@ -15,13 +15,13 @@ use Rattle.engine_walks.specs.Answers.{FoundPath, path}
 use Rattle.engine_walks.specs.Claims.{Route, arrived, onto, IsPath, PathAnswer}
 use Rattle.engine_walks.proofs.TableAndPath.{path-is-least}
 use Rattle.query_questions.specs.Queries.{graphIn, weightsIn}
-use Rattle.query_questions.specs.Scratch.{ScratchColumns}
+use Rattle.query_questions.specs.Scratch.{ScratchColumns, scratchFits}
 use Rattle.query_paths.specs.declared.PathAnswer.{PathAnswer as Reply}
-use Rattle.query_paths.specs.GetPath.{foundSaid, lengthOf, lengthAndTotal, verticesAfter, stepsAfter, PathStep}
+use Rattle.query_paths.specs.GetPath.{foundSaid, lengthOf, lengthAndTotal, verticesAfter, stepsAfter, GotPath}
 use Rattle.query_paths.specs.GetPath as P
 use Rattle.query_paths.proofs.PathAsked.{before-17}
 use Rattle.claims.specs.QueriesCalled.{PathColumns, walked}
-use Rattle.claims.specs.Met.{scratchFits, PathMet}
+use Rattle.claims.specs.Met.{PathMet}
 use Rattle.claims.specs.Queries.{PathSays, GetPathIsLeast}
 use Rattle.claims.proofs.Questions.{pathNumber, path-met, path-number, columns-in-range}
 
@@ -34,8 +34,8 @@ route-same (onto e h j c r) = ap suc (route-same r)
 path-joins : {g : Graph} {w : ℕ → ℕ} {a b : ℕ} {p : FoundPath} → IsPath g w a b p → Joined g a b
 path-joins {g} {w} {a} {b} i = let (x, s, e, k, q) = i .least .some-walk in (s, subst (λ y. Walk g y s b) e k)
 
-module _ (e : Engine) (a b : ℕ) (r : Reply) (columns₀ columns : PathColumns) (scratch₀ : ScratchColumns)
-    (step : PathStep e (scratchFits e scratch₀) a b r (columns₀ .vertices) (columns₀ .steps) (columns .vertices) (columns .steps)) where
+module _ (e : Engine) (a b : ℕ) (r : Reply) (columns₀ columns : PathColumns) (scratch₀ scratch : ScratchColumns)
+    (step : GotPath e a b r (columns₀ .vertices) (columns .vertices) (columns₀ .steps) (columns .steps) scratch₀ scratch) where
   abbrev number : ℕ
   number = pathNumber e a b columns₀ scratch₀
 
@@ -52,7 +52,7 @@ module _ (e : Engine) (a b : ℕ) (r : Reply) (columns₀ columns : PathColumns)
   unmet d m = omega (arith, d, path-number e a b columns₀ scratch₀ m)
 
   replies : (n : ℕ) (o : Option FoundPath) → number ≡ n → path g w a b ≡ o → foundSaid r .number ≡ P.pathRefusal n o
-  replies n o d p = step .answer .number-is ∙ (λ i. P.pathRefusal (d i) (p i))
+  replies n o d p = step .answers .number-is ∙ (λ i. P.pathRefusal (d i) (p i))
 
   by-case : (n : ℕ) (o : Option FoundPath) → number ≡ n → path g w a b ≡ o → (n ≡ 0 → PathAnswer g w a b o) → PathSays e a b r columns₀ columns scratch₀
   by-case (suc n) o d p h =
@@ -71,7 +71,7 @@ module _ (e : Engine) (a b : ℕ) (r : Reply) (columns₀ columns : PathColumns)
       }
   by-case zero (some f) d p h =
       let q : foundSaid r .number ≡ 0 = replies 0 (some f) d p in
-      let x = values-of (step .answer) (λ i. P.pathRefusal (d i) (p i)) ∙ ap lengthAndTotal p in
+      let x = values-of (step .answers) (λ i. P.pathRefusal (d i) (p i)) ∙ ap lengthAndTotal p in
       let i : IsPath g w a b f = h refl in
       let ev : take (lengthOf r) (columns .vertices) ≡ f .vertices =
       (λ j. take (x j .0) ((step .vertices-after ∙ (λ k. cond (eqb (d k) 0) (verticesAfter (p k) (columns₀ .vertices)) (columns₀ .vertices))) j))
@@ -90,4 +90,4 @@ module _ (e : Engine) (a b : ℕ) (r : Reply) (columns₀ columns : PathColumns)
       (λ z. let m = met z in path-is-least g w a b (columns-in-range e (m .six-and-seven .graph-long) (m .six-and-seven .graph-sound) .0) (m .a-within))
 
 pub get-path-least : GetPathIsLeast
-get-path-least e a b r columns₀ columns scratch₀ scratch (walked κs x q s h) = path-says e a b r columns₀ columns scratch₀ (h .0)
+get-path-least e a b r columns₀ columns scratch₀ scratch (walked κs x q s h) = path-says e a b r columns₀ columns scratch₀ scratch h

@@ -22,7 +22,7 @@ use Rattle.engine_walks.proofs.TableAndPath.{table-is-least}
 use Rattle.query_questions.specs.Queries.{graphIn, weightsIn}
 use Rattle.query_search.proofs.Ranges.{in-range}
 use Rattle.prebuilt_entries.specs.Entries.{inTheMiddle, rowEntry, entryBy}
-use Rattle.prebuilt_calls.specs.Rows.{RowStep, rowRefusal}
+use Rattle.prebuilt_calls.specs.Rows.{FilledRow, rowRefusal}
 use Rattle.prebuilt_calls.proofs.Entries.{row-asked}
 use Rattle.prebuilt_calls.specs.Boundaries as ours
 use Rattle.claims.specs.Prebuilt.{virtual, getBoundaryWeight, getEdgeWeight, edgeEntry, weightEntry, vertexEntry}
@@ -30,6 +30,7 @@ use Rattle.claims.specs.PrebuiltCalled.{BoundariesFilled, RowFilled}
 use Rattle.claims.specs.PrebuiltCalled as called
 use Rattle.claims.specs.PrebuiltRows.{PrebuiltRows}
 use Rattle.claims.proofs.Scans.{weight-column, vertex-column, entry-is}
+use Rattle.query_questions.specs.Scratch.{scratchFits, ScratchColumns}
 
 module _ {A : Type 0} where
   -- a place of a column that an accepted call has filled
@@ -37,13 +38,13 @@ module _ {A : Type 0} where
   at-place q n f column₀ column d z e v h =
       ap (λ l. getD l v d) (e ∙ after-accepted q (each n f) column₀ z) ∙ over-in (each n f) column₀ d v (omega (arith, length-each n f, h)) ∙ getD-each n f d v h
 
-module _ (e : Engine) (scratch : Bool) (least before : ℕ) (weights₀ : List ℤ) (vertices₀ : List ℕ) (weights : List ℤ) (vertices : List ℕ)
-    (s : ours.BoundariesStep e scratch least before Accepted weights₀ vertices₀ weights vertices) where
+module _ (e : Engine) (weights₀ weights : List ℤ) (vertices₀ vertices : List ℕ) (least₀ least : List ℤ) (before₀ before : List ℕ) (scratch₀ scratch : ScratchColumns)
+    (s : ours.FilledBoundaries e Accepted weights₀ weights vertices₀ vertices least₀ least before₀ before scratch₀ scratch) where
   abbrev refusal : ℕ
-  refusal = ours.boundariesRefusal e scratch (length weights₀) (length vertices₀) least before
+  refusal = ours.boundariesRefusal e (scratchFits e scratch₀) (length weights₀) (length vertices₀) (length least₀) (length before₀)
 
   met : refusal ≡ 0
-  met = zero-of (s .answer)
+  met = zero-of (s .answers)
 
   weight-at : (v : ℕ) → v < e .counts .vertices → weightIn weights v ≡ weightEntry (getBoundaryWeight (graphIn e) (weightsIn e) v)
   weight-at v h =
@@ -55,25 +56,25 @@ module _ (e : Engine) (scratch : Bool) (least before : ℕ) (weights₀ : List �
 
 pub weight-of : (e : Engine) (weights : List ℤ) (vertices : List ℕ) → BoundariesFilled e weights vertices → (v : ℕ) → v < e .counts .vertices
     → weightIn weights v ≡ weightEntry (getBoundaryWeight (graphIn e) (weightsIn e) v)
-weight-of e weights vertices (called.BoundariesFilled.filled κs a s l) v h = weight-at e _ _ _ _ _ weights vertices (l .0) v h
+weight-of e weights vertices (called.BoundariesFilled.filled κs a s l) v h = weight-at e _ weights _ vertices _ _ _ _ _ _ l v h
 
 pub vertex-of : (e : Engine) (weights : List ℤ) (vertices : List ℕ) → BoundariesFilled e weights vertices → (v : ℕ) → v < e .counts .vertices
     → getD vertices v 0 ≡ vertexEntry (getBoundaryWeight (graphIn e) (weightsIn e) v)
-vertex-of e weights vertices (called.BoundariesFilled.filled κs a s l) v h = vertex-at e _ _ _ _ _ weights vertices (l .0) v h
+vertex-of e weights vertices (called.BoundariesFilled.filled κs a s l) v h = vertex-at e _ weights _ vertices _ _ _ _ _ _ l v h
 
-module _ (e : Engine) (scratch : Bool) (v : ℕ) (near : List ℤ) (before : ℕ) (out₀ out : List ℤ) (s : RowStep e scratch v near before Accepted out₀ out)
+module _ (e : Engine) (v : ℕ) (near out₀ out : List ℤ) (before₀ before : List ℕ) (scratch₀ scratch : ScratchColumns) (s : FilledRow e v near Accepted out₀ out before₀ before scratch₀ scratch)
     (b : (v : ℕ) → v < e .counts .vertices → weightIn near v ≡ weightEntry (getBoundaryWeight (graphIn e) (weightsIn e) v)) where
   abbrev number : ℕ
-  number = rowRefusal e scratch v (length near) (length out₀) before
+  number = rowRefusal e (scratchFits e scratch₀) v (length near) (length out₀) (length before₀)
 
   none-asked : number ≡ 0
-  none-asked = zero-of (s .answer)
+  none-asked = zero-of (s .answers)
 
   row-at : (u : ℕ) → u < e .counts .vertices → weightIn out u ≡ edgeEntry (getEdgeWeight (graphIn e) (weightsIn e) v u)
   row-at u h =
       let g = graphIn e in
       let w = weightsIn e in
-      let q = row-asked e scratch v (length near) (length out₀) before none-asked in
+      let q = row-asked e (scratchFits e scratch₀) v (length near) (length out₀) (length before₀) none-asked in
       let own = b v (q .v-in) in
       let other = b u h in
       at-place number (e .counts .vertices) (rowEntry (g .boundary) near v (table g w v none .weights)) out₀ out (negsuc 0) none-asked (s .out-after) u h
@@ -83,7 +84,7 @@ module _ (e : Engine) (scratch : Bool) (v : ℕ) (near : List ℤ) (before : ℕ
 pub row-of : (e : Engine) (v : ℕ) (near out : List ℤ) → RowFilled e v near out
     → ((v : ℕ) → v < e .counts .vertices → weightIn near v ≡ weightEntry (getBoundaryWeight (graphIn e) (weightsIn e) v))
     → (u : ℕ) → u < e .counts .vertices → weightIn out u ≡ edgeEntry (getEdgeWeight (graphIn e) (weightsIn e) v u)
-row-of e v near out (called.RowFilled.filled κs a s l) b u h = row-at e _ v near _ _ out (l .0) b u h
+row-of e v near out (called.RowFilled.filled κs a s l) b u h = row-at e v near _ out _ _ _ _ l b u h
 
 -- ---- least weights
 
@@ -96,23 +97,23 @@ least-in : (g : Graph) (w : ℕ → ℕ) (v u k : ℕ) → Row g w v (table g w 
 least-in g w v u k (inl r) e = let q : r .0 ≡ k = (let s = r .1 in cc) in subst (LeastWeight g w (λ x. x ≡ v) u) q (r .2)
 least-in g w v u k (inr r) e = absurd (let q : _≡_ {A = ℕ} 0 1 = (let s = r .0 in cc) in omega arith)
 
-module _ (e : Engine) (scratch : Bool) (v : ℕ) (near : List ℤ) (before : ℕ) (out₀ out : List ℤ) (s : RowStep e scratch v near before Accepted out₀ out) where
+module _ (e : Engine) (v : ℕ) (near out₀ out : List ℤ) (before₀ before : List ℕ) (scratch₀ scratch : ScratchColumns) (s : FilledRow e v near Accepted out₀ out before₀ before scratch₀ scratch) where
   abbrev question : ℕ
-  question = rowRefusal e scratch v (length near) (length out₀) before
+  question = rowRefusal e (scratchFits e scratch₀) v (length near) (length out₀) (length before₀)
 
   least-at : (u k : ℕ) → u < e .counts .vertices → weightIn out u ≡ pos k → LeastWeight (graphIn e) (weightsIn e) (λ x. x ≡ v) u k
   least-at u k h p =
       let g = graphIn e in
       let w = weightsIn e in
-      let z : question ≡ 0 = zero-of (s .answer) in
-      let q = row-asked e scratch v (length near) (length out₀) before z in
+      let z : question ≡ 0 = zero-of (s .answers) in
+      let q = row-asked e (scratchFits e scratch₀) v (length near) (length out₀) (length before₀) z in
       let x = at-place question (e .counts .vertices) (rowEntry (g .boundary) near v (table g w v none .weights)) out₀ out (negsuc 0) z (s .out-after) u h in
       let y = kept (virtual g v || (virtual g u || eqb u v)) (inTheMiddle (weightIn near v) (weightIn near u) (weightIn (table g w v none .weights) u)) (weightIn (table g w v none .weights) u) k (sym x ∙ p) in
       least-in g w v u k (table-is-least g w v none (in-range e (q .long) (q .sound)) (q .v-in) .rows u h) y
 
 least-of : (e : Engine) (v : ℕ) (near out : List ℤ) → RowFilled e v near out → (u k : ℕ) → u < e .counts .vertices → weightIn out u ≡ pos k
     → LeastWeight (graphIn e) (weightsIn e) (λ x. x ≡ v) u k
-least-of e v near out (called.RowFilled.filled κs a s l) u k h p = least-at e _ v near _ _ out (l .0) u k h p
+least-of e v near out (called.RowFilled.filled κs a s l) u k h p = least-at e v near _ out _ _ _ _ l u k h p
 
 pub prebuilt-rows : PrebuiltRows
 prebuilt-rows = record {

@@ -5,7 +5,7 @@ use mathlib.Core.List.{List}
 use mathlib.Core.Option.{Option, some, none}
 use Prim.Native.Nat.{ℕ, _≤_, _<_}
 use native.Mathlib.Omega.{arith}
-use lib.ListN.{length, getD}
+use lib.ListN.{getD}
 use lib.IntN.{ℤ, pos}
 use Rattle.columns.specs.Lists.{over}
 use Rattle.engine_tally.specs.Tally.{lengthsOf}
@@ -17,10 +17,10 @@ use Rattle.engine_walks.specs.Claims.{CrossingAnswer, IsCrossing, LeftWeight, N
 use Rattle.engine_walks.proofs.LeastCrossing.{crossing-is-least}
 use Rattle.engine_walks.proofs.TwoGraphs.{weights-compare}
 use Rattle.query_crossing_answer.specs.declared.CrossingReply.the-variants.{Crossed}
-use Rattle.query_crossing_answer.specs.Crossing.{replyNumber, replyWeight, CrossingStep}
+use Rattle.query_crossing_answer.specs.Crossing.{replyNumber, replyWeight}
 use Rattle.claims.specs.Listed.{tallyGraph, tallyCrossingRefusal, modifying, numbers}
 use Rattle.claims.specs.Demand3.{History, CrossingThen, TwoLists, tallyFirst, tallyLast, graphLeft, weightsLeft, refusedBefore, Demand3}
-use Rattle.claims.proofs.Agreeing.{scratchFits, range, edges-are, weight-at, crossing-number, accepted-of, accepted-when, column-at, graph-kept}
+use Rattle.claims.proofs.Agreeing.{CrossingBy, range, edges-are, weight-at, crossing-number, accepted-of, accepted-when, column-at, graph-kept}
 use Rattle.claims.proofs.Runs.{FreshGraph, fresh-of, crossing-of, runs}
 use Rattle.claims.proofs.Built.{BuiltGraph, built-of, handed-on, built-distance}
 
@@ -63,23 +63,23 @@ module _ (h : History) where
   least = crossing-is-least (graphLeft h) (weightsLeft h) in-range .0
 
   module _ (c : CrossingThen h) where
-    step : CrossingStep (h .left) (scratchFits (h .left) (c .own)) (c .reply) (c .column₀) (c .column) × (length (c .column₀) ≡ c .own .weights)
+    step : CrossingBy (h .left) (c .own) (c .reply) (c .column₀) (c .column)
     step = crossing-of (h .left) (c .own) (c .reply) (c .column₀) (c .column) (c .called)
 
     number : replyNumber (c .reply) ≡ tallyCrossingRefusal (lengthsOf (h .left)) (c .own) (tallyLast h)
-    number = crossing-number (tallyLast h) (h .left) agrees (c .own) (c .reply) (c .column₀) (c .column) (step .0) (step .1)
+    number = crossing-number (tallyLast h) (h .left) agrees (c .own) (c .reply) (c .column₀) (c .column) step
 
     abbrev Reports : Type 0
     Reports = (W : ℕ) × (found ≡ some W) × (c .reply ≡ Crossed W) × (c .column ≡ over (leastFromLeft (graphLeft h) (weightsLeft h)) (c .column₀))
 
     reports : replyNumber (c .reply) ≡ 0 → Reports
-    reports = accepted-of (tallyLast h) (h .left) agrees (c .own) (c .reply) (c .column₀) (c .column) (step .0) (step .1)
+    reports = accepted-of (tallyLast h) (h .left) agrees (c .own) (c .reply) (c .column₀) (c .column) step
 
     accepted : refusedBefore h c ≡ 0 → (W : ℕ) → found ≡ some W → replyNumber (c .reply) ≡ 0
-    accepted = accepted-when (tallyLast h) (h .left) agrees (c .own) (c .reply) (c .column₀) (c .column) (step .0) (step .1)
+    accepted = accepted-when (tallyLast h) (h .left) agrees (c .own) (c .reply) (c .column₀) (c .column) step
 
     at : replyNumber (c .reply) ≡ 0 → (v : ℕ) → v < h .vertices → weightIn (c .column) v ≡ weightIn (leastFromLeft (graphLeft h) (weightsLeft h)) v
-    at z v l = column-at (tallyLast h) (h .left) agrees (c .own) (c .reply) (c .column₀) (c .column) (step .0) (step .1) v (omega (arith, vertices-kept, l)) (reports z .3)
+    at z v l = column-at (tallyLast h) (h .left) agrees (c .own) (c .reply) (c .column₀) (c .column) step v (omega (arith, vertices-kept, l)) (reports z .3)
 
     is-crossing : replyNumber (c .reply) ≡ 0 → IsCrossing (graphLeft h) (weightsLeft h) (replyWeight (c .reply))
     is-crossing z =

@@ -17,7 +17,7 @@ use Rattle.engine_columns.specs.Questions.{engineLong, engineSound}
 use Rattle.engine_columns.proofs.Refusals.{long-of, long-from, sound-of, sound-from}
 use Rattle.engine_walks.specs.Answers.{TableColumns}
 use Rattle.query_questions.specs.Queries.{queryRefusal}
-use Rattle.query_questions.specs.Scratch.{ScratchColumns}
+use Rattle.query_questions.specs.Scratch.{ScratchColumns, scratchFits}
 use Rattle.query_search.proofs.Ranges.{in-range}
 use Rattle.query_tables.specs.declared.End.{End}
 use Rattle.query_tables.specs.declared.End.the-variants.{None, At}
@@ -28,7 +28,7 @@ use Rattle.query_paths.specs.GetPath.{pathAsked}
 use Rattle.query_paths.proofs.PathAsked.{path-asked}
 use Rattle.query_crossings.proofs.Crossings.{crossing-of}
 use Rattle.claims.specs.QueriesCalled.{PathColumns}
-use Rattle.claims.specs.Met.{scratchFits, EndWithin, TableMet, PathMet, CrossingMet, ColumnsInRange}
+use Rattle.claims.specs.Met.{EndWithin, TableMet, PathMet, CrossingMet, ColumnsInRange}
 
 -- 6, 7 and 13 met: the number is that of the later questions
 query-met : (e : Engine) (fits inRange : Bool) (next : ℕ) → engineLong 0 e ≡ true → fits ≡ true → engineSound e ≡ true → inRange ≡ true → queryRefusal e fits inRange next ≡ next

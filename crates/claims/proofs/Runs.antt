@@ -1,7 +1,7 @@
 -- Every list of calls of the real functions keeps columns and tally in agreement. Assumes nothing.
 use mathlib.Core.Path.{_≡_, refl, sym, subst}
 use mathlib.Core.List.{List, _∷_}
-use Prim.Native.Nat.{ℕ, _≤_, _<_}
+use Prim.Native.Nat.{ℕ, _≤_}
 use lib.ListN.{length}
 use lib.IntN.{ℤ}
 use Rattle.columns_answers.proofs.Said.{values-of}
@@ -15,10 +15,9 @@ use Rattle.engine_tally.specs.Tally.{Tally, tallyOf, lengthsOf, tallyStep}
 use Rattle.engine_tally.proofs.Agreement.{Agrees, step-agrees, opened-agrees}
 use Rattle.engine_columns.proofs.Refusals.{opens-of}
 use Rattle.query_crossing_answer.specs.declared.CrossingReply.{CrossingReply}
-use Rattle.query_crossing_answer.specs.Crossing.{CrossingStep}
 use Rattle.claims.specs.Listed.{OwnLengths, ListedCall, tallyAtEnd, numbers}
 use Rattle.claims.specs.Called.{OpenCalled, opened, Called, erased, weighed, undid, CrossingCalled, crossed, Calls, none, modified, crossing}
-use Rattle.claims.proofs.Agreeing.{scratchFits, crossing-number}
+use Rattle.claims.proofs.Agreeing.{CrossingBy, crossing-number}
 
 -- what a call's contract says is the step
 pub step-of : (call : Call) (e : Engine) (r : EngineAnswer) (e₁ : Engine) → Called call e r e₁ → Step call e r e₁
@@ -27,8 +26,8 @@ step-of call e r e₁ (weighed κs a q s h) = h
 step-of call e r e₁ (undid κs a q s h) = h
 
 pub crossing-of : (e : Engine) (o : OwnLengths) (r : CrossingReply) (column₀ column : List ℤ) → CrossingCalled e o r column₀ column
-    → CrossingStep e (scratchFits e o) r column₀ column × (length column₀ ≡ o .weights)
-crossing-of e o r column₀ column (crossed κs a q s h) = (h .0, refl)
+    → CrossingBy e o r column₀ column
+crossing-of e o r column₀ column (crossed κs a q s h) = record { same = refl; answers = h .answers; weights-after = h .weights-after }
 
 -- ---- open
 
@@ -60,7 +59,6 @@ runs e cs ns e₂ t a (modified {e₁ = e₁} {cs = ds} {ns = ms} call r s rest)
     let (m, a₂) = runs e₁ ds ms e₂ (tallyStep (record { call = call; lent = lengthsOf e }) t) a₁ rest in
     ((λ i. n i ∷ m i), a₂)
 runs e cs ns e₂ t a (crossing {cs = ds} {ns = ms} o r column₀ column s rest) =
-    let (step, same) = crossing-of e o r column₀ column s in
-    let n = crossing-number t e a o r column₀ column step same in
+    let n = crossing-number t e a o r column₀ column (crossing-of e o r column₀ column s) in
     let (m, a₂) = runs e ds ms e₂ t a rest in
     ((λ i. n i ∷ m i), a₂)

@@ -14,19 +14,18 @@ use Rattle.query_questions.specs.Scratch.{ScratchColumns}
 use Rattle.query_tables.specs.declared.End.{End}
 use Rattle.query_tables.specs.declared.End.the-variants.{None}
 use Rattle.query_tables.specs.Ends.{endIn}
-use Rattle.query_tables.specs.Tables.{TableStep}
+use Rattle.query_tables.specs.Tables.{FoundTable}
 use Rattle.claims.specs.QueriesCalled.{to-end, of-all}
-use Rattle.claims.specs.Met.{scratchFits}
 use Rattle.claims.specs.Queries.{TableSays, AllEdgesIsLeast}
 use Rattle.claims.proofs.Questions.{tableNumber, table-met, table-number, columns-in-range}
 
-module _ (e : Engine) (source : ℕ) (o : End) (r : Done) (columns₀ columns : TableColumns) (scratch₀ : ScratchColumns)
-    (step : TableStep e (scratchFits e scratch₀) source o r (columns₀ .weights) (columns₀ .previous) (columns .weights) (columns .previous)) where
+module _ (e : Engine) (source : ℕ) (o : End) (r : Done) (columns₀ columns : TableColumns) (scratch₀ scratch : ScratchColumns)
+    (step : FoundTable e source o r (columns₀ .weights) (columns .weights) (columns₀ .previous) (columns .previous) scratch₀ scratch) where
   abbrev number : ℕ
   number = tableNumber e source o columns₀ scratch₀
 
   is-number : doneSaid r .number ≡ number
-  is-number = step .answer .number-is
+  is-number = step .answers .number-is
 
   -- the first places of the columns left
   abbrev first : TableColumns
@@ -52,5 +51,5 @@ module _ (e : Engine) (source : ℕ) (o : End) (r : Done) (columns₀ columns : 
   }
 
 pub all-edges-least : AllEdgesIsLeast
-all-edges-least e source end r columns₀ columns scratch₀ scratch (to-end κs a q s h) = table-says e source _ r columns₀ columns scratch₀ (h .0)
-all-edges-least e source end r columns₀ columns scratch₀ scratch (of-all κs a q s h) = table-says e source None r columns₀ columns scratch₀ (h .0)
+all-edges-least e source end r columns₀ columns scratch₀ scratch (to-end κs a q s h) = table-says e source _ r columns₀ columns scratch₀ scratch h
+all-edges-least e source end r columns₀ columns scratch₀ scratch (of-all κs a q s h) = table-says e source None r columns₀ columns scratch₀ scratch h

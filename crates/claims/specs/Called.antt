@@ -11,7 +11,7 @@ use denote.Ref.{now}
 use Rattle.engine_columns.specs.declared.EngineCounts.{EngineCounts}
 use Rattle.engine_columns.specs.declared.EngineAnswer.{EngineAnswer}
 use Rattle.engine_columns.specs.declared.EngineAnswer.the-variants.{Counts}
-use Rattle.engine_columns.specs.Records.{Engine, engine, kept, engineSaid}
+use Rattle.engine_columns.specs.Records.{Engine, engine, kept, engineSaid, engineIn}
 use Rattle.engine_columns.specs.Step.{Call, loadErasures, loadWeights, reset}
 use Rattle.engine_columns.specs.Open.{GraphColumns, graphColumns}
 use Rattle.engine_tally.specs.Tally.{lengthsOf}
@@ -35,6 +35,7 @@ use Rattle.codes_calls.proofs.weighted.new.Kinds as new-kinds
 use Rattle.codes_calls.proofs.weighted.new.Reads as new-reads
 use Rattle.codes_calls.proofs.weighted.new_diagonal.Kinds as diagonal-kinds
 use Rattle.codes_calls.proofs.weighted.new_diagonal.Reads as diagonal-reads
+use Rattle.query_questions.specs.Scratch.{scratchIn, scratchLengths}
 
 -- Engine, Tally, sentence 2: an open that was accepted: the counts, what it was handed, and the engine's columns as it left them, with any log.
 pub data OpenCalled : (vertices edges : ℕ) → GraphColumns → Engine → Type 0 where
@@ -48,34 +49,29 @@ pub data OpenCalled : (vertices edges : ℕ) → GraphColumns → Engine → Typ
 pub data Called : Call → Engine → EngineAnswer → Engine → Type 0 where
   erased : (κs : Lfts 7) (a : Dens κs erasures-kinds.ps) (r : EngineAnswer) (s : AtExit (endedOf 7 erasures-kinds.ps erasures-kinds.r) κs) → erasures-reads.Learnt κs a r s
       → Called (loadErasures (now (a .1 .1 .1 .1 .1 .1 .1 .0)))
-      (engine (a .0) (now (a .1 .0)) (now (a .1 .1 .0)) (now (a .1 .1 .1 .0)) (now (a .1 .1 .1 .1 .0)) (now (a .1 .1 .1 .1 .1 .0)) (now (a .1 .1 .1 .1 .1 .1 .0)))
+      (engineIn (a .0) (a .1 .0) (a .1 .1 .0) (a .1 .1 .1 .0) (a .1 .1 .1 .1 .0) (a .1 .1 .1 .1 .1 .0) (a .1 .1 .1 .1 .1 .1 .0))
       r
-      (engine (kept (a .0) r) (now (a .1 .0)) (now (a .1 .1 .0)) (now (s .1 .1 .1 .0)) (now (a .1 .1 .1 .1 .0)) (now (s .1 .1 .1 .1 .1 .0)) (now (s .1 .1 .1 .1 .1 .1 .0)))
+      (engineIn (kept (a .0) r) (a .1 .0) (a .1 .1 .0) (s .1 .1 .1 .0) (a .1 .1 .1 .1 .0) (s .1 .1 .1 .1 .1 .0) (s .1 .1 .1 .1 .1 .1 .0))
   weighed : (κs : Lfts 8) (a : Dens κs weights-kinds.ps) (r : EngineAnswer) (s : AtExit (endedOf 8 weights-kinds.ps weights-kinds.r) κs) → weights-reads.Learnt κs a r s
       → Called (loadWeights (now (a .1 .1 .1 .1 .1 .1 .1 .0)) (now (a .1 .1 .1 .1 .1 .1 .1 .1 .0)))
-      (engine (a .0) (now (a .1 .0)) (now (a .1 .1 .0)) (now (a .1 .1 .1 .0)) (now (a .1 .1 .1 .1 .0)) (now (a .1 .1 .1 .1 .1 .0)) (now (a .1 .1 .1 .1 .1 .1 .0)))
+      (engineIn (a .0) (a .1 .0) (a .1 .1 .0) (a .1 .1 .1 .0) (a .1 .1 .1 .1 .0) (a .1 .1 .1 .1 .1 .0) (a .1 .1 .1 .1 .1 .1 .0))
       r
-      (engine (kept (a .0) r) (now (a .1 .0)) (now (a .1 .1 .0)) (now (s .1 .1 .1 .0)) (now (a .1 .1 .1 .1 .0)) (now (s .1 .1 .1 .1 .1 .0)) (now (s .1 .1 .1 .1 .1 .1 .0)))
+      (engineIn (kept (a .0) r) (a .1 .0) (a .1 .1 .0) (s .1 .1 .1 .0) (a .1 .1 .1 .1 .0) (s .1 .1 .1 .1 .1 .0) (s .1 .1 .1 .1 .1 .1 .0))
   undid : (κs : Lfts 6) (a : Dens κs reset-kinds.ps) (r : EngineAnswer) (s : AtExit (endedOf 6 reset-kinds.ps reset-kinds.r) κs) → reset-reads.Learnt κs a r s
       → Called reset
-      (engine (a .0) (now (a .1 .0)) (now (a .1 .1 .0)) (now (a .1 .1 .1 .0)) (now (a .1 .1 .1 .1 .0)) (now (a .1 .1 .1 .1 .1 .0)) (now (a .1 .1 .1 .1 .1 .1 .0)))
+      (engineIn (a .0) (a .1 .0) (a .1 .1 .0) (a .1 .1 .1 .0) (a .1 .1 .1 .1 .0) (a .1 .1 .1 .1 .1 .0) (a .1 .1 .1 .1 .1 .1 .0))
       r
-      (engine (kept (a .0) r) (now (a .1 .0)) (now (a .1 .1 .0)) (now (s .1 .1 .1 .0)) (now (a .1 .1 .1 .1 .0)) (now (a .1 .1 .1 .1 .1 .0)) (now (a .1 .1 .1 .1 .1 .1 .0)))
+      (engineIn (kept (a .0) r) (a .1 .0) (a .1 .1 .0) (s .1 .1 .1 .0) (a .1 .1 .1 .1 .0) (a .1 .1 .1 .1 .1 .0) (a .1 .1 .1 .1 .1 .1 .0))
 
 -- Engine, Crossing: a crossing that returned: the columns lent, which it only reads, the lengths of its own columns, the answer, and the weight column before and after.
 pub data CrossingCalled : Engine → OwnLengths → CrossingReply → (column₀ column : List ℤ) → Type 0 where
   crossed : (κs : Lfts 14) (a : Dens κs crossing-kinds.ps) (r : CrossingReply) (s : AtExit (endedOf 14 crossing-kinds.ps crossing-kinds.r) κs) → crossing-reads.Learnt κs a r s
       → CrossingCalled
-      (engine (a .0) (now (a .1 .0)) (now (a .1 .1 .0)) (now (a .1 .1 .1 .0)) (now (a .1 .1 .1 .1 .0)) (now (a .1 .1 .1 .1 .1 .0)) (now (a .1 .1 .1 .1 .1 .1 .0)))
+      (engineIn (a .0) (a .1 .0) (a .1 .1 .0) (a .1 .1 .1 .0) (a .1 .1 .1 .1 .0) (a .1 .1 .1 .1 .1 .0) (a .1 .1 .1 .1 .1 .1 .0))
       (record {
         weights = length (now (a .1 .1 .1 .1 .1 .1 .1 .0));
-        numbers = length (now (a .1 .1 .1 .1 .1 .1 .1 .1 .0));
-        listEnds = length (now (a .1 .1 .1 .1 .1 .1 .1 .1 .1 .0));
-        status = length (now (a .1 .1 .1 .1 .1 .1 .1 .1 .1 .1 .0));
-        weight = length (now (a .1 .1 .1 .1 .1 .1 .1 .1 .1 .1 .1 .0));
-        previous = length (now (a .1 .1 .1 .1 .1 .1 .1 .1 .1 .1 .1 .1 .0));
-        node = length (now (a .1 .1 .1 .1 .1 .1 .1 .1 .1 .1 .1 .1 .1 .0));
-        leaf = length (now (a .1 .1 .1 .1 .1 .1 .1 .1 .1 .1 .1 .1 .1 .1 .0));
+        scratch = scratchLengths (scratchIn (a .1 .1 .1 .1 .1 .1 .1 .1 .0) (a .1 .1 .1 .1 .1 .1 .1 .1 .1 .0) (a .1 .1 .1 .1 .1 .1 .1 .1 .1 .1 .0)
+            (a .1 .1 .1 .1 .1 .1 .1 .1 .1 .1 .1 .0) (a .1 .1 .1 .1 .1 .1 .1 .1 .1 .1 .1 .1 .0) (a .1 .1 .1 .1 .1 .1 .1 .1 .1 .1 .1 .1 .1 .0) (a .1 .1 .1 .1 .1 .1 .1 .1 .1 .1 .1 .1 .1 .1 .0));
       })
       r (now (a .1 .1 .1 .1 .1 .1 .1 .0)) (now (s .1 .1 .1 .1 .1 .1 .1 .0))
 

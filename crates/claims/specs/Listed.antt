@@ -11,17 +11,12 @@ use Rattle.engine_walks.specs.Graph.{Graph}
 use Rattle.engine_walks.specs.Answers.{crossing}
 use Rattle.query_questions.specs.Queries.{scratchLong}
 use Rattle.query_crossing_answer.specs.Crossing.{isJoined}
+use Rattle.query_questions.specs.declared.ScratchLengths.{ScratchLengths}
 
 -- Engine, Tally, sentence 5: the lengths of the columns that only a crossing is lent: the weight column and scratch.
 pub record OwnLengths : Type 0 where
   pub weights : ℕ
-  pub numbers : ℕ
-  pub listEnds : ℕ
-  pub status : ℕ
-  pub weight : ℕ
-  pub previous : ℕ
-  pub node : ℕ
-  pub leaf : ℕ
+  pub scratch : ScratchLengths
 
 -- Engine, Tally, sentence 5: one call as the tally is fed it: a load or a reset, or a crossing.
 pub data ListedCall : Type 0 where
@@ -41,7 +36,7 @@ abbrev pub crossingLong : Lengths → OwnLengths → EngineCounts → Bool
 crossingLong k o c =
     tallyLong 0 k c
     && (leb (c .vertices) (o .weights)
-    && scratchLong (c .vertices) (c .edges) (o .numbers) (o .listEnds) (o .status) (o .weight) (o .previous) (o .node) (o .leaf))
+    && scratchLong (c .vertices) (c .edges) (o .scratch))
 
 -- Engine, Tally, sentence 7: the question of a crossing before 18: 7 is always met.
 abbrev pub before18 : Lengths → OwnLengths → Tally → ℕ

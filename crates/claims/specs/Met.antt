@@ -2,7 +2,7 @@
 use Prim.Native.Nat.{ℕ, _<_, _≤_}
 use mathlib.Core.Path.{_≡_}
 use mathlib.Core.Logic.{_≢_}
-use mathlib.Core.Bool.{Bool, true}
+use mathlib.Core.Bool.{true}
 use mathlib.Core.List.{List, [], _∷_}
 use mathlib.Core.Option.{Option, some, none}
 use lib.ListN.{length}
@@ -13,14 +13,9 @@ use Rattle.engine_columns.specs.Questions.{engineLong, engineSound}
 use Rattle.engine_walks.specs.Lists.{All}
 use Rattle.engine_walks.specs.Graph.{edges, GraphInRange}
 use Rattle.engine_walks.specs.Answers.{TableColumns}
-use Rattle.query_questions.specs.Queries.{graphIn, weightsIn, scratchLong}
-use Rattle.query_questions.specs.Scratch.{ScratchColumns}
+use Rattle.query_questions.specs.Queries.{graphIn, weightsIn}
+use Rattle.query_questions.specs.Scratch.{ScratchColumns, scratchFits}
 use Rattle.claims.specs.QueriesCalled.{PathColumns}
-
--- Questions at the door, 6, of scratch: each column as long as the vertices, neighbour numbers twice the edges.
-abbrev pub scratchFits : Engine → ScratchColumns → Bool
-scratchFits e s =
-    scratchLong (e .counts .vertices) (e .counts .edges) (length (s .numbers)) (length (s .ends)) (length (s .status)) (length (s .weight)) (length (s .previous)) (length (s .node)) (length (s .leaf))
 
 -- Questions at the door, 6 and 7, of a query: the columns lent and the log are long enough, those of the lengths `written` and scratch too, and graph and log are sound.
 pub record Met (e : Engine) (written : List ℕ) (scratch : ScratchColumns) : Type 0 where

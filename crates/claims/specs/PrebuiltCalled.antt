@@ -8,7 +8,7 @@ use borrow.Fn.Kinds.{Dens, endedOf}
 use denote.Triple.Clauses.{AtExit}
 use denote.Ref.{now}
 use Rattle.columns.specs.declared.Done.the-variants.{Accepted}
-use Rattle.engine_columns.specs.Records.{Engine, engine}
+use Rattle.engine_columns.specs.Records.{Engine, engineIn}
 use Rattle.prebuilt_calls.proofs.boundaries.fill_boundaries.Kinds as boundaries-kinds
 use Rattle.prebuilt_calls.proofs.boundaries.fill_boundaries.Reads as boundaries-reads
 use Rattle.prebuilt_calls.proofs.fill_row.Kinds as row-kinds
@@ -18,12 +18,12 @@ use Rattle.prebuilt_calls.proofs.fill_row.Reads as row-reads
 pub data BoundariesFilled : Engine → (weights : List ℤ) (vertices : List ℕ) → Type 0 where
   filled : (κs : Lfts 17) (a : Dens κs boundaries-kinds.ps) (s : AtExit (endedOf 17 boundaries-kinds.ps boundaries-kinds.r) κs) → boundaries-reads.Learnt κs a Accepted s
       → BoundariesFilled
-      (engine (a .0) (now (a .1 .0)) (now (a .1 .1 .0)) (now (a .1 .1 .1 .0)) (now (a .1 .1 .1 .1 .0)) (now (a .1 .1 .1 .1 .1 .0)) (now (a .1 .1 .1 .1 .1 .1 .0)))
+      (engineIn (a .0) (a .1 .0) (a .1 .1 .0) (a .1 .1 .1 .0) (a .1 .1 .1 .1 .0) (a .1 .1 .1 .1 .1 .0) (a .1 .1 .1 .1 .1 .1 .0))
       (now (s .1 .1 .1 .1 .1 .1 .1 .0)) (now (s .1 .1 .1 .1 .1 .1 .1 .1 .0))
 
 -- complete_graph.rs, by `fill_row`: the engine lent, the vertex, the column of boundary weights lent, and the row's column as the call left it.
 pub data RowFilled : Engine → (v : ℕ) (weights row : List ℤ) → Type 0 where
   filled : (κs : Lfts 16) (a : Dens κs row-kinds.ps) (s : AtExit (endedOf 16 row-kinds.ps row-kinds.r) κs) → row-reads.Learnt κs a Accepted s
       → RowFilled
-      (engine (a .0) (now (a .1 .0)) (now (a .1 .1 .0)) (now (a .1 .1 .1 .0)) (now (a .1 .1 .1 .1 .0)) (now (a .1 .1 .1 .1 .1 .0)) (now (a .1 .1 .1 .1 .1 .1 .0)))
+      (engineIn (a .0) (a .1 .0) (a .1 .1 .0) (a .1 .1 .1 .0) (a .1 .1 .1 .1 .0) (a .1 .1 .1 .1 .1 .0) (a .1 .1 .1 .1 .1 .1 .0))
       (a .1 .1 .1 .1 .1 .1 .1 .0 .0) (now (a .1 .1 .1 .1 .1 .1 .1 .1 .0)) (now (s .1 .1 .1 .1 .1 .1 .1 .1 .1 .0))

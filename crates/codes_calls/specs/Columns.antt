@@ -4,6 +4,7 @@ use mathlib.Core.Path.{_≡_}
 use mathlib.Core.List.{List}
 use lib.ListN.{length}
 use lib.Ieee.{Float}
+use denote.Ref.{RefT, now}
 use Rattle.columns.specs.Lists.{after}
 unfoldable pub use Rattle.columns_room.specs.Room.{longEnough}
 
@@ -26,7 +27,26 @@ pub record CodeColumns : Type 0 where
   -- the neighbour lists, one after another
   pub neighborNumbers : List ℕ
 
--- The least of six lengths.
+-- Records, on vertices, edges and neighbour lists: these columns, lent or left by reference.
+abbrev pub codeIn : (ends-a ends-b : RefT (List ℕ)) (p pe : RefT (List Float)) (half-weight erasure : RefT (List ℕ)) (pos-i pos-j pos-t : RefT (List Float))
+    (boundary defect list-lengths neighbor-numbers : RefT (List ℕ)) → CodeColumns
+codeIn ends-a ends-b p pe half-weight erasure pos-i pos-j pos-t boundary defect list-lengths neighbor-numbers = record {
+  endsA = now ends-a;
+  endsB = now ends-b;
+  p = now p;
+  pe = now pe;
+  halfWeight = now half-weight;
+  erasure = now erasure;
+  posI = now pos-i;
+  posJ = now pos-j;
+  posT = now pos-t;
+  boundary = now boundary;
+  defect = now defect;
+  listLengths = now list-lengths;
+  neighborNumbers = now neighbor-numbers;
+}
+
+-- Questions at the door, 6: the least of six lengths.
 abbrev pub shortest : (a b c d e f : ℕ) → ℕ
 shortest a b c d e f = min a (min b (min c (min d (min e f))))
 

@@ -3,7 +3,7 @@ ghost use mathlib.Core.Path.{_≡_};
 ghost use lib.ListN.{length};
 ghost use Rattle.codes_layers.specs.Counts.{vertexNum, edgeNum};
 ghost use Rattle.codes_layers.specs.Accepts.{Buildable};
-ghost use Rattle.codes_calls.specs.Columns.{shortest};
+ghost use Rattle.codes_calls.specs.Columns.{shortest, codeIn};
 ghost use Rattle.codes_calls.specs.CreateCode.{createRefusal, CreateCode};
 ghost use Rattle.codes_calls.specs.Steps.{EdgeColumnsLong, EdgeColumnsFilled, VertexColumnsLong, VertexColumnsFilled};
 use super::Created;
@@ -108,7 +108,10 @@ fn create_in(
     list_ends: &mut [u32],
 ) -> Created
     requires { ⌜ length (now «list_ends») ≡ 4096 ⌝ }
-    ensures { λ r. ⌜ CreateCode kind d rounds (record { endsA = now («ends_a» .entry); endsB = now («ends_b» .entry); p = now (p .entry); pe = now (pe .entry); halfWeight = now («half_weight» .entry); erasure = now (erasure .entry); posI = now («pos_i» .entry); posJ = now («pos_j» .entry); posT = now («pos_t» .entry); boundary = now (boundary .entry); defect = now (defect .entry); listLengths = now («list_lengths» .entry); neighborNumbers = now («neighbor_numbers» .entry) }) (record { endsA = now («ends_a» .exit); endsB = now («ends_b» .exit); p = now (p .exit); pe = now (pe .exit); halfWeight = now («half_weight» .exit); erasure = now (erasure .exit); posI = now («pos_i» .exit); posJ = now («pos_j» .exit); posT = now («pos_t» .exit); boundary = now (boundary .exit); defect = now (defect .exit); listLengths = now («list_lengths» .exit); neighborNumbers = now («neighbor_numbers» .exit) }) r ⌝ }
+    ensures { λ r. ⌜ CreateCode kind d rounds
+        (codeIn («ends_a» .entry) («ends_b» .entry) (p .entry) (pe .entry) («half_weight» .entry) (erasure .entry) («pos_i» .entry) («pos_j» .entry) («pos_t» .entry) (boundary .entry) (defect .entry) («list_lengths» .entry) («neighbor_numbers» .entry))
+        (codeIn («ends_a» .exit) («ends_b» .exit) (p .exit) (pe .exit) («half_weight» .exit) (erasure .exit) («pos_i» .exit) («pos_j» .exit) («pos_t» .exit) (boundary .exit) (defect .exit) («list_lengths» .exit) («neighbor_numbers» .exit))
+        r ⌝ }
 {
     let edge_room = shortest_of(
         ends_a.len(),
@@ -170,7 +173,10 @@ pub fn create_code(
     list_lengths: &mut [u32],
     neighbor_numbers: &mut [u32],
 ) -> Created
-    ensures { λ r. ⌜ CreateCode kind d rounds (record { endsA = now («ends_a» .entry); endsB = now («ends_b» .entry); p = now (p .entry); pe = now (pe .entry); halfWeight = now («half_weight» .entry); erasure = now (erasure .entry); posI = now («pos_i» .entry); posJ = now («pos_j» .entry); posT = now («pos_t» .entry); boundary = now (boundary .entry); defect = now (defect .entry); listLengths = now («list_lengths» .entry); neighborNumbers = now («neighbor_numbers» .entry) }) (record { endsA = now («ends_a» .exit); endsB = now («ends_b» .exit); p = now (p .exit); pe = now (pe .exit); halfWeight = now («half_weight» .exit); erasure = now (erasure .exit); posI = now («pos_i» .exit); posJ = now («pos_j» .exit); posT = now («pos_t» .exit); boundary = now (boundary .exit); defect = now (defect .exit); listLengths = now («list_lengths» .exit); neighborNumbers = now («neighbor_numbers» .exit) }) r ⌝ }
+    ensures { λ r. ⌜ CreateCode kind d rounds
+        (codeIn («ends_a» .entry) («ends_b» .entry) (p .entry) (pe .entry) («half_weight» .entry) (erasure .entry) («pos_i» .entry) («pos_j» .entry) («pos_t» .entry) (boundary .entry) (defect .entry) («list_lengths» .entry) («neighbor_numbers» .entry))
+        (codeIn («ends_a» .exit) («ends_b» .exit) (p .exit) (pe .exit) («half_weight» .exit) (erasure .exit) («pos_i» .exit) («pos_j» .exit) («pos_t» .exit) (boundary .exit) (defect .exit) («list_lengths» .exit) («neighbor_numbers» .exit))
+        r ⌝ }
 {
     let mut list_ends = [0u32; 4096];
     create_in(

@@ -25,6 +25,7 @@ ghost use Rattle.codes_weights.specs.Steps.{weightsRefusal};
 ghost use Rattle.codes_calls.specs.Probabilities.{diagonalOf};
 ghost use Rattle.codes_calls.specs.NewCode.{WeightedCode, NewCode, NewDiagonal};
 ghost use Rattle.codes_calls.specs.WeightedSteps.{DiagonalKind};
+ghost use Rattle.codes_calls.specs.Columns.{codeIn};
 
 // The diagonal probability that `new` gives.
 fn diagonal_of(kind: u32, p: f64) -> DiagonalProbability
@@ -87,7 +88,10 @@ fn build(
     neighbor_numbers: &mut [u32],
 ) -> Created
     requires { ⌜ DiagonalKind kind diagonal ⌝ }
-    ensures { λ r. ⌜ WeightedCode kind d rounds probability diagonal «max_half_weight» (record { endsA = now («ends_a» .entry); endsB = now («ends_b» .entry); p = now (p .entry); pe = now (pe .entry); halfWeight = now («half_weight» .entry); erasure = now (erasure .entry); posI = now («pos_i» .entry); posJ = now («pos_j» .entry); posT = now («pos_t» .entry); boundary = now (boundary .entry); defect = now (defect .entry); listLengths = now («list_lengths» .entry); neighborNumbers = now («neighbor_numbers» .entry) }) (record { endsA = now («ends_a» .exit); endsB = now («ends_b» .exit); p = now (p .exit); pe = now (pe .exit); halfWeight = now («half_weight» .exit); erasure = now (erasure .exit); posI = now («pos_i» .exit); posJ = now («pos_j» .exit); posT = now («pos_t» .exit); boundary = now (boundary .exit); defect = now (defect .exit); listLengths = now («list_lengths» .exit); neighborNumbers = now («neighbor_numbers» .exit) }) r ⌝ }
+    ensures { λ r. ⌜ WeightedCode kind d rounds probability diagonal «max_half_weight»
+        (codeIn («ends_a» .entry) («ends_b» .entry) (p .entry) (pe .entry) («half_weight» .entry) (erasure .entry) («pos_i» .entry) («pos_j» .entry) («pos_t» .entry) (boundary .entry) (defect .entry) («list_lengths» .entry) («neighbor_numbers» .entry))
+        (codeIn («ends_a» .exit) («ends_b» .exit) (p .exit) (pe .exit) («half_weight» .exit) (erasure .exit) («pos_i» .exit) («pos_j» .exit) («pos_t» .exit) (boundary .exit) (defect .exit) («list_lengths» .exit) («neighbor_numbers» .exit))
+        r ⌝ }
 {
     let edge_room = shortest_of(
         ends_a.len(),
@@ -178,7 +182,10 @@ pub fn new(
     list_lengths: &mut [u32],
     neighbor_numbers: &mut [u32],
 ) -> Created
-    ensures { λ r. ⌜ NewCode kind d rounds probability «max_half_weight» (record { endsA = now («ends_a» .entry); endsB = now («ends_b» .entry); p = now (p .entry); pe = now (pe .entry); halfWeight = now («half_weight» .entry); erasure = now (erasure .entry); posI = now («pos_i» .entry); posJ = now («pos_j» .entry); posT = now («pos_t» .entry); boundary = now (boundary .entry); defect = now (defect .entry); listLengths = now («list_lengths» .entry); neighborNumbers = now («neighbor_numbers» .entry) }) (record { endsA = now («ends_a» .exit); endsB = now («ends_b» .exit); p = now (p .exit); pe = now (pe .exit); halfWeight = now («half_weight» .exit); erasure = now (erasure .exit); posI = now («pos_i» .exit); posJ = now («pos_j» .exit); posT = now («pos_t» .exit); boundary = now (boundary .exit); defect = now (defect .exit); listLengths = now («list_lengths» .exit); neighborNumbers = now («neighbor_numbers» .exit) }) r ⌝ }
+    ensures { λ r. ⌜ NewCode kind d rounds probability «max_half_weight»
+        (codeIn («ends_a» .entry) («ends_b» .entry) (p .entry) (pe .entry) («half_weight» .entry) (erasure .entry) («pos_i» .entry) («pos_j» .entry) («pos_t» .entry) (boundary .entry) (defect .entry) («list_lengths» .entry) («neighbor_numbers» .entry))
+        (codeIn («ends_a» .exit) («ends_b» .exit) (p .exit) (pe .exit) («half_weight» .exit) (erasure .exit) («pos_i» .exit) («pos_j» .exit) («pos_t» .exit) (boundary .exit) (defect .exit) («list_lengths» .exit) («neighbor_numbers» .exit))
+        r ⌝ }
 {
     build(
         kind,
@@ -224,7 +231,10 @@ pub fn new_diagonal(
     list_lengths: &mut [u32],
     neighbor_numbers: &mut [u32],
 ) -> Created
-    ensures { λ r. ⌜ NewDiagonal d rounds probability diagonal «max_half_weight» (record { endsA = now («ends_a» .entry); endsB = now («ends_b» .entry); p = now (p .entry); pe = now (pe .entry); halfWeight = now («half_weight» .entry); erasure = now (erasure .entry); posI = now («pos_i» .entry); posJ = now («pos_j» .entry); posT = now («pos_t» .entry); boundary = now (boundary .entry); defect = now (defect .entry); listLengths = now («list_lengths» .entry); neighborNumbers = now («neighbor_numbers» .entry) }) (record { endsA = now («ends_a» .exit); endsB = now («ends_b» .exit); p = now (p .exit); pe = now (pe .exit); halfWeight = now («half_weight» .exit); erasure = now (erasure .exit); posI = now («pos_i» .exit); posJ = now («pos_j» .exit); posT = now («pos_t» .exit); boundary = now (boundary .exit); defect = now (defect .exit); listLengths = now («list_lengths» .exit); neighborNumbers = now («neighbor_numbers» .exit) }) r ⌝ }
+    ensures { λ r. ⌜ NewDiagonal d rounds probability diagonal «max_half_weight»
+        (codeIn («ends_a» .entry) («ends_b» .entry) (p .entry) (pe .entry) («half_weight» .entry) (erasure .entry) («pos_i» .entry) («pos_j» .entry) («pos_t» .entry) (boundary .entry) (defect .entry) («list_lengths» .entry) («neighbor_numbers» .entry))
+        (codeIn («ends_a» .exit) («ends_b» .exit) (p .exit) (pe .exit) («half_weight» .exit) (erasure .exit) («pos_i» .exit) («pos_j» .exit) («pos_t» .exit) (boundary .exit) (defect .exit) («list_lengths» .exit) («neighbor_numbers» .exit))
+        r ⌝ }
 {
     build(
         4,

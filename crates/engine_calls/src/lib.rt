@@ -1,5 +1,5 @@
 // The changes of an engine graph's weights: open, load erasures, load weights, reset.
-ghost use Rattle.engine_columns.specs.Records.{engine, kept};
+ghost use Rattle.engine_columns.specs.Records.{kept, engineIn};
 ghost use Rattle.engine_columns.specs.Step.{Step, loadErasures, loadWeights, reset};
 ghost use Rattle.engine_columns.specs.Open.{OpenStep, graphColumns};
 use columns::Weight;
@@ -27,9 +27,9 @@ pub fn load_erasures(
     list: &[u32],
 ) -> EngineAnswer
     ensures { λ r. ⌜ Step (loadErasures (now (list .entry)))
-        (engine c (now («ends_a» .entry)) (now («ends_b» .entry)) (now (weights .entry)) (now (boundary .entry)) (now («log_edges» .entry)) (now («log_weights» .entry)))
+        (engineIn c («ends_a» .entry) («ends_b» .entry) (weights .entry) (boundary .entry) («log_edges» .entry) («log_weights» .entry))
         r
-        (engine (kept c r) (now («ends_a» .entry)) (now («ends_b» .entry)) (now (weights .exit)) (now (boundary .entry)) (now («log_edges» .exit)) (now («log_weights» .exit))) ⌝ }
+        (engineIn (kept c r) («ends_a» .entry) («ends_b» .entry) (weights .exit) (boundary .entry) («log_edges» .exit) («log_weights» .exit)) ⌝ }
 {
     let no = load_erasures_refusal(
         c,
@@ -65,9 +65,9 @@ pub fn load_dynamic_weights(
     values: &[Weight],
 ) -> EngineAnswer
     ensures { λ r. ⌜ Step (loadWeights (now (list .entry)) (now (values .entry)))
-        (engine c (now («ends_a» .entry)) (now («ends_b» .entry)) (now (weights .entry)) (now (boundary .entry)) (now («log_edges» .entry)) (now («log_weights» .entry)))
+        (engineIn c («ends_a» .entry) («ends_b» .entry) (weights .entry) (boundary .entry) («log_edges» .entry) («log_weights» .entry))
         r
-        (engine (kept c r) (now («ends_a» .entry)) (now («ends_b» .entry)) (now (weights .exit)) (now (boundary .entry)) (now («log_edges» .exit)) (now («log_weights» .exit))) ⌝ }
+        (engineIn (kept c r) («ends_a» .entry) («ends_b» .entry) (weights .exit) (boundary .entry) («log_edges» .exit) («log_weights» .exit)) ⌝ }
 {
     let no = load_weights_refusal(
         c,
@@ -102,9 +102,9 @@ pub fn reset(
     log_weights: &[Weight],
 ) -> EngineAnswer
     ensures { λ r. ⌜ Step reset
-        (engine c (now («ends_a» .entry)) (now («ends_b» .entry)) (now (weights .entry)) (now (boundary .entry)) (now («log_edges» .entry)) (now («log_weights» .entry)))
+        (engineIn c («ends_a» .entry) («ends_b» .entry) (weights .entry) (boundary .entry) («log_edges» .entry) («log_weights» .entry))
         r
-        (engine (kept c r) (now («ends_a» .entry)) (now («ends_b» .entry)) (now (weights .exit)) (now (boundary .entry)) (now («log_edges» .entry)) (now («log_weights» .entry))) ⌝ }
+        (engineIn (kept c r) («ends_a» .entry) («ends_b» .entry) (weights .exit) (boundary .entry) («log_edges» .entry) («log_weights» .entry)) ⌝ }
 {
     let no = reset_refusal(c, ends_a, ends_b, weights, boundary, log_edges, log_weights);
     if no == 0 {

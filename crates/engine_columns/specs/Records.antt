@@ -1,6 +1,7 @@
 -- The engine graph of document 01's "Records": the columns that a caller lends, with their counts.
 use Prim.Native.Nat.{ℕ}
-use mathlib.Core.List.{List}
+use mathlib.Core.List.{List, []}
+use denote.Ref.{RefT, now}
 use Rattle.columns_answers.specs.Said.{Said, accepts, refuses}
 use Rattle.engine_columns.specs.declared.EngineCounts.{EngineCounts}
 use Rattle.engine_columns.specs.declared.EngineAnswer.{EngineAnswer}
@@ -21,6 +22,14 @@ pub record Engine : Type 0 where
 abbrev pub engine : EngineCounts → List ℕ → List ℕ → List ℕ → List ℕ → List ℕ → List ℕ → Engine
 engine c a b w m e l =
     record { counts = c; endsA = a; endsB = b; weights = w; boundary = m; logEdges = e; logWeights = l }
+
+-- Records, on engine graphs: likewise, of columns lent or left by reference.
+abbrev pub engineIn : EngineCounts → (a b w m e l : RefT (List ℕ)) → Engine
+engineIn c a b w m e l = engine c (now a) (now b) (now w) (now m) (now e) (now l)
+
+-- Records, on engine graphs: likewise, where no log is lent.
+abbrev pub engineWithoutLog : EngineCounts → (a b w m : RefT (List ℕ)) → Engine
+engineWithoutLog c a b w m = engine c (now a) (now b) (now w) (now m) [] []
 
 -- Records, on engine graphs: the numbers of vertices, edges and log entries together.
 abbrev pub counts : ℕ → ℕ → ℕ → EngineCounts

@@ -1,6 +1,6 @@
 // The engine graph over lent columns, and questions 6 and 7 of it.
 ghost use mathlib.Core.Path.{_≡_};
-ghost use Rattle.engine_columns.specs.Records.{engine};
+ghost use Rattle.engine_columns.specs.Records.{engineIn};
 ghost use Rattle.engine_columns.specs.Questions.{columnsLong, engineLong, columnsSound, engineSound};
 use columns::Weight;
 use columns::questions::at_most;
@@ -53,7 +53,7 @@ pub fn long_enough(
     log_weights: &[Weight],
     n: usize,
 ) -> bool
-    ensures { λ r. ⌜ r ≡ engineLong n (engine c (now («ends_a» .entry)) (now («ends_b» .entry)) (now (weights .entry)) (now (boundary .entry)) (now («log_edges» .entry)) (now («log_weights» .entry))) ⌝ }
+    ensures { λ r. ⌜ r ≡ engineLong n (engineIn c («ends_a» .entry) («ends_b» .entry) (weights .entry) (boundary .entry) («log_edges» .entry) («log_weights» .entry)) ⌝ }
 {
     let long = columns_long(c.vertices, c.edges, ends_a, ends_b, weights, boundary);
     let e = has_room(c.entries, n, log_edges.len());
@@ -88,7 +88,7 @@ pub fn engine_sound(
     log_edges: &[u32],
     log_weights: &[Weight],
 ) -> bool
-    ensures { λ r. ⌜ r ≡ engineSound (engine c (now («ends_a» .entry)) (now («ends_b» .entry)) (now (weights .entry)) (now (boundary .entry)) (now («log_edges» .entry)) (now («log_weights» .entry))) ⌝ }
+    ensures { λ r. ⌜ r ≡ engineSound (engineIn c («ends_a» .entry) («ends_b» .entry) (weights .entry) (boundary .entry) («log_edges» .entry) («log_weights» .entry)) ⌝ }
 {
     let graph = columns_sound(c.vertices, c.edges, ends_a, ends_b, weights, boundary);
     let log = log_sound(c.edges, c.entries, log_edges, log_weights);

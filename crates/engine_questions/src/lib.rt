@@ -1,6 +1,6 @@
 // The questions of open, the loads and reset.
 ghost use mathlib.Core.Path.{_≡_};
-ghost use Rattle.engine_columns.specs.Records.{engine};
+ghost use Rattle.engine_columns.specs.Records.{engineIn};
 ghost use Rattle.engine_columns.specs.Step.{engineRefusal, loadErasures, loadWeights, reset};
 ghost use Rattle.engine_columns.specs.Open.{openRefusal, graphColumns};
 use columns::Weight;
@@ -26,7 +26,7 @@ pub fn load_erasures_refusal(
     log_weights: &[Weight],
     list: &[u32],
 ) -> u32
-    ensures { λ r. ⌜ r ≡ engineRefusal (loadErasures (now (list .entry))) (engine c (now («ends_a» .entry)) (now («ends_b» .entry)) (now (weights .entry)) (now (boundary .entry)) (now («log_edges» .entry)) (now («log_weights» .entry))) ⌝ }
+    ensures { λ r. ⌜ r ≡ engineRefusal (loadErasures (now (list .entry))) (engineIn c («ends_a» .entry) («ends_b» .entry) (weights .entry) (boundary .entry) («log_edges» .entry) («log_weights» .entry)) ⌝ }
 {
     let long = long_enough(
         c,
@@ -60,7 +60,7 @@ pub fn load_weights_refusal(
     list: &[u32],
     values: &[Weight],
 ) -> u32
-    ensures { λ r. ⌜ r ≡ engineRefusal (loadWeights (now (list .entry)) (now (values .entry))) (engine c (now («ends_a» .entry)) (now («ends_b» .entry)) (now (weights .entry)) (now (boundary .entry)) (now («log_edges» .entry)) (now («log_weights» .entry))) ⌝ }
+    ensures { λ r. ⌜ r ≡ engineRefusal (loadWeights (now (list .entry)) (now (values .entry))) (engineIn c («ends_a» .entry) («ends_b» .entry) (weights .entry) (boundary .entry) («log_edges» .entry) («log_weights» .entry)) ⌝ }
 {
     let many = equal(list.len(), values.len());
     let long = long_enough(
@@ -102,7 +102,7 @@ pub fn reset_refusal(
     log_edges: &[u32],
     log_weights: &[Weight],
 ) -> u32
-    ensures { λ r. ⌜ r ≡ engineRefusal reset (engine c (now («ends_a» .entry)) (now («ends_b» .entry)) (now (weights .entry)) (now (boundary .entry)) (now («log_edges» .entry)) (now («log_weights» .entry))) ⌝ }
+    ensures { λ r. ⌜ r ≡ engineRefusal reset (engineIn c («ends_a» .entry) («ends_b» .entry) (weights .entry) (boundary .entry) («log_edges» .entry) («log_weights» .entry)) ⌝ }
 {
     let long = long_enough(
         c,

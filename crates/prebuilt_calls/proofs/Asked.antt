@@ -1,5 +1,5 @@
 -- The questions of a call that fills both columns. Assumes nothing.
-use mathlib.Core.Path.{_≡_, refl, _∙_}
+use mathlib.Core.Path.{_≡_, refl, ap, _∙_}
 use mathlib.Core.Logic.{_≢_}
 use mathlib.Core.Bool.{Bool, true, false, _&&_}
 use Prim.Native.Nat.{ℕ, _<_}
@@ -17,19 +17,20 @@ use Rattle.query_search.proofs.Asked.{query-of}
 use Rattle.query_search.proofs.Scratch.{query-kept}
 use Rattle.prebuilt_calls.specs.Steps.{Fillable}
 use Rattle.prebuilt_calls.specs.Boundaries.{boundariesRefusal}
+use Rattle.query_questions.specs.declared.ScratchLengths.{ScratchLengths}
 
-module _ (e : Engine) (weights vertices least before numbers ends status weight previous node leaf : ℕ) where
+module _ (e : Engine) (weights vertices least before : ℕ) (l : ScratchLengths) where
   abbrev scratch : Bool
-  scratch = scratchLong (e .counts .vertices) (e .counts .edges) numbers ends status weight previous node leaf
+  scratch = scratchLong (e .counts .vertices) (e .counts .edges) l
 
   -- a search from v is accepted
-  pub search-accepted : Fillable e weights vertices least before numbers ends status weight previous node leaf → (v : ℕ) → v < e .counts .vertices
+  pub search-accepted : Fillable e weights vertices least before l → (v : ℕ) → v < e .counts .vertices
       → tableRefusal e scratch v None least before ≡ 0
   search-accepted f v h =
       rw (f .long, f .is-sound, le-leb (e .counts .vertices) least (f .least-fits), le-leb (e .counts .vertices) before (f .before-fits), f .scratch-fits, lt-ltb v (e .counts .vertices) h)
 
   -- what an accepted call says
-  pub fillable : boundariesRefusal e scratch weights vertices least before ≡ 0 → Fillable e weights vertices least before numbers ends status weight previous node leaf
+  pub fillable : boundariesRefusal e scratch weights vertices least before ≡ 0 → Fillable e weights vertices least before l
   fillable z =
       let n = e .counts .vertices in
       let q = query-of e _ true 0 z in
@@ -54,14 +55,13 @@ module _ (e : Engine) (weights vertices least before numbers ends status weight 
       query-kept e (leb n weights && (leb n vertices && (leb n least && (leb n before && scratch)))) true 0 (λ x. absurd (x refl)) f
 
 -- the same room in columns of the same lengths
-pub same-room : {e : Engine} {w v l b n d s k p o f w′ v′ l′ b′ n′ d′ s′ k′ p′ o′ f′ : ℕ} → Fillable e w v l b n d s k p o f
-    → w′ ≡ w → v′ ≡ v → l′ ≡ l → b′ ≡ b → n′ ≡ n → d′ ≡ d → s′ ≡ s → k′ ≡ k → p′ ≡ p → o′ ≡ o → f′ ≡ f → Fillable e w′ v′ l′ b′ n′ d′ s′ k′ p′ o′ f′
-same-room {e} r ew ev el eb en ed es ek ep eo ef = record {
+pub same-room : {e : Engine} {w v l b w′ v′ l′ b′ : ℕ} {s s′ : ScratchLengths} → Fillable e w v l b s → w′ ≡ w → v′ ≡ v → l′ ≡ l → b′ ≡ b → s′ ≡ s → Fillable e w′ v′ l′ b′ s′
+same-room {e} r ew ev el eb es = record {
   long = r .long;
   is-sound = r .is-sound;
   weights-fit = omega (arith, r .weights-fit);
   vertices-fit = omega (arith, r .vertices-fit);
   least-fits = omega (arith, r .least-fits);
   before-fits = omega (arith, r .before-fits);
-  scratch-fits = (λ i. scratchLong (e .counts .vertices) (e .counts .edges) (en i) (ed i) (es i) (ek i) (ep i) (eo i) (ef i)) ∙ r .scratch-fits;
+  scratch-fits = ap (scratchLong (e .counts .vertices) (e .counts .edges)) es ∙ r .scratch-fits;
 }

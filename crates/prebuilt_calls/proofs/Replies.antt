@@ -1,7 +1,7 @@
 -- What tables inside a call leave. Assumes nothing.
 use mathlib.Core.Path.{_≡_, refl, sym, ap, _∙_, subst}
 use mathlib.Core.Logic.{_≢_}
-use mathlib.Core.Bool.{Bool, false}
+use mathlib.Core.Bool.{false}
 use mathlib.Core.List.{List, _++_}
 use mathlib.Core.Option.{none}
 use Prim.Native.Nat.{ℕ, _+_, _-_, _<_}
@@ -26,23 +26,23 @@ use Rattle.query_questions.specs.Queries.{graphIn, weightsIn}
 use Rattle.query_questions.specs.Scratch.{ScratchColumns, isFree, SearchLeft, ScratchAfter}
 use Rattle.query_search.proofs.Scratch.{scratch-free, scratch-kept}
 use Rattle.query_tables.specs.declared.End.the-variants.{None}
-use Rattle.query_tables.specs.Tables.{TableStep, TableScratch, TableInside}
+use Rattle.query_tables.specs.Tables.{FoundTable, TableInside}
 use Rattle.query_tables.proofs.Sources.{table-weights-length, table-previous-length}
 use Rattle.prebuilt_calls.specs.Steps.{TablesInside}
 
 -- by another name of the number
-pub inside-of : {e : Engine} {scratch : Bool} {v : ℕ} {d : Done} {least₀ least : List ℤ} {before₀ before : List ℕ} {s₀ s : ScratchColumns} (number : ℕ)
-    → TableStep e scratch v None d least₀ before₀ least before → TableScratch e v None d s₀ s → doneSaid d .number ≡ number → TableInside number e v least₀ before₀ s₀ least before s
-inside-of {e} {v = v} {least₀ = least₀} {before₀ = before₀} {s₀ = s₀} {s} number t k q =
-    let p = sym (t .answer .number-is) ∙ q in
+pub inside-of : {e : Engine} {v : ℕ} {d : Done} {least₀ least : List ℤ} {before₀ before : List ℕ} {s₀ s : ScratchColumns} (number : ℕ)
+    → FoundTable e v None d least₀ least before₀ before s₀ s → doneSaid d .number ≡ number → TableInside number e v least₀ least before₀ before s₀ s
+inside-of {e} {v = v} {least₀ = least₀} {before₀ = before₀} {s₀ = s₀} {s} number t q =
+    let p = sym (t .answers .number-is) ∙ q in
     record {
       least-after = t .weights-after ∙ ap (λ n. after n (table (graphIn e) (weightsIn e) v none .weights) least₀) p;
       before-after = t .previous-after ∙ ap (λ n. after n (table (graphIn e) (weightsIn e) v none .previous) before₀) p;
-      scratch-after = subst (λ n. ScratchAfter n (graphIn e) (settled (graphIn e) (weightsIn e) (only v) none) s₀ s) q k;
+      scratch-after = subst (λ n. ScratchAfter n (graphIn e) (settled (graphIn e) (weightsIn e) (only v) none) s₀ s) q (t .scratch-after);
     }
 
 -- a refused call
-pub inside-kept : (number : ℕ) (e : Engine) (v : ℕ) (least : List ℤ) (before : List ℕ) (s : ScratchColumns) → number ≢ 0 → isFree number ≡ false → TableInside number e v least before s least before s
+pub inside-kept : (number : ℕ) (e : Engine) (v : ℕ) (least : List ℤ) (before : List ℕ) (s : ScratchColumns) → number ≢ 0 → isFree number ≡ false → TableInside number e v least least before before s s
 inside-kept number e v least before s f k = record {
   least-after = sym (after-refused number (table (graphIn e) (weightsIn e) v none .weights) least f);
   before-after = sym (after-refused number (table (graphIn e) (weightsIn e) v none .previous) before f);
@@ -75,7 +75,7 @@ module _ (e : Engine) (ok : GraphInRange (graphIn e)) where
   state-fits v h = settle-valid ok (weightsIn e) (only-source h) none (e .counts .vertices) .fits
 
   inside-again : {u v : ℕ} {l₀ l₁ l₂ : List ℤ} {b₀ b₁ b₂ : List ℕ} {s₀ s₁ s₂ : ScratchColumns} → u < e .counts .vertices → v < e .counts .vertices
-      → TableInside 0 e u l₀ b₀ s₀ l₁ b₁ s₁ → TableInside 0 e v l₁ b₁ s₁ l₂ b₂ s₂ → TableInside 0 e v l₀ b₀ s₀ l₂ b₂ s₂
+      → TableInside 0 e u l₀ l₁ b₀ b₁ s₀ s₁ → TableInside 0 e v l₁ l₂ b₁ b₂ s₁ s₂ → TableInside 0 e v l₀ l₂ b₀ b₂ s₀ s₂
   inside-again {u} {v} {l₀} {b₀ = b₀} {s₀ = s₀} {s₂ = s₂} hu hv p q =
       let g = graphIn e in
       let w = weightsIn e in
@@ -89,18 +89,18 @@ module _ (e : Engine) (ok : GraphInRange (graphIn e)) where
 
   -- one table more
   pub tables-more : (n : ℕ) {l₀ l₁ l₂ : List ℤ} {b₀ b₁ b₂ : List ℕ} {s₀ s₁ s₂ : ScratchColumns} → n < e .counts .vertices
-      → TablesInside e n l₀ b₀ s₀ l₁ b₁ s₁ → TableInside 0 e n l₁ b₁ s₁ l₂ b₂ s₂ → TablesInside e (n + 1) l₀ b₀ s₀ l₂ b₂ s₂
+      → TablesInside e n l₀ l₁ b₀ b₁ s₀ s₁ → TableInside 0 e n l₁ l₂ b₁ b₂ s₁ s₂ → TablesInside e (n + 1) l₀ l₂ b₀ b₂ s₀ s₂
   tables-more n {l₀} {l₁} {l₂} {b₀} {b₁} {b₂} {s₀} {s₁} {s₂} h p q = record {
     none = λ z. absurd (omega arith);
-    last = λ v w. subst (λ k. TableInside 0 e k l₀ b₀ s₀ l₂ b₂ s₂) (let k : n ≡ v = omega arith in k) (go (ℕ-discrete n 0));
+    last = λ v w. subst (λ k. TableInside 0 e k l₀ l₂ b₀ b₂ s₀ s₂) (let k : n ≡ v = omega arith in k) (go (ℕ-discrete n 0));
   }
     where
-      go : Dec (n ≡ 0) → TableInside 0 e n l₀ b₀ s₀ l₂ b₂ s₂
+      go : Dec (n ≡ 0) → TableInside 0 e n l₀ l₂ b₀ b₂ s₀ s₂
       go (yes z) =
           let (x, y, k) = p .none z in
-          subst (λ l. TableInside 0 e n l b₀ s₀ l₂ b₂ s₂) x (subst (λ b. TableInside 0 e n l₁ b s₀ l₂ b₂ s₂) y (subst (λ s. TableInside 0 e n l₁ b₁ s l₂ b₂ s₂) k q))
+          subst (λ l. TableInside 0 e n l l₂ b₀ b₂ s₀ s₂) x (subst (λ b. TableInside 0 e n l₁ l₂ b b₂ s₀ s₂) y (subst (λ s. TableInside 0 e n l₁ l₂ b₁ b₂ s s₂) k q))
       go (no f) = inside-again (omega arith) h (p .last (n - 1) (omega arith)) q
 
 -- the last table
-pub tables-last : {e : Engine} (n : ℕ) {l₀ l : List ℤ} {b₀ b : List ℕ} {s₀ s : ScratchColumns} → 0 < n → TablesInside e n l₀ b₀ s₀ l b s → TableInside 0 e (n - 1) l₀ b₀ s₀ l b s
+pub tables-last : {e : Engine} (n : ℕ) {l₀ l : List ℤ} {b₀ b : List ℕ} {s₀ s : ScratchColumns} → 0 < n → TablesInside e n l₀ l b₀ b s₀ s → TableInside 0 e (n - 1) l₀ l b₀ b s₀ s
 tables-last n h p = p .last (n - 1) (omega arith)

@@ -1,5 +1,5 @@
 -- The boundary weight and the boundary vertex of every vertex in the Rust's `PrebuiltCompleteGraph`.
-use Prim.Native.Nat.{ℕ}
+use Prim.Native.Nat.{ℕ, _-_}
 use mathlib.Core.Path.{_≡_}
 use mathlib.Core.Bool.{Bool, true, _&&_}
 use mathlib.Core.List.{List}
@@ -15,6 +15,8 @@ use Rattle.engine_columns.specs.Records.{Engine}
 use Rattle.engine_walks.specs.Graph.{Graph}
 use Rattle.engine_walks.specs.Answers.{table}
 use Rattle.query_questions.specs.Queries.{graphIn, weightsIn, queryRefusal}
+use Rattle.query_questions.specs.Scratch.{ScratchColumns, scratchFits}
+use Rattle.query_tables.specs.Tables.{TableInside}
 use Rattle.prebuilt_entries.specs.Nearest.{boundaryIn, weightTo, vertexTo}
 
 -- Engine, Table: the weights from v with no end.
@@ -38,10 +40,15 @@ abbrev pub boundariesRefusal : Engine → (scratch : Bool) (weights vertices lea
 boundariesRefusal e scratch weights vertices least before =
     queryRefusal e (leb (e .counts .vertices) weights && (leb (e .counts .vertices) vertices && (leb (e .counts .vertices) least && (leb (e .counts .vertices) before && scratch)))) true 0
 
--- complete_graph.rs, `PrebuiltCompleteGraph`: the answer of `fill_boundaries`, and both columns.
-pub record BoundariesStep (e : Engine) (scratch : Bool) (least before : ℕ) (r : Done) (weights₀ : List ℤ) (vertices₀ : List ℕ) (weights : List ℤ) (vertices : List ℕ) : Type 0 where
-  pub answer : Answered (doneSaid r) (boundariesRefusal e scratch (length weights₀) (length vertices₀) least before) tt tt
+-- complete_graph.rs, `PrebuiltCompleteGraph`: the answer of `fill_boundaries`, and both columns. The columns of the table, which serve as scratch, and scratch hold
+-- what the table from the last vertex leaves.
+pub record FilledBoundaries (e : Engine) (answer : Done) (weights₀ weights : List ℤ) (vertices₀ vertices : List ℕ) (least₀ least : List ℤ) (before₀ before : List ℕ)
+    (scratch₀ scratch : ScratchColumns) : Type 0 where
+  pub answers : Answered (doneSaid answer) (boundariesRefusal e (scratchFits e scratch₀) (length weights₀) (length vertices₀) (length least₀) (length before₀)) tt tt
   pub weights-after : weights
-      ≡ after (boundariesRefusal e scratch (length weights₀) (length vertices₀) least before) (each (e .counts .vertices) (boundaryWeight (graphIn e) (weightsIn e))) weights₀
+      ≡ after (boundariesRefusal e (scratchFits e scratch₀) (length weights₀) (length vertices₀) (length least₀) (length before₀))
+      (each (e .counts .vertices) (boundaryWeight (graphIn e) (weightsIn e))) weights₀
   pub vertices-after : vertices
-      ≡ after (boundariesRefusal e scratch (length weights₀) (length vertices₀) least before) (each (e .counts .vertices) (boundaryVertex (graphIn e) (weightsIn e))) vertices₀
+      ≡ after (boundariesRefusal e (scratchFits e scratch₀) (length weights₀) (length vertices₀) (length least₀) (length before₀))
+      (each (e .counts .vertices) (boundaryVertex (graphIn e) (weightsIn e))) vertices₀
+  pub scratch-after : TableInside (doneSaid answer .number) e (e .counts .vertices - 1) least₀ least before₀ before scratch₀ scratch

@@ -2,12 +2,18 @@
 use Prim.Native.Nat.{ℕ}
 use mathlib.Core.List.{List}
 use mathlib.Core.Option.{Option, some, none}
+use lib.ListN.{length}
 use lib.IntN.{ℤ}
 use Rattle.columns_answers.specs.Said.{Said, accepts, refuses, Answered}
+use Rattle.engine_columns.specs.Records.{Engine}
 use Rattle.engine_walks.specs.Graph.{Graph}
 use Rattle.engine_walks.specs.Answers.{weightIn, table}
 use Rattle.prebuilt_calls.specs.declared.nearest.BoundaryAnswer.{BoundaryAnswer}
 use Rattle.prebuilt_calls.specs.declared.nearest.BoundaryAnswer.the-variants.{Nearest, NoBoundary, Refused}
+use Rattle.query_questions.specs.Queries.{graphIn, weightsIn}
+use Rattle.query_questions.specs.Scratch.{ScratchColumns, scratchFits}
+use Rattle.query_tables.specs.declared.End.the-variants.{None}
+use Rattle.query_tables.specs.Tables.{tableRefusal, TableInside}
 use Rattle.prebuilt_entries.specs.Nearest.{amount, boundaryIn}
 
 -- Expected forms by place, last paragraph: document 01's number for each case of `BoundaryAnswer`, and the values:
@@ -26,3 +32,8 @@ boundaryFound weights (some u) = (1, u, amount (weightIn weights u))
 abbrev pub BoundarySaid : (q : ℕ) (g : Graph) (w : ℕ → ℕ) (v : ℕ) → BoundaryAnswer → Type 0
 BoundarySaid q g w v r =
     Answered (nearestSaid r) q (boundaryFound (table g w v none .weights) (boundaryIn (g .boundary) (table g w v none .weights) (g .vertices) v)) (0, 0, 0)
+
+-- complete_graph.rs, `get_boundary_weight`: the answer; the columns of the table, which serve as scratch, and scratch hold what the table from v leaves.
+pub record GotBoundaryWeight (e : Engine) (v : ℕ) (answer : BoundaryAnswer) (least₀ least : List ℤ) (before₀ before : List ℕ) (scratch₀ scratch : ScratchColumns) : Type 0 where
+  pub answers : BoundarySaid (tableRefusal e (scratchFits e scratch₀) v None (length least₀) (length before₀)) (graphIn e) (weightsIn e) v answer
+  pub scratch-after : TableInside (nearestSaid answer .number) e v least₀ least before₀ before scratch₀ scratch

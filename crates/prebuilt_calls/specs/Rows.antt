@@ -13,11 +13,10 @@ use Rattle.columns_answers.specs.Done.{doneSaid}
 use Rattle.columns.specs.declared.Done.{Done}
 use Rattle.engine_columns.specs.Records.{Engine}
 use Rattle.engine_walks.specs.Graph.{Graph}
-use Rattle.engine_walks.specs.Answers.{table}
+use Rattle.engine_walks.specs.Settling.{settled}
+use Rattle.engine_walks.specs.Answers.{only, table}
 use Rattle.query_questions.specs.Queries.{graphIn, weightsIn, queryRefusal}
-use Rattle.query_questions.specs.Scratch.{ScratchColumns}
-use Rattle.query_tables.specs.declared.End.the-variants.{None}
-use Rattle.query_tables.specs.Tables.{TableScratch}
+use Rattle.query_questions.specs.Scratch.{ScratchColumns, scratchFits, ScratchAfter}
 use Rattle.prebuilt_entries.specs.Entries.{rowEntry}
 
 -- complete_graph.rs, `PrebuiltCompleteGraph`: the row of v; `nearest` holds for each vertex the least weight to a virtual vertex, -1 for none.
@@ -29,12 +28,10 @@ abbrev pub rowRefusal : Engine → (scratch : Bool) (v nearest out before : ℕ)
 rowRefusal e scratch v nearest out before =
     queryRefusal e (leb (e .counts .vertices) nearest && (leb (e .counts .vertices) out && (leb (e .counts .vertices) before && scratch))) (ltb v (e .counts .vertices)) 0
 
--- complete_graph.rs, `PrebuiltCompleteGraph`: the answer of `fill_row`, and the row's column.
-pub record RowStep (e : Engine) (scratch : Bool) (v : ℕ) (nearest : List ℤ) (before : ℕ) (r : Done) (out₀ out : List ℤ) : Type 0 where
-  pub answer : Answered (doneSaid r) (rowRefusal e scratch v (length nearest) (length out₀) before) tt tt
-  pub out-after : out ≡ after (rowRefusal e scratch v (length nearest) (length out₀) before) (row (graphIn e) (weightsIn e) nearest v) out₀
-
--- Engine, Table: what `fill_row` leaves in the column of previous vertices, which serves as scratch, and in scratch, by the table from v with no end. A refused call leaves them as they were.
-pub record RowScratch (e : Engine) (v : ℕ) (r : Done) (before₀ : List ℕ) (s₀ : ScratchColumns) (before : List ℕ) (s : ScratchColumns) : Type 0 where
-  pub before-after : before ≡ after (doneSaid r .number) (table (graphIn e) (weightsIn e) v none .previous) before₀
-  pub scratch-after : TableScratch e v None r s₀ s
+-- complete_graph.rs, `PrebuiltCompleteGraph`: the answer of `fill_row`, and the row's column. Engine, Table: the column of previous vertices, which serves as
+-- scratch, and scratch hold what the table from v with no end leaves. A refused call leaves them as they were.
+pub record FilledRow (e : Engine) (v : ℕ) (nearest : List ℤ) (answer : Done) (out₀ out : List ℤ) (before₀ before : List ℕ) (scratch₀ scratch : ScratchColumns) : Type 0 where
+  pub answers : Answered (doneSaid answer) (rowRefusal e (scratchFits e scratch₀) v (length nearest) (length out₀) (length before₀)) tt tt
+  pub out-after : out ≡ after (rowRefusal e (scratchFits e scratch₀) v (length nearest) (length out₀) (length before₀)) (row (graphIn e) (weightsIn e) nearest v) out₀
+  pub before-after : before ≡ after (doneSaid answer .number) (table (graphIn e) (weightsIn e) v none .previous) before₀
+  pub scratch-after : ScratchAfter (doneSaid answer .number) (graphIn e) (settled (graphIn e) (weightsIn e) (only v) none) scratch₀ scratch

@@ -7,20 +7,21 @@ use lib.IntN.{ℤ}
 use Rattle.engine_columns.specs.Records.{Engine}
 use Rattle.engine_columns.specs.Questions.{engineLong, engineSound}
 use Rattle.query_questions.specs.Queries.{scratchLong}
+use Rattle.query_questions.specs.declared.ScratchLengths.{ScratchLengths}
 use Rattle.query_questions.specs.Scratch.{ScratchColumns}
 use Rattle.query_tables.specs.Tables.{TableInside}
 
 -- Questions at the door, 6 and 7: an engine graph that they accept, with room in every column lent.
-pub record Fillable (e : Engine) (weights vertices least before numbers ends status weight previous node leaf : ℕ) : Type 0 where
+pub record Fillable (e : Engine) (weights vertices least before : ℕ) (scratch : ScratchLengths) : Type 0 where
   pub long : engineLong 0 e ≡ true
   pub is-sound : engineSound e ≡ true
   pub weights-fit : e .counts .vertices ≤ weights
   pub vertices-fit : e .counts .vertices ≤ vertices
   pub least-fits : e .counts .vertices ≤ least
   pub before-fits : e .counts .vertices ≤ before
-  pub scratch-fits : scratchLong (e .counts .vertices) (e .counts .edges) numbers ends status weight previous node leaf ≡ true
+  pub scratch-fits : scratchLong (e .counts .vertices) (e .counts .edges) scratch ≡ true
 
 -- Engine, Table: after the tables from the vertices below n, one after another: what the last one leaves, and where there is none the columns as they were.
-pub record TablesInside (e : Engine) (n : ℕ) (least₀ : List ℤ) (before₀ : List ℕ) (s₀ : ScratchColumns) (least : List ℤ) (before : List ℕ) (s : ScratchColumns) : Type 0 where
-  pub none : n ≡ 0 → (least ≡ least₀) × (before ≡ before₀) × (s ≡ s₀)
-  pub last : (v : ℕ) → n ≡ v + 1 → TableInside 0 e v least₀ before₀ s₀ least before s
+pub record TablesInside (e : Engine) (n : ℕ) (least₀ least : List ℤ) (before₀ before : List ℕ) (scratch₀ scratch : ScratchColumns) : Type 0 where
+  pub none : n ≡ 0 → (least ≡ least₀) × (before ≡ before₀) × (scratch ≡ scratch₀)
+  pub last : (v : ℕ) → n ≡ v + 1 → TableInside 0 e v least₀ least before₀ before scratch₀ scratch

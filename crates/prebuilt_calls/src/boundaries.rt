@@ -4,13 +4,13 @@ ghost use Prim.Native.Nat.{_-_, _<_};
 ghost use lib.ListN.{length, set};
 ghost use lib.Seq.{sets};
 ghost use Rattle.columns.specs.Lists.{each};
-ghost use Rattle.columns_answers.specs.Done.{doneSaid};
-ghost use Rattle.engine_columns.specs.Records.{engine};
+ghost use Rattle.engine_columns.specs.Records.{engineIn};
 ghost use Rattle.query_tables.specs.Tables.{TableInside};
-ghost use Rattle.query_questions.specs.Queries.{scratchLong, graphIn, weightsIn};
-ghost use Rattle.query_questions.specs.Scratch.{scratchOf};
-ghost use Rattle.prebuilt_calls.specs.Boundaries.{boundaryWeight, boundaryVertex, BoundariesStep};
+ghost use Rattle.query_questions.specs.Queries.{graphIn, weightsIn};
+ghost use Rattle.query_questions.specs.Scratch.{scratchIn, scratchLengths};
+ghost use Rattle.prebuilt_calls.specs.Boundaries.{boundaryWeight, boundaryVertex, FilledBoundaries};
 ghost use Rattle.prebuilt_calls.specs.Steps.{Fillable, TablesInside};
+ghost use Rattle.query_questions.specs.declared.ScratchLengths.{ScratchLengths};
 use columns::Done;
 use columns::VertexIndex;
 use columns::Weight;
@@ -19,6 +19,7 @@ use columns::questions::both;
 use engine_columns::EngineCounts;
 use prebuilt_entries::boundaries::store_boundary;
 use query_questions::query_refusal;
+use query_questions::ScratchLengths;
 use query_questions::scratch_long;
 use query_tables::all_edges;
 
@@ -44,14 +45,14 @@ fn fill_one(
     node: &mut [u64],
     leaf: &mut [u64],
 )
-    requires { ⌜ Fillable (engine c (now «ends_a») (now «ends_b») (now weights) (now boundary) (now «log_edges») (now «log_weights»)) (length (now «out_weight»)) (length (now «out_vertex»)) (length (now least)) (length (now before)) (length (now numbers)) (length (now «list_ends»)) (length (now status)) (length (now weight)) (length (now previous)) (length (now node)) (length (now leaf)) ⌝ }
+    requires { ⌜ Fillable (engineIn c «ends_a» «ends_b» weights boundary «log_edges» «log_weights») (length (now «out_weight»)) (length (now «out_vertex»)) (length (now least)) (length (now before)) (scratchLengths (scratchIn numbers «list_ends» status weight previous node leaf)) ⌝ }
     requires { ⌜ v < c .vertices ⌝ }
-    ensures { λ _. ⌜ now («out_weight» .exit) ≡ set (now («out_weight» .entry)) v (boundaryWeight (graphIn (engine c (now («ends_a» .entry)) (now («ends_b» .entry)) (now (weights .entry)) (now (boundary .entry)) (now («log_edges» .entry)) (now («log_weights» .entry)))) (weightsIn (engine c (now («ends_a» .entry)) (now («ends_b» .entry)) (now (weights .entry)) (now (boundary .entry)) (now («log_edges» .entry)) (now («log_weights» .entry)))) v) ⌝ }
-    ensures { λ _. ⌜ now («out_vertex» .exit) ≡ set (now («out_vertex» .entry)) v (boundaryVertex (graphIn (engine c (now («ends_a» .entry)) (now («ends_b» .entry)) (now (weights .entry)) (now (boundary .entry)) (now («log_edges» .entry)) (now («log_weights» .entry)))) (weightsIn (engine c (now («ends_a» .entry)) (now («ends_b» .entry)) (now (weights .entry)) (now (boundary .entry)) (now («log_edges» .entry)) (now («log_weights» .entry)))) v) ⌝ }
-    ensures { λ _. ⌜ TableInside 0 (engine c (now («ends_a» .entry)) (now («ends_b» .entry)) (now (weights .entry)) (now (boundary .entry)) (now («log_edges» .entry)) (now («log_weights» .entry))) v (now (least .entry)) (now (before .entry))
-        (scratchOf (now (numbers .entry)) (now («list_ends» .entry)) (now (status .entry)) (now (weight .entry)) (now (previous .entry)) (now (node .entry)) (now (leaf .entry)))
-        (now (least .exit)) (now (before .exit))
-        (scratchOf (now (numbers .exit)) (now («list_ends» .exit)) (now (status .exit)) (now (weight .exit)) (now (previous .exit)) (now (node .exit)) (now (leaf .exit))) ⌝ }
+    ensures { λ _. ⌜ now («out_weight» .exit) ≡ set (now («out_weight» .entry)) v (boundaryWeight (graphIn (engineIn c («ends_a» .entry) («ends_b» .entry) (weights .entry) (boundary .entry) («log_edges» .entry) («log_weights» .entry))) (weightsIn (engineIn c («ends_a» .entry) («ends_b» .entry) (weights .entry) (boundary .entry) («log_edges» .entry) («log_weights» .entry))) v) ⌝ }
+    ensures { λ _. ⌜ now («out_vertex» .exit) ≡ set (now («out_vertex» .entry)) v (boundaryVertex (graphIn (engineIn c («ends_a» .entry) («ends_b» .entry) (weights .entry) (boundary .entry) («log_edges» .entry) («log_weights» .entry))) (weightsIn (engineIn c («ends_a» .entry) («ends_b» .entry) (weights .entry) (boundary .entry) («log_edges» .entry) («log_weights» .entry))) v) ⌝ }
+    ensures { λ _. ⌜ TableInside 0 (engineIn c («ends_a» .entry) («ends_b» .entry) (weights .entry) (boundary .entry) («log_edges» .entry) («log_weights» .entry)) v
+        (now (least .entry)) (now (least .exit)) (now (before .entry)) (now (before .exit))
+        (scratchIn (numbers .entry) («list_ends» .entry) (status .entry) (weight .entry) (previous .entry) (node .entry) (leaf .entry))
+        (scratchIn (numbers .exit) («list_ends» .exit) (status .exit) (weight .exit) (previous .exit) (node .exit) (leaf .exit)) ⌝ }
 {
     all_edges(
         c,
@@ -103,13 +104,13 @@ fn fill_all(
     node: &mut [u64],
     leaf: &mut [u64],
 )
-    requires { ⌜ Fillable (engine c (now «ends_a») (now «ends_b») (now weights) (now boundary) (now «log_edges») (now «log_weights»)) (length (now «out_weight»)) (length (now «out_vertex»)) (length (now least)) (length (now before)) (length (now numbers)) (length (now «list_ends»)) (length (now status)) (length (now weight)) (length (now previous)) (length (now node)) (length (now leaf)) ⌝ }
-    ensures { λ _. ⌜ now («out_weight» .exit) ≡ sets (now («out_weight» .entry)) 0 (each (c .vertices) (boundaryWeight (graphIn (engine c (now («ends_a» .entry)) (now («ends_b» .entry)) (now (weights .entry)) (now (boundary .entry)) (now («log_edges» .entry)) (now («log_weights» .entry)))) (weightsIn (engine c (now («ends_a» .entry)) (now («ends_b» .entry)) (now (weights .entry)) (now (boundary .entry)) (now («log_edges» .entry)) (now («log_weights» .entry)))))) ⌝ }
-    ensures { λ _. ⌜ now («out_vertex» .exit) ≡ sets (now («out_vertex» .entry)) 0 (each (c .vertices) (boundaryVertex (graphIn (engine c (now («ends_a» .entry)) (now («ends_b» .entry)) (now (weights .entry)) (now (boundary .entry)) (now («log_edges» .entry)) (now («log_weights» .entry)))) (weightsIn (engine c (now («ends_a» .entry)) (now («ends_b» .entry)) (now (weights .entry)) (now (boundary .entry)) (now («log_edges» .entry)) (now («log_weights» .entry)))))) ⌝ }
-    ensures { λ _. ⌜ TablesInside (engine c (now («ends_a» .entry)) (now («ends_b» .entry)) (now (weights .entry)) (now (boundary .entry)) (now («log_edges» .entry)) (now («log_weights» .entry))) (c .vertices) (now (least .entry)) (now (before .entry))
-        (scratchOf (now (numbers .entry)) (now («list_ends» .entry)) (now (status .entry)) (now (weight .entry)) (now (previous .entry)) (now (node .entry)) (now (leaf .entry)))
-        (now (least .exit)) (now (before .exit))
-        (scratchOf (now (numbers .exit)) (now («list_ends» .exit)) (now (status .exit)) (now (weight .exit)) (now (previous .exit)) (now (node .exit)) (now (leaf .exit))) ⌝ }
+    requires { ⌜ Fillable (engineIn c «ends_a» «ends_b» weights boundary «log_edges» «log_weights») (length (now «out_weight»)) (length (now «out_vertex»)) (length (now least)) (length (now before)) (scratchLengths (scratchIn numbers «list_ends» status weight previous node leaf)) ⌝ }
+    ensures { λ _. ⌜ now («out_weight» .exit) ≡ sets (now («out_weight» .entry)) 0 (each (c .vertices) (boundaryWeight (graphIn (engineIn c («ends_a» .entry) («ends_b» .entry) (weights .entry) (boundary .entry) («log_edges» .entry) («log_weights» .entry))) (weightsIn (engineIn c («ends_a» .entry) («ends_b» .entry) (weights .entry) (boundary .entry) («log_edges» .entry) («log_weights» .entry))))) ⌝ }
+    ensures { λ _. ⌜ now («out_vertex» .exit) ≡ sets (now («out_vertex» .entry)) 0 (each (c .vertices) (boundaryVertex (graphIn (engineIn c («ends_a» .entry) («ends_b» .entry) (weights .entry) (boundary .entry) («log_edges» .entry) («log_weights» .entry))) (weightsIn (engineIn c («ends_a» .entry) («ends_b» .entry) (weights .entry) (boundary .entry) («log_edges» .entry) («log_weights» .entry))))) ⌝ }
+    ensures { λ _. ⌜ TablesInside (engineIn c («ends_a» .entry) («ends_b» .entry) (weights .entry) (boundary .entry) («log_edges» .entry) («log_weights» .entry)) (c .vertices)
+        (now (least .entry)) (now (least .exit)) (now (before .entry)) (now (before .exit))
+        (scratchIn (numbers .entry) («list_ends» .entry) (status .entry) (weight .entry) (previous .entry) (node .entry) (leaf .entry))
+        (scratchIn (numbers .exit) («list_ends» .exit) (status .exit) (weight .exit) (previous .exit) (node .exit) (leaf .exit)) ⌝ }
 {
     let mut v: u32 = 0;
     while v < c.vertices {
@@ -160,25 +161,24 @@ pub fn fill_boundaries(
     node: &mut [u64],
     leaf: &mut [u64],
 ) -> Done
-    ensures { λ r. ⌜ BoundariesStep (engine c (now («ends_a» .entry)) (now («ends_b» .entry)) (now (weights .entry)) (now (boundary .entry)) (now («log_edges» .entry)) (now («log_weights» .entry)))
-        (scratchLong (c .vertices) (c .edges) (length (now (numbers .entry))) (length (now («list_ends» .entry))) (length (now (status .entry))) (length (now (weight .entry))) (length (now (previous .entry))) (length (now (node .entry))) (length (now (leaf .entry))))
-        (length (now (least .entry))) (length (now (before .entry))) r (now («out_weight» .entry)) (now («out_vertex» .entry)) (now («out_weight» .exit)) (now («out_vertex» .exit)) ⌝ }
-    ensures { λ r. ⌜ TableInside (doneSaid r .number) (engine c (now («ends_a» .entry)) (now («ends_b» .entry)) (now (weights .entry)) (now (boundary .entry)) (now («log_edges» .entry)) (now («log_weights» .entry))) (c .vertices - 1) (now (least .entry)) (now (before .entry))
-        (scratchOf (now (numbers .entry)) (now («list_ends» .entry)) (now (status .entry)) (now (weight .entry)) (now (previous .entry)) (now (node .entry)) (now (leaf .entry)))
-        (now (least .exit)) (now (before .exit))
-        (scratchOf (now (numbers .exit)) (now («list_ends» .exit)) (now (status .exit)) (now (weight .exit)) (now (previous .exit)) (now (node .exit)) (now (leaf .exit))) ⌝ }
+    ensures { λ r. ⌜ FilledBoundaries (engineIn c («ends_a» .entry) («ends_b» .entry) (weights .entry) (boundary .entry) («log_edges» .entry) («log_weights» .entry)) r
+        (now («out_weight» .entry)) (now («out_weight» .exit)) (now («out_vertex» .entry)) (now («out_vertex» .exit)) (now (least .entry)) (now (least .exit)) (now (before .entry)) (now (before .exit))
+        (scratchIn (numbers .entry) («list_ends» .entry) (status .entry) (weight .entry) (previous .entry) (node .entry) (leaf .entry))
+        (scratchIn (numbers .exit) («list_ends» .exit) (status .exit) (weight .exit) (previous .exit) (node .exit) (leaf .exit)) ⌝ }
 {
     let v = c.vertices as usize;
     let scratch = scratch_long(
         c.vertices,
         c.edges,
-        numbers.len(),
-        list_ends.len(),
-        status.len(),
-        weight.len(),
-        previous.len(),
-        node.len(),
-        leaf.len(),
+        ScratchLengths {
+            numbers: numbers.len(),
+            ends: list_ends.len(),
+            status: status.len(),
+            weight: weight.len(),
+            previous: previous.len(),
+            node: node.len(),
+            leaf: leaf.len(),
+        },
     );
     let search = both(
         at_most(v, least.len()),

@@ -5,11 +5,10 @@ pub mod nearest;
 pub use boundaries::fill_boundaries;
 pub use nearest::BoundaryAnswer;
 pub use nearest::get_boundary_weight;
-ghost use lib.ListN.{length};
-ghost use Rattle.engine_columns.specs.Records.{engine};
-ghost use Rattle.query_questions.specs.Queries.{scratchLong};
-ghost use Rattle.query_questions.specs.Scratch.{scratchOf};
-ghost use Rattle.prebuilt_calls.specs.Rows.{RowStep, RowScratch};
+ghost use Rattle.engine_columns.specs.Records.{engineIn};
+ghost use Rattle.query_questions.specs.Scratch.{scratchIn};
+ghost use Rattle.prebuilt_calls.specs.Rows.{FilledRow};
+ghost use Rattle.query_questions.specs.declared.ScratchLengths.{ScratchLengths};
 use columns::Done;
 use columns::VertexIndex;
 use columns::Weight;
@@ -18,6 +17,7 @@ use columns::questions::both;
 use engine_columns::EngineCounts;
 use prebuilt_entries::rows::write_row;
 use query_questions::query_refusal;
+use query_questions::ScratchLengths;
 use query_questions::scratch_long;
 use query_tables::all_edges;
 
@@ -43,25 +43,24 @@ pub fn fill_row(
     node: &mut [u64],
     leaf: &mut [u64],
 ) -> Done
-    ensures { λ r. ⌜ RowStep (engine c (now («ends_a» .entry)) (now («ends_b» .entry)) (now (weights .entry)) (now (boundary .entry)) (now («log_edges» .entry)) (now («log_weights» .entry)))
-        (scratchLong (c .vertices) (c .edges) (length (now (numbers .entry))) (length (now («list_ends» .entry))) (length (now (status .entry))) (length (now (weight .entry))) (length (now (previous .entry))) (length (now (node .entry))) (length (now (leaf .entry))))
-        (vertex .0) (now (nearest .entry)) (length (now (before .entry))) r (now (out .entry)) (now (out .exit)) ⌝ }
-    ensures { λ r. ⌜ RowScratch (engine c (now («ends_a» .entry)) (now («ends_b» .entry)) (now (weights .entry)) (now (boundary .entry)) (now («log_edges» .entry)) (now («log_weights» .entry))) (vertex .0) r (now (before .entry))
-        (scratchOf (now (numbers .entry)) (now («list_ends» .entry)) (now (status .entry)) (now (weight .entry)) (now (previous .entry)) (now (node .entry)) (now (leaf .entry)))
-        (now (before .exit))
-        (scratchOf (now (numbers .exit)) (now («list_ends» .exit)) (now (status .exit)) (now (weight .exit)) (now (previous .exit)) (now (node .exit)) (now (leaf .exit))) ⌝ }
+    ensures { λ r. ⌜ FilledRow (engineIn c («ends_a» .entry) («ends_b» .entry) (weights .entry) (boundary .entry) («log_edges» .entry) («log_weights» .entry)) (vertex .0) (now (nearest .entry)) r
+        (now (out .entry)) (now (out .exit)) (now (before .entry)) (now (before .exit))
+        (scratchIn (numbers .entry) («list_ends» .entry) (status .entry) (weight .entry) (previous .entry) (node .entry) (leaf .entry))
+        (scratchIn (numbers .exit) («list_ends» .exit) (status .exit) (weight .exit) (previous .exit) (node .exit) (leaf .exit)) ⌝ }
 {
     let v = c.vertices as usize;
     let scratch = scratch_long(
         c.vertices,
         c.edges,
-        numbers.len(),
-        list_ends.len(),
-        status.len(),
-        weight.len(),
-        previous.len(),
-        node.len(),
-        leaf.len(),
+        ScratchLengths {
+            numbers: numbers.len(),
+            ends: list_ends.len(),
+            status: status.len(),
+            weight: weight.len(),
+            previous: previous.len(),
+            node: node.len(),
+            leaf: leaf.len(),
+        },
     );
     let fits = both(
         at_most(v, nearest.len()),

@@ -4,13 +4,10 @@ ghost use Prim.Native.Nat.{_<_, _≤_};
 ghost use lib.ListN.{length};
 ghost use Rattle.columns_answers.specs.Said.{accepts};
 ghost use Rattle.columns_answers.specs.Done.{doneSaid};
-ghost use Rattle.engine_columns.specs.Records.{engine};
-ghost use Rattle.query_tables.specs.declared.End.the-variants.{None};
-ghost use Rattle.query_questions.specs.Queries.{scratchLong, graphIn, weightsIn};
-ghost use Rattle.query_tables.specs.Tables.{tableRefusal, TableInside};
-ghost use Rattle.query_questions.specs.Scratch.{scratchOf};
+ghost use Rattle.engine_columns.specs.Records.{engineIn};
+ghost use Rattle.query_questions.specs.Scratch.{scratchIn};
 ghost use Rattle.prebuilt_entries.specs.Nearest.{boundaryIn};
-ghost use Rattle.prebuilt_calls.specs.Nearest.{nearestSaid, boundaryFound, BoundarySaid};
+ghost use Rattle.prebuilt_calls.specs.Nearest.{nearestSaid, boundaryFound, GotBoundaryWeight};
 use columns::Done;
 use columns::VertexIndex;
 use columns::Weight;
@@ -72,16 +69,10 @@ pub fn get_boundary_weight(
     node: &mut [u64],
     leaf: &mut [u64],
 ) -> BoundaryAnswer
-    ensures { λ r. ⌜ BoundarySaid (tableRefusal (engine c (now («ends_a» .entry)) (now («ends_b» .entry)) (now (weights .entry)) (now (boundary .entry)) (now («log_edges» .entry)) (now («log_weights» .entry)))
-        (scratchLong (c .vertices) (c .edges) (length (now (numbers .entry))) (length (now («list_ends» .entry))) (length (now (status .entry))) (length (now (weight .entry))) (length (now (previous .entry))) (length (now (node .entry))) (length (now (leaf .entry))))
-        (vertex .0) None (length (now (least .entry))) (length (now (before .entry))))
-        (graphIn (engine c (now («ends_a» .entry)) (now («ends_b» .entry)) (now (weights .entry)) (now (boundary .entry)) (now («log_edges» .entry)) (now («log_weights» .entry))))
-        (weightsIn (engine c (now («ends_a» .entry)) (now («ends_b» .entry)) (now (weights .entry)) (now (boundary .entry)) (now («log_edges» .entry)) (now («log_weights» .entry))))
-        (vertex .0) r ⌝ }
-    ensures { λ r. ⌜ TableInside (nearestSaid r .number) (engine c (now («ends_a» .entry)) (now («ends_b» .entry)) (now (weights .entry)) (now (boundary .entry)) (now («log_edges» .entry)) (now («log_weights» .entry))) (vertex .0) (now (least .entry)) (now (before .entry))
-        (scratchOf (now (numbers .entry)) (now («list_ends» .entry)) (now (status .entry)) (now (weight .entry)) (now (previous .entry)) (now (node .entry)) (now (leaf .entry)))
-        (now (least .exit)) (now (before .exit))
-        (scratchOf (now (numbers .exit)) (now («list_ends» .exit)) (now (status .exit)) (now (weight .exit)) (now (previous .exit)) (now (node .exit)) (now (leaf .exit))) ⌝ }
+    ensures { λ r. ⌜ GotBoundaryWeight (engineIn c («ends_a» .entry) («ends_b» .entry) (weights .entry) (boundary .entry) («log_edges» .entry) («log_weights» .entry)) (vertex .0) r
+        (now (least .entry)) (now (least .exit)) (now (before .entry)) (now (before .exit))
+        (scratchIn (numbers .entry) («list_ends» .entry) (status .entry) (weight .entry) (previous .entry) (node .entry) (leaf .entry))
+        (scratchIn (numbers .exit) («list_ends» .exit) (status .exit) (weight .exit) (previous .exit) (node .exit) (leaf .exit)) ⌝ }
 {
     let done = all_edges(
         c,

@@ -16,7 +16,7 @@ use Rattle.engine_walks.specs.Answers.{crossing, fromLeft, leastFromLeft}
 use Rattle.query_crossing_answer.specs.declared.CrossingReply.{CrossingReply}
 use Rattle.query_crossing_answer.specs.declared.CrossingReply.the-variants.{Crossed, Refused}
 use Rattle.query_questions.specs.Queries.{graphIn, weightsIn}
-use Rattle.query_questions.specs.Scratch.{ScratchColumns, ScratchAfter}
+use Rattle.query_questions.specs.Scratch.{ScratchColumns, scratchFits, ScratchAfter}
 
 -- Expected forms by place, last paragraph: document 01's number and value for each case of `CrossingReply`: the crossing weight is 0 at a refusal.
 abbrev pub crossingSaid : CrossingReply → Said ℕ
@@ -49,11 +49,9 @@ crossingAsked e scratch weights next = ask (engineLong 0 e && (leb (e .counts .v
 abbrev pub crossingRefusal : Engine → (scratch : Bool) (weights : ℕ) → ℕ
 crossingRefusal e scratch weights = crossingAsked e scratch weights (ask (isJoined (crossing (graphIn e) (weightsIn e))) 18 0)
 
--- Engine, Crossing, sentences 1 and 2: the answer, and the weight column.
-pub record CrossingStep (e : Engine) (scratch : Bool) (r : CrossingReply) (weights₀ weights : List ℤ) : Type 0 where
-  pub answer : Answered (crossingSaid r) (crossingRefusal e scratch (length weights₀)) (weightFound (crossing (graphIn e) (weightsIn e))) 0
-  pub weights-after : weights ≡ after (crossingRefusal e scratch (length weights₀)) (leastFromLeft (graphIn e) (weightsIn e)) weights₀
-
--- Engine, Crossing, last sentence: scratch holds after success and after 18 what the search from the left leaves; a call that 6 or 7 refuses leaves it as it was.
-abbrev pub CrossingScratch : Engine → CrossingReply → ScratchColumns → ScratchColumns → Type 0
-CrossingScratch e r s₀ s = ScratchAfter (replyNumber r) (graphIn e) (fromLeft (graphIn e) (weightsIn e)) s₀ s
+-- Engine, Crossing: the answer of `crossing`, the weight column (sentence 2), and scratch (last sentence): after success and after 18 it holds what the search
+-- from the left leaves; a call that 6 or 7 refuses leaves it as it was.
+pub record FoundCrossing (e : Engine) (answer : CrossingReply) (weights₀ weights : List ℤ) (scratch₀ scratch : ScratchColumns) : Type 0 where
+  pub answers : Answered (crossingSaid answer) (crossingRefusal e (scratchFits e scratch₀) (length weights₀)) (weightFound (crossing (graphIn e) (weightsIn e))) 0
+  pub weights-after : weights ≡ after (crossingRefusal e (scratchFits e scratch₀) (length weights₀)) (leastFromLeft (graphIn e) (weightsIn e)) weights₀
+  pub scratch-after : ScratchAfter (replyNumber answer) (graphIn e) (fromLeft (graphIn e) (weightsIn e)) scratch₀ scratch

@@ -5,7 +5,7 @@ ghost use mathlib.Core.List.{List};
 ghost use Prim.Native.Nat.{ℕ, _<_};
 ghost use lib.ListN.{length, getD};
 ghost use lib.Dec.{eqb, ltb};
-ghost use Rattle.engine_columns.specs.Records.{engine};
+ghost use Rattle.engine_columns.specs.Records.{engineIn};
 ghost use Rattle.engine_walks.specs.Settling.{firstLeast, weightAt};
 ghost use Rattle.engine_walks.specs.Answers.{taken, weightOf};
 ghost use Rattle.query_relaxing.specs.Ready.{stateOf, sumLimit};
@@ -66,7 +66,7 @@ pub fn crossing_asked(
     out: usize,
     scratch: bool,
 ) -> u32
-    ensures { λ r. ⌜ r ≡ crossingAsked (engine c (now («ends_a» .entry)) (now («ends_b» .entry)) (now (weights .entry)) (now (boundary .entry)) (now («log_edges» .entry)) (now («log_weights» .entry))) scratch out 0 ⌝ }
+    ensures { λ r. ⌜ r ≡ crossingAsked (engineIn c («ends_a» .entry) («ends_b» .entry) (weights .entry) (boundary .entry) («log_edges» .entry) («log_weights» .entry)) scratch out 0 ⌝ }
 {
     let fits = both(at_most(c.vertices as usize, out), scratch);
     query_refusal(

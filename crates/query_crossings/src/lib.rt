@@ -7,12 +7,12 @@ ghost use lib.ListN.{length, getD};
 ghost use lib.Seq.{sets};
 ghost use lib.Dec.{eqb};
 ghost use Rattle.columns.specs.Lists.{each};
-ghost use Rattle.engine_columns.specs.Records.{engine};
+ghost use Rattle.engine_columns.specs.Records.{engineIn};
 ghost use Rattle.engine_walks.specs.Answers.{tableWeight, crossing};
 ghost use Rattle.query_relaxing.specs.Ready.{stateOf, sumLimit};
-ghost use Rattle.query_questions.specs.Queries.{scratchLong};
-ghost use Rattle.query_questions.specs.Scratch.{scratchOf};
-ghost use Rattle.query_crossing_answer.specs.Crossing.{CrossingStep, CrossingScratch};
+ghost use Rattle.query_questions.specs.Scratch.{scratchIn};
+ghost use Rattle.query_crossing_answer.specs.Crossing.{FoundCrossing};
+ghost use Rattle.query_questions.specs.declared.ScratchLengths.{ScratchLengths};
 use columns::Weight;
 use engine_columns::EngineCounts;
 use query_crossing_answer::CrossingReply;
@@ -20,6 +20,7 @@ use query_crossing_answer::NO_WEIGHT;
 use query_crossing_answer::crossing_asked;
 use query_crossing_answer::nearest_right;
 use query_crossing_answer::reply;
+use query_questions::ScratchLengths;
 use query_questions::scratch_long;
 use query_search::Origin;
 use query_search::search;
@@ -55,24 +56,23 @@ pub fn crossing(
     node: &mut [u64],
     leaf: &mut [u64],
 ) -> CrossingReply
-    ensures { λ r. ⌜ CrossingStep (engine c (now («ends_a» .entry)) (now («ends_b» .entry)) (now (weights .entry)) (now (boundary .entry)) (now («log_edges» .entry)) (now («log_weights» .entry)))
-        (scratchLong (c .vertices) (c .edges) (length (now (numbers .entry))) (length (now («list_ends» .entry))) (length (now (status .entry))) (length (now (weight .entry))) (length (now (previous .entry))) (length (now (node .entry))) (length (now (leaf .entry))))
-        r (now («out_weight» .entry)) (now («out_weight» .exit)) ⌝ }
-    ensures { λ r. ⌜ CrossingScratch (engine c (now («ends_a» .entry)) (now («ends_b» .entry)) (now (weights .entry)) (now (boundary .entry)) (now («log_edges» .entry)) (now («log_weights» .entry))) r
-        (scratchOf (now (numbers .entry)) (now («list_ends» .entry)) (now (status .entry)) (now (weight .entry)) (now (previous .entry)) (now (node .entry)) (now (leaf .entry)))
-        (scratchOf (now (numbers .exit)) (now («list_ends» .exit)) (now (status .exit)) (now (weight .exit)) (now (previous .exit)) (now (node .exit)) (now (leaf .exit))) ⌝ }
+    ensures { λ r. ⌜ FoundCrossing (engineIn c («ends_a» .entry) («ends_b» .entry) (weights .entry) (boundary .entry) («log_edges» .entry) («log_weights» .entry)) r (now («out_weight» .entry)) (now («out_weight» .exit))
+        (scratchIn (numbers .entry) («list_ends» .entry) (status .entry) (weight .entry) (previous .entry) (node .entry) (leaf .entry))
+        (scratchIn (numbers .exit) («list_ends» .exit) (status .exit) (weight .exit) (previous .exit) (node .exit) (leaf .exit)) ⌝ }
 {
     let v = c.vertices as usize;
     let scratch = scratch_long(
         c.vertices,
         c.edges,
-        numbers.len(),
-        list_ends.len(),
-        status.len(),
-        weight.len(),
-        previous.len(),
-        node.len(),
-        leaf.len(),
+        ScratchLengths {
+            numbers: numbers.len(),
+            ends: list_ends.len(),
+            status: status.len(),
+            weight: weight.len(),
+            previous: previous.len(),
+            node: node.len(),
+            leaf: leaf.len(),
+        },
     );
     let no = crossing_asked(
         c,

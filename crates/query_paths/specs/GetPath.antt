@@ -15,7 +15,7 @@ use Rattle.engine_walks.specs.Answers.{only, FoundPath, path}
 use Rattle.query_paths.specs.declared.PathAnswer.{PathAnswer}
 use Rattle.query_paths.specs.declared.PathAnswer.the-variants.{Found, Refused}
 use Rattle.query_questions.specs.Queries.{graphIn, weightsIn, queryRefusal}
-use Rattle.query_questions.specs.Scratch.{ScratchColumns, ScratchAfter}
+use Rattle.query_questions.specs.Scratch.{ScratchColumns, scratchFits, ScratchAfter}
 
 -- Expected forms by place, last paragraph: document 01's number and values for each case of `PathAnswer`: the path's length and total, both 0 at a refusal.
 abbrev pub foundSaid : PathAnswer → Said (ℕ × ℕ)
@@ -65,13 +65,11 @@ abbrev pub stepsAfter : Option FoundPath → List ℕ → List ℕ
 stepsAfter none column = column
 stepsAfter (some p) column = over (p .steps) column
 
--- Engine, Path: the answer of `get_path`, and both columns.
-pub record PathStep (e : Engine) (scratch : Bool) (a b : ℕ) (r : PathAnswer) (vertices₀ steps₀ vertices steps : List ℕ) : Type 0 where
-  pub answer : PathSaid (pathAsked e scratch a b (length vertices₀) (length steps₀)) (path (graphIn e) (weightsIn e) a b) r
-  pub vertices-after : vertices ≡ cond (eqb (pathAsked e scratch a b (length vertices₀) (length steps₀)) 0) (verticesAfter (path (graphIn e) (weightsIn e) a b) vertices₀) vertices₀
-  pub steps-after : steps ≡ cond (eqb (pathAsked e scratch a b (length vertices₀) (length steps₀)) 0) (stepsAfter (path (graphIn e) (weightsIn e) a b) steps₀) steps₀
-
--- Engine, Crossing, last sentence: scratch holds after success and after 17 what the search from a with the end b leaves; a call that an earlier question
--- refuses leaves it as it was.
-abbrev pub PathScratch : Engine → (a b : ℕ) → PathAnswer → ScratchColumns → ScratchColumns → Type 0
-PathScratch e a b r s₀ s = ScratchAfter (foundSaid r .number) (graphIn e) (settled (graphIn e) (weightsIn e) (only a) (some b)) s₀ s
+-- Engine, Path: the answer of `get_path`, both columns, and scratch (Crossing, last sentence): after success and after 17 it holds what the search from a with the
+-- end b leaves; a call that an earlier question refuses leaves it as it was.
+pub record GotPath (e : Engine) (a b : ℕ) (answer : PathAnswer) (vertices₀ vertices steps₀ steps : List ℕ) (scratch₀ scratch : ScratchColumns) : Type 0 where
+  pub answers : PathSaid (pathAsked e (scratchFits e scratch₀) a b (length vertices₀) (length steps₀)) (path (graphIn e) (weightsIn e) a b) answer
+  pub vertices-after : vertices
+      ≡ cond (eqb (pathAsked e (scratchFits e scratch₀) a b (length vertices₀) (length steps₀)) 0) (verticesAfter (path (graphIn e) (weightsIn e) a b) vertices₀) vertices₀
+  pub steps-after : steps ≡ cond (eqb (pathAsked e (scratchFits e scratch₀) a b (length vertices₀) (length steps₀)) 0) (stepsAfter (path (graphIn e) (weightsIn e) a b) steps₀) steps₀
+  pub scratch-after : ScratchAfter (foundSaid answer .number) (graphIn e) (settled (graphIn e) (weightsIn e) (only a) (some b)) scratch₀ scratch

@@ -2,12 +2,12 @@
 ghost use mathlib.Core.Path.{_≡_};
 ghost use Prim.Native.Nat.{_<_, _≤_};
 ghost use lib.ListN.{length};
-ghost use Rattle.engine_columns.specs.Records.{engine};
+ghost use Rattle.engine_columns.specs.Records.{engineIn};
 ghost use Rattle.query_relaxing.specs.Ready.{stateOf};
-ghost use Rattle.query_questions.specs.Queries.{scratchLong};
-ghost use Rattle.query_questions.specs.Scratch.{scratchOf};
-ghost use Rattle.query_paths.specs.GetPath.{PathSaid, verticesAfter, stepsAfter, PathStep, PathScratch};
+ghost use Rattle.query_questions.specs.Scratch.{scratchIn};
+ghost use Rattle.query_paths.specs.GetPath.{PathSaid, verticesAfter, stepsAfter, GotPath};
 ghost use Rattle.query_read_back.specs.Path.{pathOf};
+ghost use Rattle.query_questions.specs.declared.ScratchLengths.{ScratchLengths};
 use columns::VertexIndex;
 use columns::Weight;
 use columns::questions::asked;
@@ -15,6 +15,7 @@ use columns::questions::at_most;
 use columns::questions::both;
 use engine_columns::EngineCounts;
 use query_questions::query_refusal;
+use query_questions::ScratchLengths;
 use query_questions::scratch_long;
 use query_read_back::is_taken;
 use query_read_back::load;
@@ -83,24 +84,24 @@ pub fn get_path(
     node: &mut [u64],
     leaf: &mut [u64],
 ) -> PathAnswer
-    ensures { λ r. ⌜ PathStep (engine c (now («ends_a» .entry)) (now («ends_b» .entry)) (now (weights .entry)) (now (boundary .entry)) (now («log_edges» .entry)) (now («log_weights» .entry)))
-        (scratchLong (c .vertices) (c .edges) (length (now (numbers .entry))) (length (now («list_ends» .entry))) (length (now (status .entry))) (length (now (weight .entry))) (length (now (previous .entry))) (length (now (node .entry))) (length (now (leaf .entry))))
-        (a .0) (b .0) r (now («out_vertices» .entry)) (now («out_steps» .entry)) (now («out_vertices» .exit)) (now («out_steps» .exit)) ⌝ }
-    ensures { λ r. ⌜ PathScratch (engine c (now («ends_a» .entry)) (now («ends_b» .entry)) (now (weights .entry)) (now (boundary .entry)) (now («log_edges» .entry)) (now («log_weights» .entry))) (a .0) (b .0) r
-        (scratchOf (now (numbers .entry)) (now («list_ends» .entry)) (now (status .entry)) (now (weight .entry)) (now (previous .entry)) (now (node .entry)) (now (leaf .entry)))
-        (scratchOf (now (numbers .exit)) (now («list_ends» .exit)) (now (status .exit)) (now (weight .exit)) (now (previous .exit)) (now (node .exit)) (now (leaf .exit))) ⌝ }
+    ensures { λ r. ⌜ GotPath (engineIn c («ends_a» .entry) («ends_b» .entry) (weights .entry) (boundary .entry) («log_edges» .entry) («log_weights» .entry)) (a .0) (b .0) r
+        (now («out_vertices» .entry)) (now («out_vertices» .exit)) (now («out_steps» .entry)) (now («out_steps» .exit))
+        (scratchIn (numbers .entry) («list_ends» .entry) (status .entry) (weight .entry) (previous .entry) (node .entry) (leaf .entry))
+        (scratchIn (numbers .exit) («list_ends» .exit) (status .exit) (weight .exit) (previous .exit) (node .exit) (leaf .exit)) ⌝ }
 {
     let v = c.vertices as usize;
     let scratch = scratch_long(
         c.vertices,
         c.edges,
-        numbers.len(),
-        list_ends.len(),
-        status.len(),
-        weight.len(),
-        previous.len(),
-        node.len(),
-        leaf.len(),
+        ScratchLengths {
+            numbers: numbers.len(),
+            ends: list_ends.len(),
+            status: status.len(),
+            weight: weight.len(),
+            previous: previous.len(),
+            node: node.len(),
+            leaf: leaf.len(),
+        },
     );
     let fits = both(
         at_most(v, out_vertices.len()),

@@ -3,6 +3,7 @@ use Prim.Native.Nat.{ℕ, _+_}
 use mathlib.Core.Path.{_≡_}
 use mathlib.Core.Bool.{Bool, true, false, _||_}
 use mathlib.Core.List.{List}
+use denote.Ref.{RefT, now}
 use lib.ListN.{length, drop}
 use lib.Dec.{eqb}
 use Rattle.columns.specs.Lists.{each, over}
@@ -11,6 +12,9 @@ use Rattle.columns_neighbors.specs.Lists.{lists}
 use Rattle.engine_walks.specs.Graph.{Graph, edges}
 use Rattle.engine_walks.specs.Settling.{State, statusAt, weightAt}
 use Rattle.query_relaxing.specs.Ready.{keyOf}
+use Rattle.engine_columns.specs.Records.{Engine}
+use Rattle.query_questions.specs.declared.ScratchLengths.{ScratchLengths}
+use Rattle.query_questions.specs.Queries.{scratchLong}
 
 -- Engine, Crossing, last sentence: the scratch columns of a query.
 pub record ScratchColumns : Type 0 where
@@ -26,6 +30,26 @@ pub record ScratchColumns : Type 0 where
 abbrev pub scratchOf : (numbers ends status weight previous node leaf : List ℕ) → ScratchColumns
 scratchOf numbers ends status weight previous node leaf =
     record { numbers = numbers; ends = ends; status = status; weight = weight; previous = previous; node = node; leaf = leaf }
+
+-- Engine, Crossing, last sentence: likewise, of columns lent or left by reference.
+abbrev pub scratchIn : (numbers ends status weight previous node leaf : RefT (List ℕ)) → ScratchColumns
+scratchIn numbers ends status weight previous node leaf = scratchOf (now numbers) (now ends) (now status) (now weight) (now previous) (now node) (now leaf)
+
+-- Questions at the door, 6: their lengths.
+abbrev pub scratchLengths : ScratchColumns → ScratchLengths
+scratchLengths s = record {
+  numbers = length (s .numbers);
+  ends = length (s .ends);
+  status = length (s .status);
+  weight = length (s .weight);
+  previous = length (s .previous);
+  node = length (s .node);
+  leaf = length (s .leaf);
+}
+
+-- Questions at the door, 6, of scratch, beside the engine graph that it serves.
+abbrev pub scratchFits : Engine → ScratchColumns → Bool
+scratchFits e s = scratchLong (e .counts .vertices) (e .counts .edges) (scratchLengths s)
 
 -- Engine, Crossing, last sentence: scratch is free after success and after 17 and 18.
 abbrev pub isFree : (number : ℕ) → Bool

@@ -2,8 +2,9 @@
 ghost use mathlib.Core.Path.{_≡_};
 ghost use mathlib.Core.Bool.{cond};
 ghost use lib.Dec.{eqb};
-ghost use Rattle.engine_columns.specs.Records.{engine};
+ghost use Rattle.engine_columns.specs.Records.{engineIn};
 ghost use Rattle.query_questions.specs.Queries.{scratchLong, queryRefusal};
+ghost use Rattle.query_questions.specs.declared.ScratchLengths.{ScratchLengths};
 use columns::VertexIndex;
 use columns::Weight;
 use columns::questions::asked;
@@ -13,33 +14,34 @@ use engine_columns::EngineCounts;
 use engine_columns::engine_sound;
 use engine_columns::long_enough;
 
+// The lengths of a query's scratch columns.
+pub struct ScratchLengths {
+    pub numbers: usize,
+    pub ends: usize,
+    pub status: usize,
+    pub weight: usize,
+    pub previous: usize,
+    pub node: usize,
+    pub leaf: usize,
+}
+
 // Question 6, of scratch.
-pub fn scratch_long(
-    vertices: u32,
-    edges: u32,
-    numbers: usize,
-    ends: usize,
-    status: usize,
-    weight: usize,
-    previous: usize,
-    node: usize,
-    leaf: usize,
-) -> bool
-    ensures { λ r. ⌜ r ≡ scratchLong vertices edges numbers ends status weight previous node leaf ⌝ }
+pub fn scratch_long(vertices: u32, edges: u32, l: ScratchLengths) -> bool
+    ensures { λ r. ⌜ r ≡ scratchLong vertices edges l ⌝ }
 {
     let v = vertices as usize;
-    let twice = at_most(2 * (edges as usize), numbers);
+    let twice = at_most(2 * (edges as usize), l.numbers);
     both(
         twice,
         both(
-            at_most(v, ends),
+            at_most(v, l.ends),
             both(
-                at_most(v, status),
+                at_most(v, l.status),
                 both(
-                    at_most(v, weight),
+                    at_most(v, l.weight),
                     both(
-                        at_most(v, previous),
-                        both(at_most(v, node), at_most(v, leaf)),
+                        at_most(v, l.previous),
+                        both(at_most(v, l.node), at_most(v, l.leaf)),
                     ),
                 ),
             ),
@@ -60,7 +62,7 @@ pub fn query_refusal(
     in_range: bool,
     next: u32,
 ) -> u32
-    ensures { λ r. ⌜ r ≡ queryRefusal (engine c (now («ends_a» .entry)) (now («ends_b» .entry)) (now (weights .entry)) (now (boundary .entry)) (now («log_edges» .entry)) (now («log_weights» .entry))) fits «in_range» next ⌝ }
+    ensures { λ r. ⌜ r ≡ queryRefusal (engineIn c («ends_a» .entry) («ends_b» .entry) (weights .entry) (boundary .entry) («log_edges» .entry) («log_weights» .entry)) fits «in_range» next ⌝ }
 {
     let long = long_enough(
         c,

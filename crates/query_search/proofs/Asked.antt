@@ -2,7 +2,7 @@
 use mathlib.Core.Path.{_≡_, sym, _∙_, subst}
 use mathlib.Core.Bool.{Bool, true, _&&_}
 use mathlib.Core.List.{List}
-use Prim.Native.Nat.{ℕ, _+_, _*_, _<_, _≤_}
+use Prim.Native.Nat.{ℕ, _*_, _<_, _≤_}
 use native.Mathlib.Omega.{arith}
 use lib.ListN.{length, getD, take, length-take}
 use lib.Seq.{getD-take, length-take-le}
@@ -18,26 +18,27 @@ use Rattle.engine_columns.specs.Questions.{engineLong, engineSound}
 use Rattle.engine_columns.proofs.Refusals.{ColumnsLong, Long, long-of, ColumnsSound, Sound, sound-of, met-of, next-of}
 use Rattle.query_questions.specs.Queries.{scratchLong, queryRefusal}
 use Rattle.query_search.specs.Search.{Searchable}
+use Rattle.query_questions.specs.Scratch.{scratchOf, scratchLengths}
+use Rattle.query_questions.specs.declared.ScratchLengths.{ScratchLengths}
 
-pub record ScratchLong (v e numbers ends status weight previous node leaf : ℕ) : Type 0 where
-  pub numbers-long : 2 * e ≤ numbers
-  pub ends-long : v ≤ ends
-  pub status-long : v ≤ status
-  pub weight-long : v ≤ weight
-  pub previous-long : v ≤ previous
-  pub node-long : v ≤ node
-  pub leaf-long : v ≤ leaf
+pub record ScratchLong (v e : ℕ) (l : ScratchLengths) : Type 0 where
+  pub numbers-long : 2 * e ≤ l .numbers
+  pub ends-long : v ≤ l .ends
+  pub status-long : v ≤ l .status
+  pub weight-long : v ≤ l .weight
+  pub previous-long : v ≤ l .previous
+  pub node-long : v ≤ l .node
+  pub leaf-long : v ≤ l .leaf
 
-pub scratch-of : (v e numbers ends status weight previous node leaf : ℕ) → scratchLong v e numbers ends status weight previous node leaf ≡ true
-    → ScratchLong v e numbers ends status weight previous node leaf
+pub scratch-of : (v e : ℕ) (l : ScratchLengths) → scratchLong v e l ≡ true → ScratchLong v e l
 unfolding scratchLong
-scratch-of v e numbers ends status weight previous node leaf h =
-    let (p₁, h₁) = and-both (leb (2 * e) numbers) _ h in
-    let (p₂, h₂) = and-both (leb v ends) _ h₁ in
-    let (p₃, h₃) = and-both (leb v status) _ h₂ in
-    let (p₄, h₄) = and-both (leb v weight) _ h₃ in
-    let (p₅, h₅) = and-both (leb v previous) _ h₄ in
-    let (p₆, p₇) = and-both (leb v node) _ h₅ in
+scratch-of v e l h =
+    let (p₁, h₁) = and-both (leb (2 * e) (l .numbers)) _ h in
+    let (p₂, h₂) = and-both (leb v (l .ends)) _ h₁ in
+    let (p₃, h₃) = and-both (leb v (l .status)) _ h₂ in
+    let (p₄, h₄) = and-both (leb v (l .weight)) _ h₃ in
+    let (p₅, h₅) = and-both (leb v (l .previous)) _ h₄ in
+    let (p₆, p₇) = and-both (leb v (l .node)) _ h₅ in
     record {
       numbers-long = leb-true _ _ p₁;
       ends-long = leb-true _ _ p₂;
@@ -89,7 +90,7 @@ cut-graph v e a b s =
     }
 
 module _ (v E : ℕ) (a b w m numbers ends status weight previous node leaf : List ℕ) (long : ColumnsLong v E a b w m) (ok : ColumnsSound v E a b w m)
-    (s : ScratchLong v E (length numbers) (length ends) (length status) (length weight) (length previous) (length node) (length leaf)) where
+    (s : ScratchLong v E (scratchLengths (scratchOf numbers ends status weight previous node leaf))) where
   pub cut-length : length (take v status) ≡ v
   cut-length = length-take-le v status (s .status-long)
 

@@ -3,7 +3,7 @@ pub mod sources;
 
 ghost use mathlib.Core.Path.{_≡_};
 ghost use mathlib.Core.Bool.{true, cond};
-ghost use mathlib.Core.List.{List, []};
+ghost use mathlib.Core.List.{List};
 ghost use Prim.Native.Nat.{ℕ, _<_, _≤_};
 ghost use lib.ListN.{length, getD};
 ghost use lib.Seq.{sets};
@@ -12,10 +12,10 @@ ghost use lib.IntN.{pos, negsuc};
 ghost use Rattle.columns.specs.Lists.{each};
 ghost use Rattle.engine_walks.specs.Answers.{tableWeight, tablePrevious};
 ghost use Rattle.query_relaxing.specs.Ready.{graphOf, weighs, stateOf, sumLimit};
-ghost use Rattle.engine_columns.specs.Records.{engine};
+ghost use Rattle.engine_columns.specs.Records.{engineWithoutLog};
 ghost use Rattle.engine_columns.specs.Questions.{columnsLong, columnsSound};
-ghost use Rattle.query_questions.specs.Queries.{graphIn, weightsIn, scratchLong};
-ghost use Rattle.query_questions.specs.Scratch.{scratchOf, SearchLeft};
+ghost use Rattle.query_questions.specs.Queries.{graphIn, weightsIn};
+ghost use Rattle.query_questions.specs.Scratch.{SearchLeft, scratchIn, scratchFits};
 ghost use Rattle.query_search.specs.Search.{Searchable, Searched, Starts, stateFrom, Settles};
 use columns::Weight;
 use engine_columns::EngineCounts;
@@ -92,12 +92,12 @@ pub fn search(
     leaf: &mut [u64],
 )
     requires { ⌜ (columnsLong (c .vertices) (c .edges) (now «ends_a») (now «ends_b») (now weights) (now boundary) ≡ true) × (columnsSound (c .vertices) (c .edges) (now «ends_a») (now «ends_b») (now weights) (now boundary) ≡ true) ⌝ }
-    requires { ⌜ (scratchLong (c .vertices) (c .edges) (length (now numbers)) (length (now «list_ends»)) (length (now status)) (length (now weight)) (length (now previous)) (length (now node)) (length (now leaf)) ≡ true) × Starts origin (c .vertices) ⌝ }
-    ensures { λ _. ⌜ SearchLeft (graphIn (engine c (now («ends_a» .entry)) (now («ends_b» .entry)) (now (weights .entry)) (now (boundary .entry)) [] []))
-        (stateFrom origin (graphIn (engine c (now («ends_a» .entry)) (now («ends_b» .entry)) (now (weights .entry)) (now (boundary .entry)) [] [])) (weightsIn (engine c (now («ends_a» .entry)) (now («ends_b» .entry)) (now (weights .entry)) (now (boundary .entry)) [] [])))
-        (scratchOf (now (numbers .entry)) (now («list_ends» .entry)) (now (status .entry)) (now (weight .entry)) (now (previous .entry)) (now (node .entry)) (now (leaf .entry)))
-        (scratchOf (now (numbers .exit)) (now («list_ends» .exit)) (now (status .exit)) (now (weight .exit)) (now (previous .exit)) (now (node .exit)) (now (leaf .exit))) ⌝ }
-    ensures { λ _. ⌜ Settles (c .vertices) (stateFrom origin (graphIn (engine c (now («ends_a» .entry)) (now («ends_b» .entry)) (now (weights .entry)) (now (boundary .entry)) [] [])) (weightsIn (engine c (now («ends_a» .entry)) (now («ends_b» .entry)) (now (weights .entry)) (now (boundary .entry)) [] []))) ⌝ }
+    requires { ⌜ (scratchFits (engineWithoutLog c «ends_a» «ends_b» weights boundary) (scratchIn numbers «list_ends» status weight previous node leaf) ≡ true) × Starts origin (c .vertices) ⌝ }
+    ensures { λ _. ⌜ SearchLeft (graphIn (engineWithoutLog c («ends_a» .entry) («ends_b» .entry) (weights .entry) (boundary .entry)))
+        (stateFrom origin (graphIn (engineWithoutLog c («ends_a» .entry) («ends_b» .entry) (weights .entry) (boundary .entry))) (weightsIn (engineWithoutLog c («ends_a» .entry) («ends_b» .entry) (weights .entry) (boundary .entry))))
+        (scratchIn (numbers .entry) («list_ends» .entry) (status .entry) (weight .entry) (previous .entry) (node .entry) (leaf .entry))
+        (scratchIn (numbers .exit) («list_ends» .exit) (status .exit) (weight .exit) (previous .exit) (node .exit) (leaf .exit)) ⌝ }
+    ensures { λ _. ⌜ Settles (c .vertices) (stateFrom origin (graphIn (engineWithoutLog c («ends_a» .entry) («ends_b» .entry) (weights .entry) (boundary .entry))) (weightsIn (engineWithoutLog c («ends_a» .entry) («ends_b» .entry) (weights .entry) (boundary .entry)))) ⌝ }
 {
     let v = c.vertices as usize;
     let e = c.edges as usize;

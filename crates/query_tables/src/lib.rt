@@ -1,12 +1,11 @@
 // Queries of the engine graph: the table of least weights and previous vertices.
 ghost use mathlib.Core.Path.{_≡_};
 ghost use Prim.Native.Nat.{_<_};
-ghost use lib.ListN.{length};
-ghost use Rattle.engine_columns.specs.Records.{engine};
-ghost use Rattle.query_questions.specs.Queries.{scratchLong};
+ghost use Rattle.engine_columns.specs.Records.{engineIn};
 ghost use Rattle.query_tables.specs.Ends.{endInRange, stopOf};
-ghost use Rattle.query_tables.specs.Tables.{TableStep, TableScratch};
-ghost use Rattle.query_questions.specs.Scratch.{scratchOf};
+ghost use Rattle.query_tables.specs.Tables.{FoundTable};
+ghost use Rattle.query_questions.specs.Scratch.{scratchIn};
+ghost use Rattle.query_questions.specs.declared.ScratchLengths.{ScratchLengths};
 use columns::Done;
 use columns::VertexIndex;
 use columns::Weight;
@@ -15,6 +14,7 @@ use columns::questions::both;
 use engine_columns::EngineCounts;
 use query_questions::named_stop;
 use query_questions::query_refusal;
+use query_questions::ScratchLengths;
 use query_questions::scratch_long;
 use query_search::Origin;
 use query_search::search;
@@ -69,24 +69,24 @@ pub fn all_edges_with_terminate(
     node: &mut [u64],
     leaf: &mut [u64],
 ) -> Done
-    ensures { λ r. ⌜ TableStep (engine c (now («ends_a» .entry)) (now («ends_b» .entry)) (now (weights .entry)) (now (boundary .entry)) (now («log_edges» .entry)) (now («log_weights» .entry)))
-        (scratchLong (c .vertices) (c .edges) (length (now (numbers .entry))) (length (now («list_ends» .entry))) (length (now (status .entry))) (length (now (weight .entry))) (length (now (previous .entry))) (length (now (node .entry))) (length (now (leaf .entry))))
-        (source .0) end r (now («out_weight» .entry)) (now («out_previous» .entry)) (now («out_weight» .exit)) (now («out_previous» .exit)) ⌝ }
-    ensures { λ r. ⌜ TableScratch (engine c (now («ends_a» .entry)) (now («ends_b» .entry)) (now (weights .entry)) (now (boundary .entry)) (now («log_edges» .entry)) (now («log_weights» .entry))) (source .0) end r
-        (scratchOf (now (numbers .entry)) (now («list_ends» .entry)) (now (status .entry)) (now (weight .entry)) (now (previous .entry)) (now (node .entry)) (now (leaf .entry)))
-        (scratchOf (now (numbers .exit)) (now («list_ends» .exit)) (now (status .exit)) (now (weight .exit)) (now (previous .exit)) (now (node .exit)) (now (leaf .exit))) ⌝ }
+    ensures { λ r. ⌜ FoundTable (engineIn c («ends_a» .entry) («ends_b» .entry) (weights .entry) (boundary .entry) («log_edges» .entry) («log_weights» .entry)) (source .0) end r
+        (now («out_weight» .entry)) (now («out_weight» .exit)) (now («out_previous» .entry)) (now («out_previous» .exit))
+        (scratchIn (numbers .entry) («list_ends» .entry) (status .entry) (weight .entry) (previous .entry) (node .entry) (leaf .entry))
+        (scratchIn (numbers .exit) («list_ends» .exit) (status .exit) (weight .exit) (previous .exit) (node .exit) (leaf .exit)) ⌝ }
 {
     let v = c.vertices as usize;
     let scratch = scratch_long(
         c.vertices,
         c.edges,
-        numbers.len(),
-        list_ends.len(),
-        status.len(),
-        weight.len(),
-        previous.len(),
-        node.len(),
-        leaf.len(),
+        ScratchLengths {
+            numbers: numbers.len(),
+            ends: list_ends.len(),
+            status: status.len(),
+            weight: weight.len(),
+            previous: previous.len(),
+            node: node.len(),
+            leaf: leaf.len(),
+        },
     );
     let fits = both(
         at_most(v, out_weight.len()),
@@ -149,12 +149,10 @@ pub fn all_edges(
     node: &mut [u64],
     leaf: &mut [u64],
 ) -> Done
-    ensures { λ r. ⌜ TableStep (engine c (now («ends_a» .entry)) (now («ends_b» .entry)) (now (weights .entry)) (now (boundary .entry)) (now («log_edges» .entry)) (now («log_weights» .entry)))
-        (scratchLong (c .vertices) (c .edges) (length (now (numbers .entry))) (length (now («list_ends» .entry))) (length (now (status .entry))) (length (now (weight .entry))) (length (now (previous .entry))) (length (now (node .entry))) (length (now (leaf .entry))))
-        (source .0) End.None r (now («out_weight» .entry)) (now («out_previous» .entry)) (now («out_weight» .exit)) (now («out_previous» .exit)) ⌝ }
-    ensures { λ r. ⌜ TableScratch (engine c (now («ends_a» .entry)) (now («ends_b» .entry)) (now (weights .entry)) (now (boundary .entry)) (now («log_edges» .entry)) (now («log_weights» .entry))) (source .0) End.None r
-        (scratchOf (now (numbers .entry)) (now («list_ends» .entry)) (now (status .entry)) (now (weight .entry)) (now (previous .entry)) (now (node .entry)) (now (leaf .entry)))
-        (scratchOf (now (numbers .exit)) (now («list_ends» .exit)) (now (status .exit)) (now (weight .exit)) (now (previous .exit)) (now (node .exit)) (now (leaf .exit))) ⌝ }
+    ensures { λ r. ⌜ FoundTable (engineIn c («ends_a» .entry) («ends_b» .entry) (weights .entry) (boundary .entry) («log_edges» .entry) («log_weights» .entry)) (source .0) End.None r
+        (now («out_weight» .entry)) (now («out_weight» .exit)) (now («out_previous» .entry)) (now («out_previous» .exit))
+        (scratchIn (numbers .entry) («list_ends» .entry) (status .entry) (weight .entry) (previous .entry) (node .entry) (leaf .entry))
+        (scratchIn (numbers .exit) («list_ends» .exit) (status .exit) (weight .exit) (previous .exit) (node .exit) (leaf .exit)) ⌝ }
 {
     all_edges_with_terminate(
         c,

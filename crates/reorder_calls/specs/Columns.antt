@@ -6,6 +6,7 @@ use mathlib.Core.List.{List}
 use lib.ListN.{length, getD, take}
 use lib.Dec.{eqb}
 use lib.Ieee.{Float}
+use denote.Ref.{RefT, now}
 use Rattle.columns.specs.Lists.{joined, after}
 use Rattle.columns.specs.Questions.{ask, allBelow, marksSound}
 use Rattle.columns.specs.Places.{zeroFloat}
@@ -44,6 +45,10 @@ reorderColumns a b m d i j t l n s = record {
   numbers = n;
   scratch = s;
 }
+
+-- Records, on vertices and edges: likewise, lent or left by reference.
+abbrev pub reorderIn : (a b m d : RefT (List ℕ)) (i j t : RefT (List Float)) (lengths numbers scratch : RefT (List ℕ)) → ReorderColumns
+reorderIn a b m d i j t l n s = reorderColumns (now a) (now b) (now m) (now d) (now i) (now j) (now t) (now l) (now n) (now s)
 
 -- Sampling, syndromes, reordering, paragraph 2, sentence 5: the neighbour lists in the new order, one after another.
 unfoldable pub movedLists : (order lengths numbers : List ℕ) → List ℕ

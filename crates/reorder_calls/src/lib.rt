@@ -5,7 +5,7 @@ ghost use mathlib.Core.Path.{_≡_};
 ghost use mathlib.Core.Bool.{true};
 ghost use Prim.Native.Nat.{_≤_};
 ghost use Rattle.columns.specs.Questions.{ask};
-ghost use Rattle.reorder_calls.specs.Columns.{reorderColumns, reorderLong, reorderSound, orderRefusal, reorderRefusal, ReorderedVertices};
+ghost use Rattle.reorder_calls.specs.Columns.{reorderLong, reorderSound, orderRefusal, reorderRefusal, ReorderedVertices, reorderIn};
 ghost use Rattle.reorder_calls.specs.Numbers.{buildRefusal, BuiltOldToNew, translateRefusal, TranslatedDefects};
 use columns::Done;
 use columns::VERTEX_LIMIT;
@@ -105,7 +105,7 @@ fn columns_long(
     neighbor_numbers: &[u32],
     scratch: &[u32],
 ) -> bool
-    ensures { λ r. ⌜ r ≡ reorderLong «vertex_num» «edge_num» (reorderColumns (now («ends_a» .entry)) (now («ends_b» .entry)) (now (boundary .entry)) (now (defect .entry)) (now («pos_i» .entry)) (now («pos_j» .entry)) (now («pos_t» .entry)) (now («list_lengths» .entry)) (now («neighbor_numbers» .entry)) (now (scratch .entry))) ⌝ }
+    ensures { λ r. ⌜ r ≡ reorderLong «vertex_num» «edge_num» (reorderIn («ends_a» .entry) («ends_b» .entry) (boundary .entry) (defect .entry) («pos_i» .entry) («pos_j» .entry) («pos_t» .entry) («list_lengths» .entry) («neighbor_numbers» .entry) (scratch .entry)) ⌝ }
 {
     let n = vertex_num as usize;
     let ends = two_long(edge_num as usize, ends_a.len(), ends_b.len());
@@ -173,7 +173,7 @@ fn reorder_refusal(
     neighbor_numbers: &[u32],
     scratch: &[u32],
 ) -> u32
-    ensures { λ r. ⌜ r ≡ reorderRefusal «vertex_num» «edge_num» (now (order .entry)) (reorderColumns (now («ends_a» .entry)) (now («ends_b» .entry)) (now (boundary .entry)) (now (defect .entry)) (now («pos_i» .entry)) (now («pos_j» .entry)) (now («pos_t» .entry)) (now («list_lengths» .entry)) (now («neighbor_numbers» .entry)) (now (scratch .entry))) ⌝ }
+    ensures { λ r. ⌜ r ≡ reorderRefusal «vertex_num» «edge_num» (now (order .entry)) (reorderIn («ends_a» .entry) («ends_b» .entry) (boundary .entry) (defect .entry) («pos_i» .entry) («pos_j» .entry) («pos_t» .entry) («list_lengths» .entry) («neighbor_numbers» .entry) (scratch .entry)) ⌝ }
 {
     let long = columns_long(
         vertex_num,
@@ -210,9 +210,9 @@ pub fn reorder_vertices(
     scratch: &mut [u32],
 ) -> Done
     ensures { λ r. ⌜ ReorderedVertices «vertex_num» «edge_num» (now (order .entry))
-        (reorderColumns (now («ends_a» .entry)) (now («ends_b» .entry)) (now (boundary .entry)) (now (defect .entry)) (now («pos_i» .entry)) (now («pos_j» .entry)) (now («pos_t» .entry)) (now («list_lengths» .entry)) (now («neighbor_numbers» .entry)) (now (scratch .entry)))
+        (reorderIn («ends_a» .entry) («ends_b» .entry) (boundary .entry) (defect .entry) («pos_i» .entry) («pos_j» .entry) («pos_t» .entry) («list_lengths» .entry) («neighbor_numbers» .entry) (scratch .entry))
         r
-        (reorderColumns (now («ends_a» .exit)) (now («ends_b» .exit)) (now (boundary .exit)) (now (defect .exit)) (now («pos_i» .exit)) (now («pos_j» .exit)) (now («pos_t» .exit)) (now («list_lengths» .exit)) (now («neighbor_numbers» .exit)) (now (scratch .exit))) ⌝ }
+        (reorderIn («ends_a» .exit) («ends_b» .exit) (boundary .exit) (defect .exit) («pos_i» .exit) («pos_j» .exit) («pos_t» .exit) («list_lengths» .exit) («neighbor_numbers» .exit) (scratch .exit)) ⌝ }
 {
     let number = reorder_refusal(
         vertex_num,

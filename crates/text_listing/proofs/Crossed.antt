@@ -3,7 +3,7 @@ use mathlib.Core.Path.{_≡_, refl, sym, ap, _∙_, subst}
 use mathlib.Core.Bool.{Bool, true, _&&_}
 use mathlib.Core.List.{List, [], _∷_, _++_}
 use mathlib.Core.Option.{Option}
-use Prim.Native.Nat.{ℕ, zero, suc, _+_, _*_, _≤_, _<_}
+use Prim.Native.Nat.{ℕ, _+_, _*_, _≤_}
 use native.Mathlib.Omega.{arith}
 use lib.Dec.{leb}
 use lib.ListN.{length, getD, take, drop, length-map, length-take, take-append-drop}
@@ -31,6 +31,7 @@ use Rattle.query_crossing_answer.specs.Crossing.{isJoined, weightFound, crossin
 use Rattle.columns_answers.specs.Said.{Answered}
 use Rattle.text_listing.specs.Listing.{weightsOf, crossingOf}
 use Rattle.text_listing.specs.Steps.{HoldsWeights, ScratchRoom, Replied}
+use Rattle.query_questions.specs.declared.ScratchLengths.{ScratchLengths}
 
 -- a column is its own first places and the rest
 whole : {A : Type 0} (n : ℕ) (column vs : List A) → take n column ≡ vs → n ≤ length column → column ≡ over vs column
@@ -85,16 +86,16 @@ module _ (kind d rounds : ℕ) (p : _) (max v e : ℕ) (a b w m : List ℕ) (s :
       both-and (both-and (both-and (le-leb e (length a) long-a) (both-and (le-leb e (length b) long-b) (le-leb e (length w) long-w))) (le-leb v (length m) long-m))
       (both-and (le-leb (0 + 0) (length le) (omega arith)) (le-leb (0 + 0) (length lw) (omega arith)))
 
-  scratch-long : (out n1 n2 n3 n4 n5 n6 n7 : ℕ) → ScratchRoom out n1 n2 n3 n4 n5 n6 n7 → (leb v out && scratchLong v e n1 n2 n3 n4 n5 n6 n7) ≡ true
+  scratch-long : (out : ℕ) (l : ScratchLengths) → ScratchRoom out l → (leb v out && scratchLong v e l) ≡ true
   unfolding scratchLong
-  scratch-long out n1 n2 n3 n4 n5 n6 n7 r =
+  scratch-long out l r =
       both-and (le-leb v out (omega (arith, s .few-vertices, r .out-room)))
-      (both-and (le-leb (2 * e) n1 (omega (arith, s .few-edges, r .numbers-room)))
-      (both-and (le-leb v n2 (omega (arith, s .few-vertices, r .ends-room)))
-      (both-and (le-leb v n3 (omega (arith, s .few-vertices, r .status-room)))
-      (both-and (le-leb v n4 (omega (arith, s .few-vertices, r .weight-room)))
-      (both-and (le-leb v n5 (omega (arith, s .few-vertices, r .previous-room)))
-      (both-and (le-leb v n6 (omega (arith, s .few-vertices, r .node-room))) (le-leb v n7 (omega (arith, s .few-vertices, r .leaf-room)))))))))
+      (both-and (le-leb (2 * e) (l .numbers) (omega (arith, s .few-edges, r .numbers-room)))
+      (both-and (le-leb v (l .ends) (omega (arith, s .few-vertices, r .ends-room)))
+      (both-and (le-leb v (l .status) (omega (arith, s .few-vertices, r .status-room)))
+      (both-and (le-leb v (l .weight) (omega (arith, s .few-vertices, r .weight-room)))
+      (both-and (le-leb v (l .previous) (omega (arith, s .few-vertices, r .previous-room)))
+      (both-and (le-leb v (l .node) (omega (arith, s .few-vertices, r .node-room))) (le-leb v (l .leaf) (omega (arith, s .few-vertices, r .leaf-room)))))))))
 
   same-graph : (le lw : List ℕ) → graphIn (the-engine le lw) ≡ builtGraph kind d rounds
   unfolding builtGraph
@@ -104,12 +105,12 @@ module _ (kind d rounds : ℕ) (p : _) (max v e : ℕ) (a b w m : List ℕ) (s :
   unfolding crossingOf
   same-crossing le lw = λ i. crossing (same-graph le lw i) (λ k. getD (s .in-w i) k 0)
 
-  pub replied : (le lw : List ℕ) (out n1 n2 n3 n4 n5 n6 n7 : ℕ) (r : CrossingReply) → ScratchRoom out n1 n2 n3 n4 n5 n6 n7
-      → Answered (crossingSaid r) (crossingRefusal (the-engine le lw) (scratchLong v e n1 n2 n3 n4 n5 n6 n7) out) (weightFound (crossing (graphIn (the-engine le lw)) (weightsIn (the-engine le lw)))) 0
+  pub replied : (le lw : List ℕ) (out : ℕ) (l : ScratchLengths) (r : CrossingReply) → ScratchRoom out l
+      → Answered (crossingSaid r) (crossingRefusal (the-engine le lw) (scratchLong v e l) out) (weightFound (crossing (graphIn (the-engine le lw)) (weightsIn (the-engine le lw)))) 0
       → Replied kind d rounds p max r
-  replied le lw out n1 n2 n3 n4 n5 n6 n7 r room q =
+  replied le lw out l r room q =
       let o : Option ℕ = crossing (graphIn (the-engine le lw)) (weightsIn (the-engine le lw)) in
-      let number : crossingRefusal (the-engine le lw) (scratchLong v e n1 n2 n3 n4 n5 n6 n7) out ≡ ask (isJoined o) 18 0 =
-      λ i. ask (both-and (engine-long le lw) (scratch-long out n1 n2 n3 n4 n5 n6 n7 room) i) 6 (ask (engine-sound le lw i) 7 (ask (isJoined o) 18 0)) in
+      let number : crossingRefusal (the-engine le lw) (scratchLong v e l) out ≡ ask (isJoined o) 18 0 =
+      λ i. ask (both-and (engine-long le lw) (scratch-long out l room) i) 6 (ask (engine-sound le lw i) 7 (ask (isJoined o) 18 0)) in
       subst (λ (c : Option ℕ). Answered (crossingSaid r) (ask (isJoined c) 18 0) (weightFound c) 0) (same-crossing le lw)
       (subst (λ (n : ℕ). Answered (crossingSaid r) n (weightFound o) 0) number q)

@@ -20,17 +20,18 @@ use Rattle.columns_answers.specs.Said.{Answered}
 use Rattle.text_numbers.specs.Text.{refusalLine, listing}
 use Rattle.text_listing.specs.Listing.{weightsOf, crossingOf, listingOf}
 use Rattle.codes_calls.specs.Probabilities.{probabilities, diagonalOf}
+use Rattle.query_questions.specs.declared.ScratchLengths.{ScratchLengths}
 
 -- Questions at the door, 6: scratch for 1,024 vertices and 6,144 edges.
-pub record ScratchRoom (out numbers ends status weight previous node leaf : ℕ) : Type 0 where
+pub record ScratchRoom (out : ℕ) (l : ScratchLengths) : Type 0 where
   pub out-room : out ≡ 1024
-  pub numbers-room : numbers ≡ 12288
-  pub ends-room : ends ≡ 1024
-  pub status-room : status ≡ 1024
-  pub weight-room : weight ≡ 1024
-  pub previous-room : previous ≡ 1024
-  pub node-room : node ≡ 1024
-  pub leaf-room : leaf ≡ 1024
+  pub numbers-room : l .numbers ≡ 12288
+  pub ends-room : l .ends ≡ 1024
+  pub status-room : l .status ≡ 1024
+  pub weight-room : l .weight ≡ 1024
+  pub previous-room : l .previous ≡ 1024
+  pub node-room : l .node ≡ 1024
+  pub leaf-room : l .leaf ≡ 1024
 
 -- The program codelist, sentence 2: these columns hold a code with its half weights.
 pub record HoldsCode (kind d rounds : ℕ) (p : Float) (max v e : ℕ) (a b h m : List ℕ) : Type 0 where

@@ -5,6 +5,7 @@ ghost use lib.ListN.{length};
 ghost use Rattle.text_numbers.specs.Steps.{Put};
 ghost use Rattle.text_listing.specs.Listing.{listingOf};
 ghost use Rattle.text_listing.specs.Steps.{HoldsCode, HoldsWeights, ScratchRoom, Replied, replyText};
+ghost use Rattle.query_questions.specs.Scratch.{scratchIn, scratchLengths};
 use access_vertices::weights::store_weights;
 use columns::Weight;
 use engine_columns::EngineCounts;
@@ -36,7 +37,7 @@ fn crossing_in(
     leaf: &mut [u64],
 ) -> CrossingReply
     requires { ⌜ HoldsWeights kind d rounds probability «max_half_weight» v e (now «ends_a») (now «ends_b») (now weights) (now boundary) ⌝ }
-    requires { ⌜ ScratchRoom (length (now «out_weight»)) (length (now numbers)) (length (now «list_ends»)) (length (now status)) (length (now weight)) (length (now previous)) (length (now node)) (length (now leaf)) ⌝ }
+    requires { ⌜ ScratchRoom (length (now «out_weight»)) (scratchLengths (scratchIn numbers «list_ends» status weight previous node leaf)) ⌝ }
     ensures { λ r. ⌜ Replied kind d rounds probability «max_half_weight» r ⌝ }
 {
     let log_edges = [0u32; 1];

@@ -1,6 +1,6 @@
 -- `prebuilt_calls::fill_row` meets its contract. Assumes nothing.
 use mathlib.Core.Path.{_≡_, sym, ap, _∙_}
-use Prim.Native.Nat.{ℕ, zero, suc, _+_, _*_, _<_, _≤_}
+use Prim.Native.Nat.{ℕ}
 use native.Mathlib.Omega.{arith}
 use mathlib.Core.Bool.{Bool}
 use mathlib.Core.List.{List}
@@ -9,12 +9,12 @@ use lib.ListN.{length, take}
 use lib.Seq.{sets, length-take-le}
 use Rattle.columns.specs.Lists.{each}
 use Rattle.columns.proofs.Columns.{length-over, after-accepted, after-refused}
-use Rattle.engine_columns.specs.Records.{Engine, engine}
+use Rattle.engine_columns.specs.Records.{Engine, engineIn}
 use Rattle.engine_walks.specs.Settling.{settled}
 use Rattle.engine_walks.specs.Answers.{only, table}
 use Rattle.query_tables.specs.declared.End.the-variants.{None}
-use Rattle.query_questions.specs.Queries.{graphIn, weightsIn, scratchLong}
-use Rattle.query_questions.specs.Scratch.{scratchOf, isFree}
+use Rattle.query_questions.specs.Queries.{graphIn, weightsIn}
+use Rattle.query_questions.specs.Scratch.{isFree, scratchIn, scratchFits}
 use Rattle.query_search.proofs.Scratch.{scratch-kept}
 use Rattle.query_tables.specs.Tables.{tableRefusal}
 use Rattle.columns_answers.proofs.Said.{accepts-of, refuses-of}
@@ -28,10 +28,10 @@ use Rattle.prebuilt_calls.proofs.fill_row.Statement.{statement}
 use Rattle.prebuilt_calls.proofs.fill_row.Tie as tie
 
 engine-of : tie.Start → Engine
-engine-of s = engine (s .args .c) (s .args .ends-a .now) (s .args .ends-b .now) (s .args .weights .now) (s .args .boundary .now) (s .args .log-edges .now) (s .args .log-weights .now)
+engine-of s = engineIn (s .args .c) (s .args .ends-a) (s .args .ends-b) (s .args .weights) (s .args .boundary) (s .args .log-edges) (s .args .log-weights)
 
 scratch-at : tie.Start → Bool
-scratch-at s = scratchLong (s .args .c .vertices) (s .args .c .edges) (length (s .args .numbers .now)) (length (s .args .list-ends .now)) (length (s .args .status .now)) (length (s .args .weight .now)) (length (s .args .previous .now)) (length (s .args .node .now)) (length (s .args .leaf .now))
+scratch-at s = scratchFits (engine-of s) (scratchIn (s .args .numbers) (s .args .list-ends) (s .args .status) (s .args .weight) (s .args .previous) (s .args .node) (s .args .leaf))
 
 number-at : tie.Start → ℕ
 unfolding engine-of scratch-at
@@ -63,7 +63,7 @@ write-row-requires c κs =
     let s : tie.Start = t .before .before .before .before .before .before .before .before .before .before .before .before .before .before .before .before .before .before .before .before .before .before .before .before .before .before in
     let z = number-then t in
     let k = asked-at s z in
-    let w = c .before .before .before .before .before .before .before .before .before .before .before .before .before .before .before .before .before .before .before .all-edges .ensures .0 .weights-after ∙ after-accepted (tableRefusal (engine-of s) (scratch-at s) (s .args .vertex .0) None (length (s .args .out .now)) (length (s .args .before .now))) (table (graphIn (engine-of s)) (weightsIn (engine-of s)) (s .args .vertex .0) none .weights) (s .args .out .now) (table-met (engine-of s) (scratch-at s) (s .args .vertex .0) _ _ _ k) in
+    let w = c .before .before .before .before .before .before .before .before .before .before .before .before .before .before .before .before .before .before .before .all-edges .ensures .weights-after ∙ after-accepted (tableRefusal (engine-of s) (scratch-at s) (s .args .vertex .0) None (length (s .args .out .now)) (length (s .args .before .now))) (table (graphIn (engine-of s)) (weightsIn (engine-of s)) (s .args .vertex .0) none .weights) (s .args .out .now) (table-met (engine-of s) (scratch-at s) (s .args .vertex .0) _ _ _ k) in
     let lt = table-weights-length (graphIn (engine-of s)) (weightsIn (engine-of s)) (s .args .vertex .0) none in
     let lb = length-take-le (s .args .c .vertices) (s .args .boundary .now) (k .long .columns .boundary) in
     let lo = ap length w ∙ length-over (table (graphIn (engine-of s)) (weightsIn (engine-of s)) (s .args .vertex .0) none .weights) (s .args .out .now) (omega (arith, lt, k .out-long)) in
@@ -76,36 +76,33 @@ returns c =
     let s : tie.Start = t .before .before .before .before .before .before .before .before .before .before .before .before .before .before .before .before .before .before .before .before .before .before .before .before .before .before in
     let z = number-then t in
     let k = asked-at s z in
-    let w = c .before .before .before .before .before .before .before .before .before .before .before .before .before .before .before .before .before .before .before .before .before .all-edges .ensures .0 .weights-after ∙ after-accepted (tableRefusal (engine-of s) (scratch-at s) (s .args .vertex .0) None (length (s .args .out .now)) (length (s .args .before .now))) (table (graphIn (engine-of s)) (weightsIn (engine-of s)) (s .args .vertex .0) none .weights) (s .args .out .now) (table-met (engine-of s) (scratch-at s) (s .args .vertex .0) _ _ _ k) in
+    let w = c .before .before .before .before .before .before .before .before .before .before .before .before .before .before .before .before .before .before .before .before .before .all-edges .ensures .weights-after ∙ after-accepted (tableRefusal (engine-of s) (scratch-at s) (s .args .vertex .0) None (length (s .args .out .now)) (length (s .args .before .now))) (table (graphIn (engine-of s)) (weightsIn (engine-of s)) (s .args .vertex .0) none .weights) (s .args .out .now) (table-met (engine-of s) (scratch-at s) (s .args .vertex .0) _ _ _ k) in
     let lt = table-weights-length (graphIn (engine-of s)) (weightsIn (engine-of s)) (s .args .vertex .0) none in
     let lb = length-take-le (s .args .c .vertices) (s .args .boundary .now) (k .long .columns .boundary) in
-    let inside = inside-of 0 (c .before .before .before .before .before .before .before .before .before .before .before .before .before .before .before .before .before .before .before .before .before .all-edges .ensures .0) (c .before .before .before .before .before .before .before .before .before .before .before .before .before .before .before .before .before .before .before .before .before .all-edges .ensures .1) (c .before .before .before .before .before .before .before .before .before .before .before .before .before .before .before .before .before .before .before .before .before .all-edges .ensures .0 .answer .number-is ∙ table-met (engine-of s) (scratch-at s) (s .args .vertex .0) _ _ _ k) in
-    let bytes : List ℕ = take (s .args .c .vertices) (s .args .boundary .now) in (
-      record {
-        answer = accepts-of z;
-        out-after = c .before .write-row .ensures ∙ (λ i. sets (w i) 0 (each (lb i) (rowEntry bytes (s .args .nearest .now) (s .args .vertex .0) (w i))))
-            ∙ row-over bytes (s .args .nearest .now) (s .args .vertex .0) (table (graphIn (engine-of s)) (weightsIn (engine-of s)) (s .args .vertex .0) none .weights) (s .args .out .now) (s .args .c .vertices) lt (k .out-long)
-            ∙ sym (after-accepted (number-at s) (row (graphIn (engine-of s)) (weightsIn (engine-of s)) (s .args .nearest .now) (s .args .vertex .0)) (s .args .out .now) z);
-      },
-      record { before-after = inside .before-after; scratch-after = inside .scratch-after },
-    )
+    let inside = inside-of 0 (c .before .before .before .before .before .before .before .before .before .before .before .before .before .before .before .before .before .before .before .before .before .all-edges .ensures) (c .before .before .before .before .before .before .before .before .before .before .before .before .before .before .before .before .before .before .before .before .before .all-edges .ensures .answers .number-is ∙ table-met (engine-of s) (scratch-at s) (s .args .vertex .0) _ _ _ k) in
+    let bytes : List ℕ = take (s .args .c .vertices) (s .args .boundary .now) in
+    record {
+      answers = accepts-of z;
+      out-after = c .before .write-row .ensures ∙ (λ i. sets (w i) 0 (each (lb i) (rowEntry bytes (s .args .nearest .now) (s .args .vertex .0) (w i))))
+          ∙ row-over bytes (s .args .nearest .now) (s .args .vertex .0) (table (graphIn (engine-of s)) (weightsIn (engine-of s)) (s .args .vertex .0) none .weights) (s .args .out .now) (s .args .c .vertices) lt (k .out-long)
+          ∙ sym (after-accepted (number-at s) (row (graphIn (engine-of s)) (weightsIn (engine-of s)) (s .args .nearest .now) (s .args .vertex .0)) (s .args .out .now) z);
+      before-after = inside .before-after;
+      scratch-after = inside .scratch-after;
+    }
 
 returns-2 : tie.Need-returns-2
 unfolding number-at engine-of scratch-at
 returns-2 c =
     let s : tie.Start = c .before .before .before .before .before .before .before .before .before .before .before .before .before .before .before .before .before .before .before .before .before .before .before .before .before .before in
     let d : c .before .query-refusal .result ≡ number-at s = row-number (engine-of s) (scratch-at s) (s .args .vertex .0) _ _ _ (c .before .query-refusal .ensures) (c .before .before .before .before .both3 .ensures) (c .before .before .before .before .before .both2 .ensures) (c .before .before .before .before .before .before .both .ensures) (c .before .before .before .before .before .before .before .before .before .at-most .ensures) (c .before .before .before .before .before .before .before .before .at-most2 .ensures) (c .before .before .before .before .before .before .before .at-most3 .ensures) (c .before .before .before .before .before .before .before .before .before .before .scratch-long .ensures) in
-    let f : number-at s ≡ 0 → ⊥ = λ e. c .if1 .left (d ∙ e) in (
-      record {
-        answer = refuses-of d (c .if1 .left);
-        out-after = sym (after-refused (number-at s) (row (graphIn (engine-of s)) (weightsIn (engine-of s)) (s .args .nearest .now) (s .args .vertex .0)) (s .args .out .now) f);
-      },
-      record {
-        before-after = sym (after-refused (c .before .query-refusal .result) (table (graphIn (engine-of s)) (weightsIn (engine-of s)) (s .args .vertex .0) none .previous) (s .args .before .now) (c .if1 .left));
-        scratch-after = scratch-kept _ (graphIn (engine-of s)) (settled (graphIn (engine-of s)) (weightsIn (engine-of s)) (only (s .args .vertex .0)) none)
-            (scratchOf (s .args .numbers .now) (s .args .list-ends .now) (s .args .status .now) (s .args .weight .now) (s .args .previous .now) (s .args .node .now) (s .args .leaf .now)) (ap isFree d ∙ row-kept (engine-of s) (scratch-at s) (s .args .vertex .0) _ _ _ f);
-      },
-    )
+    let f : number-at s ≡ 0 → ⊥ = λ e. c .if1 .left (d ∙ e) in
+    record {
+      answers = refuses-of d (c .if1 .left);
+      out-after = sym (after-refused (number-at s) (row (graphIn (engine-of s)) (weightsIn (engine-of s)) (s .args .nearest .now) (s .args .vertex .0)) (s .args .out .now) f);
+      before-after = sym (after-refused (c .before .query-refusal .result) (table (graphIn (engine-of s)) (weightsIn (engine-of s)) (s .args .vertex .0) none .previous) (s .args .before .now) (c .if1 .left));
+      scratch-after = scratch-kept _ (graphIn (engine-of s)) (settled (graphIn (engine-of s)) (weightsIn (engine-of s)) (only (s .args .vertex .0)) none)
+          (scratchIn (s .args .numbers) (s .args .list-ends) (s .args .status) (s .args .weight) (s .args .previous) (s .args .node) (s .args .leaf)) (ap isFree d ∙ row-kept (engine-of s) (scratch-at s) (s .args .vertex .0) _ _ _ f);
+    }
 
 pub fill-row-spec : {M : Type 1} → statement M
 fill-row-spec = tie.close (tie.spec (λ c. search needs) (λ c κs. tt) (λ c κs. tt) (λ c κs. tt) (λ c κs. tt) (λ c κs. tt) (λ c κs. tt) (λ c κs. tt) (λ c κs. tt) (λ c κs. tt) slice-aggregate-write-row write-row-requires (λ c. search needs) (λ c. c .before .before .before .before .before .before .before .before .before .before .before .before .before .before .before .before .before .before .before .before2 .given) (λ c. c .before .before .before .before .before .before .before .before .before .before .before .before .before .before .before .before .before .numbers .given) (λ c. c .before .before .before .before .before .before .before .before .before .before .before .before .before .before .before .list-ends .given) (λ c. c .before .before .before .before .before .before .before .before .before .before .before .before .before .status .given) (λ c. c .before .before .before .before .before .before .before .before .before .before .before .weight .given) (λ c. c .before .before .before .before .before .before .before .before .before .previous .given) (λ c. c .before .before .before .before .before .before .before .node .given) (λ c. c .before .before .before .before .before .leaf .given) returns returns-2)

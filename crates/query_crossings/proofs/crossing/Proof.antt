@@ -1,6 +1,6 @@
 -- `query_crossings::crossing` meets its contract. Assumes nothing.
 use mathlib.Core.Path.{_≡_, sym, ap, _∙_}
-use Prim.Native.Nat.{ℕ, _<_, _≤_}
+use Prim.Native.Nat.{ℕ, _≤_}
 use native.Mathlib.Omega.{arith}
 use mathlib.Core.Bool.{Bool}
 use lib.ListN.{length, take}
@@ -10,13 +10,13 @@ use Rattle.columns.specs.Questions.{ask}
 use Rattle.columns.proofs.Columns.{after-refused}
 use Rattle.columns_answers.specs.Said.{Answered}
 use Rattle.columns_answers.proofs.Said.{refuses-of}
-use Rattle.engine_columns.specs.Records.{Engine, engine}
+use Rattle.engine_columns.specs.Records.{Engine, engineIn}
 use Rattle.engine_columns.proofs.Refusals.{columns-long-from, columns-sound-from}
 use Rattle.engine_walks.specs.Settling.{State}
 use Rattle.engine_walks.specs.Answers.{crossing, fromLeft, leastFromLeft}
 use Rattle.query_relaxing.specs.Ready.{stateOf}
-use Rattle.query_questions.specs.Queries.{graphIn, weightsIn, scratchLong}
-use Rattle.query_questions.specs.Scratch.{ScratchColumns, scratchOf, isFree, SearchLeft}
+use Rattle.query_questions.specs.Queries.{graphIn, weightsIn}
+use Rattle.query_questions.specs.Scratch.{ScratchColumns, scratchOf, isFree, SearchLeft, scratchIn, scratchLengths, scratchFits}
 use Rattle.query_crossing_answer.specs.Crossing.{isJoined, weightFound, crossingSaid, crossingAsked}
 use Rattle.query_crossing_answer.specs.Codes.{Coded}
 use Rattle.query_search.specs.Search.{Settles}
@@ -29,10 +29,10 @@ use Rattle.query_crossings.proofs.crossing.Statement.{statement}
 use Rattle.query_crossings.proofs.crossing.Tie as tie
 
 engine-of : tie.Start → Engine
-engine-of s = engine (s .args .c) (s .args .ends-a .now) (s .args .ends-b .now) (s .args .weights .now) (s .args .boundary .now) (s .args .log-edges .now) (s .args .log-weights .now)
+engine-of s = engineIn (s .args .c) (s .args .ends-a) (s .args .ends-b) (s .args .weights) (s .args .boundary) (s .args .log-edges) (s .args .log-weights)
 
 scratch-at : tie.Start → Bool
-scratch-at s = scratchLong (s .args .c .vertices) (s .args .c .edges) (length (s .args .numbers .now)) (length (s .args .list-ends .now)) (length (s .args .status .now)) (length (s .args .weight .now)) (length (s .args .previous .now)) (length (s .args .node .now)) (length (s .args .leaf .now))
+scratch-at s = scratchFits (engine-of s) (scratchIn (s .args .numbers) (s .args .list-ends) (s .args .status) (s .args .weight) (s .args .previous) (s .args .node) (s .args .leaf))
 
 number-at : tie.Start → ℕ
 unfolding engine-of scratch-at
@@ -42,9 +42,9 @@ asked-at : (s : tie.Start) → number-at s ≡ 0 → CrossingAsked (engine-of s)
 unfolding number-at
 asked-at s z = crossing-of (engine-of s) (scratch-at s) _ z
 
-fits : (s : tie.Start) → number-at s ≡ 0 → ScratchLong (s .args .c .vertices) (s .args .c .edges) (length (s .args .numbers .now)) (length (s .args .list-ends .now)) (length (s .args .status .now)) (length (s .args .weight .now)) (length (s .args .previous .now)) (length (s .args .node .now)) (length (s .args .leaf .now))
-unfolding scratch-at
-fits s z = scratch-of _ _ _ _ _ _ _ _ _ (asked-at s z .scratch-is)
+fits : (s : tie.Start) → number-at s ≡ 0 → ScratchLong (s .args .c .vertices) (s .args .c .edges) (scratchLengths (scratchIn (s .args .numbers) (s .args .list-ends) (s .args .status) (s .args .weight) (s .args .previous) (s .args .node) (s .args .leaf)))
+unfolding scratch-at engine-of
+fits s z = scratch-of _ _ _ (asked-at s z .scratch-is)
 
 number-is : (c : tie.After-crossing-asked) → c .crossing-asked .result ≡ number-at (c .before .before .before .before .before .before .before .before .before .before .before .before .before .before .before .before)
 unfolding number-at engine-of scratch-at
@@ -60,7 +60,7 @@ unfolding engine-of
 state-at s = fromLeft (graphIn (engine-of s)) (weightsIn (engine-of s))
 
 before-it : tie.Start → ScratchColumns
-before-it s = scratchOf (s .args .numbers .now) (s .args .list-ends .now) (s .args .status .now) (s .args .weight .now) (s .args .previous .now) (s .args .node .now) (s .args .leaf .now)
+before-it s = scratchIn (s .args .numbers) (s .args .list-ends) (s .args .status) (s .args .weight) (s .args .previous) (s .args .node) (s .args .leaf)
 
 after-it : tie.After-search → ScratchColumns
 after-it c = let l = c .search .last .1 .1 .1 .1 .1 .1 in scratchOf (l .0) (l .1 .0) (l .1 .1 .0) (l .1 .1 .1 .0) (l .1 .1 .1 .1 .0) (l .1 .1 .1 .1 .1 .0) (l .1 .1 .1 .1 .1 .1 .0)
@@ -159,14 +159,13 @@ returns c =
     let r = c .before .before .before .before .before .before .nearest-right .result in
     let coded : Coded r (crossing g w) = found-is g w last (state-read l o) r _ (status-length l o) (weight-length l o) (λ u h. light-read l o u (omega (arith, status-length l o, h))) (c .before .before .before .before .before .before .nearest-right .ensures back) in
     let replied : Answered (crossingSaid (c .reply .result)) (ask (isJoined (crossing g w)) 18 0) (weightFound (crossing g w)) 0 = rw (c .reply .ensures) (reply-of r (crossing g w) coded) in
-    let next = refusal-passed (engine-of s) (scratch-at s) (length out₀) (ask (isJoined (crossing g w)) 18 0) z in (
-      record {
-        answer = rw next replied;
-        weights-after = column-is g w last (state-read l o) r _ out₀ _ (status-length l o) coded (c .before .before .write-found .ensures back)
-            ∙ column-after (crossing g w) (leastFromLeft g w) out₀ (omega (arith, left-length g w, k .weights-long)) ∙ ap (λ n. after n (leastFromLeft g w) out₀) (sym next);
-      },
-      scratch-free _ g (fromLeft g w) (before-it s) _ (ap isFree (replied .number-is) ∙ free-number (crossing g w)) l,
-    )
+    let next = refusal-passed (engine-of s) (scratch-at s) (length out₀) (ask (isJoined (crossing g w)) 18 0) z in
+    record {
+      answers = rw next replied;
+      weights-after = column-is g w last (state-read l o) r _ out₀ _ (status-length l o) coded (c .before .before .write-found .ensures back)
+          ∙ column-after (crossing g w) (leastFromLeft g w) out₀ (omega (arith, left-length g w, k .weights-long)) ∙ ap (λ n. after n (leastFromLeft g w) out₀) (sym next);
+      scratch-after = scratch-free _ g (fromLeft g w) (before-it s) _ (ap isFree (replied .number-is) ∙ free-number (crossing g w)) l;
+    }
 
 returns-2 : tie.Need-returns-2
 unfolding number-at engine-of scratch-at before-it
@@ -176,13 +175,12 @@ returns-2 c =
     let f : number-at s ≡ 0 → ⊥ = λ e. c .if1 .left (d ∙ e) in
     let g = graphIn (engine-of s) in
     let w = weightsIn (engine-of s) in
-    let next = refusal-refused (engine-of s) (scratch-at s) (length (s .args .out-weight .now)) (ask (isJoined (crossing g w)) 18 0) f in (
-      record {
-        answer = refuses-of (d ∙ sym next) (c .if1 .left);
-        weights-after = sym (after-refused _ (leastFromLeft g w) (s .args .out-weight .now) (λ e. f (sym next ∙ e)));
-      },
-      scratch-kept _ g (fromLeft g w) (before-it s) (ap isFree d ∙ kept-number (engine-of s) (scratch-at s) (length (s .args .out-weight .now)) f),
-    )
+    let next = refusal-refused (engine-of s) (scratch-at s) (length (s .args .out-weight .now)) (ask (isJoined (crossing g w)) 18 0) f in
+    record {
+      answers = refuses-of (d ∙ sym next) (c .if1 .left);
+      weights-after = sym (after-refused _ (leastFromLeft g w) (s .args .out-weight .now) (λ e. f (sym next ∙ e)));
+      scratch-after = scratch-kept _ g (fromLeft g w) (before-it s) (ap isFree d ∙ kept-number (engine-of s) (scratch-at s) (length (s .args .out-weight .now)) f);
+    }
 
 pub crossing-spec : {M : Type 1} → statement M
 crossing-spec = tie.close (tie.spec (λ c. search needs) (λ c κs. tt) (λ c κs. tt) search-requires slice-reshare-prefix-nearest-right slice-aggregate-nearest-right slice-reshare-prefix-nearest-right-2 slice-aggregate-nearest-right-2 slice-aggregate-nearest-right-3 nearest-right-requires slice-reshare-prefix-write-found slice-aggregate-write-found slice-reshare-prefix-write-found-2 slice-aggregate-write-found-2 write-found-requires (λ c κs. tt) (λ c. search needs) (λ c. search needs) (λ c. search needs) (λ c. search needs) (λ c. search needs) (λ c. search needs) (λ c. search needs) (λ c. search needs) returns returns-2)

@@ -1,6 +1,6 @@
 -- `query_paths::get_path` meets its contract. Assumes nothing.
 use mathlib.Core.Path.{_≡_, refl, sym, ap, _∙_, subst}
-use Prim.Native.Nat.{ℕ, zero, suc, _+_, _*_, _<_, _≤_}
+use Prim.Native.Nat.{ℕ, _≤_}
 use native.Mathlib.Omega.{arith}
 use mathlib.Core.Bool.{Bool, cond}
 use mathlib.Core.Option.{some, none}
@@ -8,13 +8,13 @@ use lib.ListN.{length, take}
 use lib.Seq.{length-take-le}
 use lib.Dec.{eqb}
 use borrow.Author.Tests.{ne-eqb, lt-ltb}
-use Rattle.engine_columns.specs.Records.{Engine, engine}
+use Rattle.engine_columns.specs.Records.{Engine, engineIn}
 use Rattle.engine_columns.proofs.Refusals.{columns-long-from, columns-sound-from}
 use Rattle.engine_walks.specs.Settling.{State, settled}
 use Rattle.engine_walks.specs.Answers.{only, path}
 use Rattle.query_relaxing.specs.Ready.{stateOf}
-use Rattle.query_questions.specs.Queries.{graphIn, weightsIn, scratchLong}
-use Rattle.query_questions.specs.Scratch.{ScratchColumns, scratchOf, isFree, SearchLeft}
+use Rattle.query_questions.specs.Queries.{graphIn, weightsIn}
+use Rattle.query_questions.specs.Scratch.{ScratchColumns, scratchOf, isFree, SearchLeft, scratchIn, scratchLengths, scratchFits}
 use Rattle.query_search.specs.Search.{Settles}
 use Rattle.query_search.proofs.Asked.{ScratchLong, scratch-of}
 use Rattle.query_search.proofs.Scratch.{scratch-free, scratch-kept}
@@ -28,10 +28,10 @@ use Rattle.query_paths.proofs.get_path.Statement.{statement}
 use Rattle.query_paths.proofs.get_path.Tie as tie
 
 engine-of : tie.Start → Engine
-engine-of s = engine (s .args .c) (s .args .ends-a .now) (s .args .ends-b .now) (s .args .weights .now) (s .args .boundary .now) (s .args .log-edges .now) (s .args .log-weights .now)
+engine-of s = engineIn (s .args .c) (s .args .ends-a) (s .args .ends-b) (s .args .weights) (s .args .boundary) (s .args .log-edges) (s .args .log-weights)
 
 scratch-at : tie.Start → Bool
-scratch-at s = scratchLong (s .args .c .vertices) (s .args .c .edges) (length (s .args .numbers .now)) (length (s .args .list-ends .now)) (length (s .args .status .now)) (length (s .args .weight .now)) (length (s .args .previous .now)) (length (s .args .node .now)) (length (s .args .leaf .now))
+scratch-at s = scratchFits (engine-of s) (scratchIn (s .args .numbers) (s .args .list-ends) (s .args .status) (s .args .weight) (s .args .previous) (s .args .node) (s .args .leaf))
 
 number-at : tie.Start → ℕ
 unfolding engine-of scratch-at
@@ -41,9 +41,9 @@ asked-at : (s : tie.Start) → number-at s ≡ 0 → PathAsked (engine-of s) (sc
 unfolding number-at
 asked-at s z = path-asked (engine-of s) (scratch-at s) (s .args .a .0) (s .args .b .0) _ _ z
 
-fits : (s : tie.Start) → number-at s ≡ 0 → ScratchLong (s .args .c .vertices) (s .args .c .edges) (length (s .args .numbers .now)) (length (s .args .list-ends .now)) (length (s .args .status .now)) (length (s .args .weight .now)) (length (s .args .previous .now)) (length (s .args .node .now)) (length (s .args .leaf .now))
-unfolding scratch-at
-fits s z = scratch-of _ _ _ _ _ _ _ _ _ (asked-at s z .scratch-is)
+fits : (s : tie.Start) → number-at s ≡ 0 → ScratchLong (s .args .c .vertices) (s .args .c .edges) (scratchLengths (scratchIn (s .args .numbers) (s .args .list-ends) (s .args .status) (s .args .weight) (s .args .previous) (s .args .node) (s .args .leaf)))
+unfolding scratch-at engine-of
+fits s z = scratch-of _ _ _ (asked-at s z .scratch-is)
 
 number-is : (c : tie.After-query-refusal) → c .query-refusal .result ≡ number-at (c .before .before .before .before .before .before .before .before .before .before .before .before .before .before .before .before .before .before .before .before .before .before .before .before .before .before .before .before .before .before)
 unfolding number-at engine-of scratch-at
@@ -59,7 +59,7 @@ unfolding engine-of
 state-at s = settled (graphIn (engine-of s)) (weightsIn (engine-of s)) (only (s .args .a .0)) (some (s .args .b .0))
 
 before-it : tie.Start → ScratchColumns
-before-it s = scratchOf (s .args .numbers .now) (s .args .list-ends .now) (s .args .status .now) (s .args .weight .now) (s .args .previous .now) (s .args .node .now) (s .args .leaf .now)
+before-it s = scratchIn (s .args .numbers) (s .args .list-ends) (s .args .status) (s .args .weight) (s .args .previous) (s .args .node) (s .args .leaf)
 
 after-it : tie.After-search → ScratchColumns
 after-it c = let l = c .search .last .1 .1 .1 .1 .1 .1 in scratchOf (l .0) (l .1 .0) (l .1 .1 .0) (l .1 .1 .1 .0) (l .1 .1 .1 .1 .0) (l .1 .1 .1 .1 .1 .0) (l .1 .1 .1 .1 .1 .1 .0)
@@ -151,14 +151,13 @@ returns c =
     let r = c .before .before .before .before .found-path .result in
     let q = path-is (c .before .before .before .before .before .before .before .before .before .before .before .before .before .before .before .before .before .before .before .before .before .before .before .before) in
     let p = path (graphIn (engine-of s)) (weightsIn (engine-of s)) (s .args .a .0) (s .args .b .0) in
-    let f : PathSaid 0 p r = subst (λ x. PathSaid 0 x r) q (o .0) in (
-      record {
-        answer = subst (λ k. PathSaid k p r) (sym z) f;
-        vertices-after = o .1 .0 ∙ ap (λ x. verticesAfter x (s .args .out-vertices .now)) q ∙ sym (ap (λ k. cond (eqb k 0) (verticesAfter p (s .args .out-vertices .now)) (s .args .out-vertices .now)) z);
-        steps-after = o .1 .1 ∙ ap (λ x. stepsAfter x (s .args .out-steps .now)) q ∙ sym (ap (λ k. cond (eqb k 0) (stepsAfter p (s .args .out-steps .now)) (s .args .out-steps .now)) z);
-      },
-      scratch-free _ (graphIn (engine-of s)) (state-at s) (before-it s) _ (ap isFree (f .number-is) ∙ free-number p) (left (c .before .before .before .before .before .before .before .before .before .before .before .before .before .before .before .before .before .before .before .before .before .before .before .before)),
-    )
+    let f : PathSaid 0 p r = subst (λ x. PathSaid 0 x r) q (o .0) in
+    record {
+      answers = subst (λ k. PathSaid k p r) (sym z) f;
+      vertices-after = o .1 .0 ∙ ap (λ x. verticesAfter x (s .args .out-vertices .now)) q ∙ sym (ap (λ k. cond (eqb k 0) (verticesAfter p (s .args .out-vertices .now)) (s .args .out-vertices .now)) z);
+      steps-after = o .1 .1 ∙ ap (λ x. stepsAfter x (s .args .out-steps .now)) q ∙ sym (ap (λ k. cond (eqb k 0) (stepsAfter p (s .args .out-steps .now)) (s .args .out-steps .now)) z);
+      scratch-after = scratch-free _ (graphIn (engine-of s)) (state-at s) (before-it s) _ (ap isFree (f .number-is) ∙ free-number p) (left (c .before .before .before .before .before .before .before .before .before .before .before .before .before .before .before .before .before .before .before .before .before .before .before .before));
+    }
 
 returns-2 : tie.Need-returns-2
 unfolding number-at engine-of scratch-at state-at before-it
@@ -166,14 +165,13 @@ returns-2 c =
     let s : tie.Start = c .before .before .before .before .before .before .before .before .before .before .before .before .before .before .before .before .before .before .before .before .before .before .before .before .before .before .before .before .before .before .before in
     let d : c .before .query-refusal .result ≡ number-at s = number-is (c .before) in
     let f : number-at s ≡ 0 → ⊥ = λ e. c .if1 .left (d ∙ e) in
-    let p = path (graphIn (engine-of s)) (weightsIn (engine-of s)) (s .args .a .0) (s .args .b .0) in (
-      record {
-        answer = reply-no (number-at s) (c .before .query-refusal .result) p d (c .if1 .left);
-        vertices-after = sym (ap (λ k. cond k (verticesAfter p (s .args .out-vertices .now)) (s .args .out-vertices .now)) (ne-eqb (number-at s) 0 f));
-        steps-after = sym (ap (λ k. cond k (stepsAfter p (s .args .out-steps .now)) (s .args .out-steps .now)) (ne-eqb (number-at s) 0 f));
-      },
-      scratch-kept _ (graphIn (engine-of s)) (state-at s) (before-it s) (ap isFree d ∙ kept-number (engine-of s) (scratch-at s) (s .args .a .0) (s .args .b .0) _ _ f),
-    )
+    let p = path (graphIn (engine-of s)) (weightsIn (engine-of s)) (s .args .a .0) (s .args .b .0) in
+    record {
+      answers = reply-no (number-at s) (c .before .query-refusal .result) p d (c .if1 .left);
+      vertices-after = sym (ap (λ k. cond k (verticesAfter p (s .args .out-vertices .now)) (s .args .out-vertices .now)) (ne-eqb (number-at s) 0 f));
+      steps-after = sym (ap (λ k. cond k (stepsAfter p (s .args .out-steps .now)) (s .args .out-steps .now)) (ne-eqb (number-at s) 0 f));
+      scratch-after = scratch-kept _ (graphIn (engine-of s)) (state-at s) (before-it s) (ap isFree d ∙ kept-number (engine-of s) (scratch-at s) (s .args .a .0) (s .args .b .0) _ _ f);
+    }
 
 pub get-path-spec : {M : Type 1} → statement M
 get-path-spec = tie.close (tie.spec (λ c. search needs) (λ c κs. tt) (λ c κs. tt) (λ c κs. tt) (λ c κs. tt) (λ c κs. tt) (λ c κs. tt) (λ c κs. tt) (λ c κs. tt) search-requires slice-reshare-prefix-found-path slice-aggregate-found-path slice-reshare-prefix-found-path-2 slice-aggregate-found-path-2 slice-reshare-prefix-found-path-3 slice-aggregate-found-path-3 found-path-requires (λ c. search needs) (λ c. search needs) (λ c. search needs) (λ c. search needs) (λ c. search needs) (λ c. search needs) (λ c. search needs) (λ c. search needs) (λ c. search needs) returns returns-2)

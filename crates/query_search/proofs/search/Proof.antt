@@ -1,13 +1,10 @@
 -- `query_search::search` meets its contract: columns are cut to their counts here. Assumes nothing.
 use mathlib.Core.Path.{sym, _∙_, subst}
-use mathlib.Core.List.{[]}
-use Prim.Native.Nat.{ℕ, _<_, _≤_}
-use lib.ListN.{length}
 use lib.Seq.{length-take-le}
-use Rattle.engine_columns.specs.Records.{engine}
+use Rattle.engine_columns.specs.Records.{engineWithoutLog}
 use Rattle.engine_columns.proofs.Refusals.{ColumnsLong, columns-long-of, columns-sound-of}
 use Rattle.query_questions.specs.Queries.{graphIn, weightsIn}
-use Rattle.query_questions.specs.Scratch.{scratchOf}
+use Rattle.query_questions.specs.Scratch.{scratchIn, scratchLengths}
 use Rattle.query_search.specs.Search.{Starts, stateFrom}
 use Rattle.query_search.proofs.Asked.{ScratchLong, scratch-of, searchable}
 use Rattle.query_search.proofs.Scratch.{searched-as, search-left}
@@ -18,8 +15,8 @@ use Rattle.query_search.proofs.search.Tie as tie
 long : (s : tie.Start) → ColumnsLong (s .args .c .vertices) (s .args .c .edges) (s .args .ends-a .now) (s .args .ends-b .now) (s .args .weights .now) (s .args .boundary .now)
 long s = columns-long-of _ _ _ _ _ _ (s .pre .0 .0)
 
-fits : (s : tie.Start) → ScratchLong (s .args .c .vertices) (s .args .c .edges) (length (s .args .numbers .now)) (length (s .args .list-ends .now)) (length (s .args .status .now)) (length (s .args .weight .now)) (length (s .args .previous .now)) (length (s .args .node .now)) (length (s .args .leaf .now))
-fits s = scratch-of _ _ _ _ _ _ _ _ _ (s .pre .1 .0)
+fits : (s : tie.Start) → ScratchLong (s .args .c .vertices) (s .args .c .edges) (scratchLengths (scratchIn (s .args .numbers) (s .args .list-ends) (s .args .status) (s .args .weight) (s .args .previous) (s .args .node) (s .args .leaf)))
+fits s = scratch-of _ _ _ (s .pre .1 .0)
 
 slice-aggregate-search-cut : tie.Need-slice-aggregate-search-cut
 slice-aggregate-search-cut c = let s : tie.Start = c .before .before .before .before .before .before .before .before .before .before .before .before .before .before in sym (length-take-le (s .args .c .edges) (s .args .ends-a .now) (long s .endsA))
@@ -83,10 +80,10 @@ returns : tie.Need-returns
 returns c =
     let s : tie.Start = c .before .before .before .before .before .before .before .before .before .before .before .before .before .before .before .before .before .before .before .before .before .before .before .before .before .before .before .before .before .before .before .before .before .before .before .before .before .before .before in
     let v = s .args .c .vertices in
-    let e = engine (s .args .c) (s .args .ends-a .now) (s .args .ends-b .now) (s .args .weights .now) (s .args .boundary .now) [] [] in
+    let e = engineWithoutLog (s .args .c) (s .args .ends-a) (s .args .ends-b) (s .args .weights) (s .args .boundary) in
     let found = searched-as (s .args .origin) (weightsIn e) (length-take-le v (s .args .status .now) (fits s .status-long)) (c .before .before .before .before .before .before .before .before .before .before .before .before .before .before .search-cut .ensures) in (
       search-left (graphIn e) (stateFrom (s .args .origin) (graphIn e) (weightsIn e))
-          (scratchOf (s .args .numbers .now) (s .args .list-ends .now) (s .args .status .now) (s .args .weight .now) (s .args .previous .now) (s .args .node .now) (s .args .leaf .now))
+          (scratchIn (s .args .numbers) (s .args .list-ends) (s .args .status) (s .args .weight) (s .args .previous) (s .args .node) (s .args .leaf))
           (c .before .before .before .before .before .before .before .before .before .before .before .before .before .before .search-cut .kept .1 .1 .1 .1 .1 .1 .1 .0 ∙ length-take-le v (s .args .list-ends .now) (fits s .ends-long))
           (c .before .before .before .before .before .before .before .before .before .before .before .before .before .before .search-cut .kept .1 .1 .1 .1 .1 .1 .1 .1 .1 .1 .1 .0 ∙ length-take-le v (s .args .node .now) (fits s .node-long)) found,
       record { few = found .ready .few; status-fits = found .ready .status-fits; weight-fits = found .ready .weight-fits; previous-fits = found .ready .previous-fits; light = found .ready .light },

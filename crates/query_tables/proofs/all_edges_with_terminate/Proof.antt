@@ -1,6 +1,6 @@
 -- `query_tables::all_edges_with_terminate` meets its contract. Assumes nothing.
 use mathlib.Core.Path.{_≡_, refl, sym, ap, _∙_, subst}
-use Prim.Native.Nat.{ℕ, zero, suc, _+_, _*_, _<_, _≤_}
+use Prim.Native.Nat.{ℕ, _≤_}
 use native.Mathlib.Omega.{arith}
 use mathlib.Core.Bool.{Bool}
 use lib.ListN.{length, take}
@@ -8,13 +8,13 @@ use lib.Seq.{sets, length-take-le}
 use Rattle.columns.specs.Lists.{each}
 use Rattle.columns.proofs.Columns.{sets-over, after-accepted, after-refused}
 use Rattle.columns_answers.proofs.Said.{accepts-of, refuses-of}
-use Rattle.engine_columns.specs.Records.{Engine, engine}
+use Rattle.engine_columns.specs.Records.{Engine, engineIn}
 use Rattle.engine_columns.proofs.Refusals.{columns-long-from, columns-sound-from}
 use Rattle.engine_walks.specs.Settling.{State, settled}
 use Rattle.engine_walks.specs.Answers.{only, tableWeight, tablePrevious, table}
 use Rattle.query_relaxing.specs.Ready.{endOf}
-use Rattle.query_questions.specs.Queries.{graphIn, weightsIn, scratchLong}
-use Rattle.query_questions.specs.Scratch.{ScratchColumns, scratchOf, isFree, SearchLeft}
+use Rattle.query_questions.specs.Queries.{graphIn, weightsIn}
+use Rattle.query_questions.specs.Scratch.{ScratchColumns, scratchOf, isFree, SearchLeft, scratchIn, scratchLengths, scratchFits}
 use Rattle.query_search.specs.Search.{Settles}
 use Rattle.query_search.proofs.Asked.{ScratchLong, scratch-of}
 use Rattle.query_search.proofs.Scratch.{scratch-free, scratch-kept}
@@ -28,10 +28,10 @@ use Rattle.query_tables.proofs.all_edges_with_terminate.Statement.{stat
 use Rattle.query_tables.proofs.all_edges_with_terminate.Tie as tie
 
 engine-of : tie.Start → Engine
-engine-of s = engine (s .args .c) (s .args .ends-a .now) (s .args .ends-b .now) (s .args .weights .now) (s .args .boundary .now) (s .args .log-edges .now) (s .args .log-weights .now)
+engine-of s = engineIn (s .args .c) (s .args .ends-a) (s .args .ends-b) (s .args .weights) (s .args .boundary) (s .args .log-edges) (s .args .log-weights)
 
 scratch-at : tie.Start → Bool
-scratch-at s = scratchLong (s .args .c .vertices) (s .args .c .edges) (length (s .args .numbers .now)) (length (s .args .list-ends .now)) (length (s .args .status .now)) (length (s .args .weight .now)) (length (s .args .previous .now)) (length (s .args .node .now)) (length (s .args .leaf .now))
+scratch-at s = scratchFits (engine-of s) (scratchIn (s .args .numbers) (s .args .list-ends) (s .args .status) (s .args .weight) (s .args .previous) (s .args .node) (s .args .leaf))
 
 number-at : tie.Start → ℕ
 unfolding engine-of scratch-at
@@ -41,9 +41,9 @@ asked-at : (s : tie.Start) → number-at s ≡ 0 → TableAsked (engine-of s) (s
 unfolding number-at
 asked-at s z = table-of (engine-of s) (scratch-at s) (s .args .source .0) (s .args .end) _ _ z
 
-fits : (s : tie.Start) → number-at s ≡ 0 → ScratchLong (s .args .c .vertices) (s .args .c .edges) (length (s .args .numbers .now)) (length (s .args .list-ends .now)) (length (s .args .status .now)) (length (s .args .weight .now)) (length (s .args .previous .now)) (length (s .args .node .now)) (length (s .args .leaf .now))
-unfolding scratch-at
-fits s z = scratch-of _ _ _ _ _ _ _ _ _ (asked-at s z .scratch-is)
+fits : (s : tie.Start) → number-at s ≡ 0 → ScratchLong (s .args .c .vertices) (s .args .c .edges) (scratchLengths (scratchIn (s .args .numbers) (s .args .list-ends) (s .args .status) (s .args .weight) (s .args .previous) (s .args .node) (s .args .leaf)))
+unfolding scratch-at engine-of
+fits s z = scratch-of _ _ _ (asked-at s z .scratch-is)
 
 number-is : (c : tie.After-query-refusal) → c .query-refusal .result ≡ number-at (c .before .before .before .before .before .before .before .before .before .before .before .before .before .before .before .before .before .before .before .before .before .before .before .before .before)
 unfolding number-at engine-of scratch-at
@@ -59,7 +59,7 @@ unfolding engine-of
 state-at s = settled (graphIn (engine-of s)) (weightsIn (engine-of s)) (only (s .args .source .0)) (endIn (s .args .end))
 
 before-it : tie.Start → ScratchColumns
-before-it s = scratchOf (s .args .numbers .now) (s .args .list-ends .now) (s .args .status .now) (s .args .weight .now) (s .args .previous .now) (s .args .node .now) (s .args .leaf .now)
+before-it s = scratchIn (s .args .numbers) (s .args .list-ends) (s .args .status) (s .args .weight) (s .args .previous) (s .args .node) (s .args .leaf)
 
 after-it : tie.After-search → ScratchColumns
 after-it c = let l = c .search .last .1 .1 .1 .1 .1 .1 in scratchOf (l .0) (l .1 .0) (l .1 .1 .0) (l .1 .1 .1 .0) (l .1 .1 .1 .1 .0) (l .1 .1 .1 .1 .1 .0) (l .1 .1 .1 .1 .1 .1 .0)
@@ -166,30 +166,28 @@ returns c =
     let g = graphIn (engine-of s) in
     let w = weightsIn (engine-of s) in
     let src = s .args .source .0 in
-    let end = endIn (s .args .end) in (
-      record {
-        answer = accepts-of z;
-        weights-after = c .before .before .before .before .before .before .before .write-weights .ensures (take v (after-it (c .before .before .before .before .before .before .before .before .before .before .before .before .before .before .before .before .before .before .before .before .before .before .before .before .before) .previous)) ∙ (λ i. sets out 0 (each (status-length l o i) (tableWeight (state-read l o i))))
-            ∙ sets-over out (each v (tableWeight S)) (omega (arith, table-weights-length g w src end, k .weights-long)) ∙ sym (after-accepted (number-at s) (each v (tableWeight S)) out z);
-        previous-after = c .before .before .write-previous .ensures (take v (after-it (c .before .before .before .before .before .before .before .before .before .before .before .before .before .before .before .before .before .before .before .before .before .before .before .before .before) .weight)) ∙ (λ i. sets back 0 (each (status-length l o i) (tablePrevious (state-read l o i))))
-            ∙ sets-over back (each v (tablePrevious S)) (omega (arith, table-previous-length g w src end, k .previous-long)) ∙ sym (after-accepted (number-at s) (each v (tablePrevious S)) back z);
-      },
-      scratch-free 0 g S (before-it s) _ refl l,
-    )
+    let end = endIn (s .args .end) in
+    record {
+      answers = accepts-of z;
+      weights-after = c .before .before .before .before .before .before .before .write-weights .ensures (take v (after-it (c .before .before .before .before .before .before .before .before .before .before .before .before .before .before .before .before .before .before .before .before .before .before .before .before .before) .previous)) ∙ (λ i. sets out 0 (each (status-length l o i) (tableWeight (state-read l o i))))
+          ∙ sets-over out (each v (tableWeight S)) (omega (arith, table-weights-length g w src end, k .weights-long)) ∙ sym (after-accepted (number-at s) (each v (tableWeight S)) out z);
+      previous-after = c .before .before .write-previous .ensures (take v (after-it (c .before .before .before .before .before .before .before .before .before .before .before .before .before .before .before .before .before .before .before .before .before .before .before .before .before) .weight)) ∙ (λ i. sets back 0 (each (status-length l o i) (tablePrevious (state-read l o i))))
+          ∙ sets-over back (each v (tablePrevious S)) (omega (arith, table-previous-length g w src end, k .previous-long)) ∙ sym (after-accepted (number-at s) (each v (tablePrevious S)) back z);
+      scratch-after = scratch-free 0 g S (before-it s) _ refl l;
+    }
 
 returns-2 : tie.Need-returns-2
 unfolding number-at engine-of scratch-at state-at before-it
 returns-2 c =
     let s : tie.Start = c .before .before .before .before .before .before .before .before .before .before .before .before .before .before .before .before .before .before .before .before .before .before .before .before .before .before in
     let d : c .before .query-refusal .result ≡ number-at s = number-is (c .before) in
-    let f : number-at s ≡ 0 → ⊥ = λ e. c .if1 .left (d ∙ e) in (
-      record {
-        answer = refuses-of d (c .if1 .left);
-        weights-after = sym (after-refused (number-at s) (table (graphIn (engine-of s)) (weightsIn (engine-of s)) (s .args .source .0) (endIn (s .args .end)) .weights) (s .args .out-weight .now) f);
-        previous-after = sym (after-refused (number-at s) (table (graphIn (engine-of s)) (weightsIn (engine-of s)) (s .args .source .0) (endIn (s .args .end)) .previous) (s .args .out-previous .now) f);
-      },
-      scratch-kept _ (graphIn (engine-of s)) (state-at s) (before-it s) (ap isFree d ∙ kept-number (engine-of s) (scratch-at s) (s .args .source .0) (s .args .end) _ _ f),
-    )
+    let f : number-at s ≡ 0 → ⊥ = λ e. c .if1 .left (d ∙ e) in
+    record {
+      answers = refuses-of d (c .if1 .left);
+      weights-after = sym (after-refused (number-at s) (table (graphIn (engine-of s)) (weightsIn (engine-of s)) (s .args .source .0) (endIn (s .args .end)) .weights) (s .args .out-weight .now) f);
+      previous-after = sym (after-refused (number-at s) (table (graphIn (engine-of s)) (weightsIn (engine-of s)) (s .args .source .0) (endIn (s .args .end)) .previous) (s .args .out-previous .now) f);
+      scratch-after = scratch-kept _ (graphIn (engine-of s)) (state-at s) (before-it s) (ap isFree d ∙ kept-number (engine-of s) (scratch-at s) (s .args .source .0) (s .args .end) _ _ f);
+    }
 
 pub all-edges-with-terminate-spec : {M : Type 1} → statement M
 all-edges-with-terminate-spec = tie.close (tie.spec (λ c. search needs) (λ c κs. tt) (λ c κs. tt) (λ c κs. tt) (λ c κs. tt) (λ c κs. tt) (λ c κs. tt) (λ c κs. tt) (λ c κs. tt) (λ c κs. tt) search-requires slice-reshare-prefix-write-weights slice-aggregate-write-weights slice-reshare-prefix-write-weights-2 slice-aggregate-write-weights-2 write-weights-requires slice-reshare-prefix-write-previous slice-aggregate-write-previous slice-reshare-prefix-write-previous-2 slice-aggregate-write-previous-2 write-previous-requires (λ c. search needs) (λ c. search needs) (λ c. search needs) (λ c. search needs) (λ c. search needs) (λ c. search needs) (λ c. search needs) (λ c. search needs) (λ c. search needs) returns returns-2)

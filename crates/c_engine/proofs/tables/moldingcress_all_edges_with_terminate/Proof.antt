@@ -10,7 +10,7 @@ returns c =
     let k = c .before .before .before .before .before .before .before .before .before .before .before .before .before .before .before .before .before .before in
     record {
       answer = k .all-edges-with-terminate .result;
-      called = ended (k .before .before .before .before .before .before .before .before .before .before .end-of .ensures) (k .all-edges-with-terminate .ensures .0) (k .all-edges-with-terminate .ensures .1);
+      called = ended (k .before .before .before .before .before .before .before .before .before .before .end-of .ensures) (k .all-edges-with-terminate .ensures);
       reported = c .done-number .ensures;
     }
 

@@ -1,6 +1,6 @@
 -- `prebuilt_calls::boundaries::fill_one` meets its contract. Assumes nothing.
 use mathlib.Core.Path.{_≡_, sym, _∙_}
-use Prim.Native.Nat.{ℕ, _<_, _≤_}
+use Prim.Native.Nat.{ℕ}
 use native.Mathlib.Omega.{arith}
 use mathlib.Core.Bool.{Bool}
 use mathlib.Core.List.{List}
@@ -10,10 +10,10 @@ use lib.Seq.{length-take-le}
 use lib.IntN.{ℤ}
 use Rattle.columns.proofs.Columns.{after-accepted}
 use Rattle.columns_neighbors.proofs.Ends.{graph-says}
-use Rattle.engine_columns.specs.Records.{Engine, engine}
+use Rattle.engine_columns.specs.Records.{Engine, engineIn}
 use Rattle.engine_walks.specs.Answers.{table}
 use Rattle.query_tables.specs.declared.End.the-variants.{None}
-use Rattle.query_questions.specs.Queries.{graphIn, weightsIn, scratchLong}
+use Rattle.query_questions.specs.Queries.{graphIn, weightsIn}
 use Rattle.query_tables.specs.Tables.{tableRefusal}
 use Rattle.query_tables.proofs.Tables.{TableAsked, table-of}
 use Rattle.query_tables.proofs.Sources.{table-weights-length}
@@ -24,12 +24,13 @@ use Rattle.prebuilt_calls.proofs.Replies.{inside-of}
 use borrow.Author.Needs.{needs}
 use Rattle.prebuilt_calls.proofs.boundaries.fill_one.Statement.{statement}
 use Rattle.prebuilt_calls.proofs.boundaries.fill_one.Tie as tie
+use Rattle.query_questions.specs.Scratch.{scratchIn, scratchFits}
 
 engine-of : tie.Start → Engine
-engine-of s = engine (s .args .c) (s .args .ends-a .now) (s .args .ends-b .now) (s .args .weights .now) (s .args .boundary .now) (s .args .log-edges .now) (s .args .log-weights .now)
+engine-of s = engineIn (s .args .c) (s .args .ends-a) (s .args .ends-b) (s .args .weights) (s .args .boundary) (s .args .log-edges) (s .args .log-weights)
 
 scratch-at : tie.Start → Bool
-scratch-at s = scratchLong (s .args .c .vertices) (s .args .c .edges) (length (s .args .numbers .now)) (length (s .args .list-ends .now)) (length (s .args .status .now)) (length (s .args .weight .now)) (length (s .args .previous .now)) (length (s .args .node .now)) (length (s .args .leaf .now))
+scratch-at s = scratchFits (engine-of s) (scratchIn (s .args .numbers) (s .args .list-ends) (s .args .status) (s .args .weight) (s .args .previous) (s .args .node) (s .args .leaf))
 
 number-at : tie.Start → ℕ
 unfolding engine-of scratch-at
@@ -37,7 +38,7 @@ number-at s = tableRefusal (engine-of s) (scratch-at s) (s .args .v) None (lengt
 
 number-is : (s : tie.Start) → number-at s ≡ 0
 unfolding number-at engine-of scratch-at
-number-is s = search-accepted (engine-of s) _ _ _ _ _ _ _ _ _ _ _ (s .pre .0) (s .args .v) (s .pre .1)
+number-is s = search-accepted (engine-of s) _ _ _ _ _ (s .pre .0) (s .args .v) (s .pre .1)
 
 asked-at : (s : tie.Start) → TableAsked (engine-of s) (scratch-at s) (s .args .v) None (length (s .args .least .now)) (length (s .args .before .now))
 unfolding number-at
@@ -56,7 +57,7 @@ slice-reshare-prefix-store-boundary : tie.Need-slice-reshare-prefix-store-bounda
 unfolding number-at engine-of scratch-at table-at
 slice-reshare-prefix-store-boundary c = let s : tie.Start = c .before .before .before .before .before .before .before .before .before .before .before .before .before .before .before .before .before .before .before .before .before .before .before .before .before .before .before .before .before .before .before .before .before .before .before .before .before .before .before .before .before .before .before .before in
     let k = asked-at s in
-    let w = c .before .before .before .before .before .before .before .before .before .before .before .before .before .before .before .before .before .before .before .all-edges .ensures .0 .weights-after ∙ after-accepted (number-at s) (table-at s) (s .args .least .now) (number-is s) in
+    let w = c .before .before .before .before .before .before .before .before .before .before .before .before .before .before .before .before .before .before .before .all-edges .ensures .weights-after ∙ after-accepted (number-at s) (table-at s) (s .args .least .now) (number-is s) in
     let f = cut-fits (table-at s) (s .args .least .now) (s .args .c .vertices) w (table-weights-length (graphIn (engine-of s)) (weightsIn (engine-of s)) (s .args .v) none) (k .weights-long) in
     f .0
 
@@ -64,7 +65,7 @@ slice-aggregate-store-boundary-2 : tie.Need-slice-aggregate-store-boundary-2
 unfolding number-at engine-of scratch-at table-at
 slice-aggregate-store-boundary-2 c = let s : tie.Start = c .before .before .before .before .before .before .before .before .before .before .before .before .before .before .before .before .before .before .before .before .before .before .before .before .before .before .before .before .before .before .before .before .before .before .before .before .before .before .before .before .before .before .before .before .before in
     let k = asked-at s in
-    let w = c .before .before .before .before .before .before .before .before .before .before .before .before .before .before .before .before .before .before .before .before .all-edges .ensures .0 .weights-after ∙ after-accepted (number-at s) (table-at s) (s .args .least .now) (number-is s) in
+    let w = c .before .before .before .before .before .before .before .before .before .before .before .before .before .before .before .before .before .before .before .before .all-edges .ensures .weights-after ∙ after-accepted (number-at s) (table-at s) (s .args .least .now) (number-is s) in
     let f = cut-fits (table-at s) (s .args .least .now) (s .args .c .vertices) w (table-weights-length (graphIn (engine-of s)) (weightsIn (engine-of s)) (s .args .v) none) (k .weights-long) in
     sym (f .1)
 
@@ -72,7 +73,7 @@ store-boundary-requires : tie.Need-store-boundary-requires
 unfolding number-at engine-of scratch-at table-at
 store-boundary-requires c κs = let s : tie.Start = c .before .before .before .before .before .before .before .before .before .before .before .before .before .before .before .before .before .before .before .before .before .before .before .before .before .before .before .before .before .before .before .before .before .before .before .before .before .before .before .before .before .before .before .before .before .before .before in
     let k = asked-at s in
-    let w = c .before .before .before .before .before .before .before .before .before .before .before .before .before .before .before .before .before .before .before .before .before .before .all-edges .ensures .0 .weights-after ∙ after-accepted (number-at s) (table-at s) (s .args .least .now) (number-is s) in
+    let w = c .before .before .before .before .before .before .before .before .before .before .before .before .before .before .before .before .before .before .before .before .before .before .all-edges .ensures .weights-after ∙ after-accepted (number-at s) (table-at s) (s .args .least .now) (number-is s) in
     let f = cut-fits (table-at s) (s .args .least .now) (s .args .c .vertices) w (table-weights-length (graphIn (engine-of s)) (weightsIn (engine-of s)) (s .args .v) none) (k .weights-long) in
     let lb = length-take-le (s .args .c .vertices) (s .args .boundary .now) (k .long .columns .boundary) in
     let few = graph-says (s .args .c .vertices) (s .args .c .edges) (s .args .ends-a .now) (s .args .ends-b .now) (k .sound .columns .graph) .few-vertices in
@@ -82,14 +83,14 @@ returns : tie.Need-returns
 unfolding number-at engine-of scratch-at table-at
 returns c = let s : tie.Start = c .before .before .before .before .before .before .before .before .before .before .before .before .before .before .before .before .before .before .before .before .before .before .before .before .before .before .before .before .before .before .before .before .before .before .before .before .before .before .before .before .before .before .before .before .before .before .before .before .before .before .before in
     let k = asked-at s in
-    let w = c .before .before .before .before .before .before .before .before .before .before .before .before .before .before .before .before .before .before .before .before .before .before .before .before .before .before .all-edges .ensures .0 .weights-after ∙ after-accepted (number-at s) (table-at s) (s .args .least .now) (number-is s) in
+    let w = c .before .before .before .before .before .before .before .before .before .before .before .before .before .before .before .before .before .before .before .before .before .before .before .before .before .before .all-edges .ensures .weights-after ∙ after-accepted (number-at s) (table-at s) (s .args .least .now) (number-is s) in
     let f = cut-fits (table-at s) (s .args .least .now) (s .args .c .vertices) w (table-weights-length (graphIn (engine-of s)) (weightsIn (engine-of s)) (s .args .v) none) (k .weights-long) in
     let m = take (s .args .c .vertices) (s .args .boundary .now) in
     let o = c .before .before .before .store-boundary .ensures in (
       o .0 ∙ (λ i. set (s .args .out-weight .now) (s .args .v) (weightTo (f .2 i) (boundaryIn m (f .2 i) (f .1 i) (s .args .v)))),
       (
         o .1 ∙ (λ i. set (s .args .out-vertex .now) (s .args .v) (vertexTo (boundaryIn m (f .2 i) (f .1 i) (s .args .v)))),
-        inside-of 0 (c .before .before .before .before .before .before .before .before .before .before .before .before .before .before .before .before .before .before .before .before .before .before .before .before .before .before .all-edges .ensures .0) (c .before .before .before .before .before .before .before .before .before .before .before .before .before .before .before .before .before .before .before .before .before .before .before .before .before .before .all-edges .ensures .1) (c .before .before .before .before .before .before .before .before .before .before .before .before .before .before .before .before .before .before .before .before .before .before .before .before .before .before .all-edges .ensures .0 .answer .number-is ∙ number-is s),
+        inside-of 0 (c .before .before .before .before .before .before .before .before .before .before .before .before .before .before .before .before .before .before .before .before .before .before .before .before .before .before .all-edges .ensures) (c .before .before .before .before .before .before .before .before .before .before .before .before .before .before .before .before .before .before .before .before .before .before .before .before .before .before .all-edges .ensures .answers .number-is ∙ number-is s),
       ),
     )
 

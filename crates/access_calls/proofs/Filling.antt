@@ -18,32 +18,32 @@ use Rattle.columns_room.proofs.Refusals.{three-long}
 use Rattle.access_calls.specs.Fill.{Vertices, vertexColumnsLong, fillRefusal}
 
 pub record FillMet (v e : ℕ) (a b : List ℕ) (c : Vertices) : Type 0 where
-  pub i : v ≤ length (c .i)
-  pub j : v ≤ length (c .j)
-  pub t : v ≤ length (c .t)
+  pub posI : v ≤ length (c .posI)
+  pub posJ : v ≤ length (c .posJ)
+  pub posT : v ≤ length (c .posT)
   pub boundary : v ≤ length (c .boundary)
   pub defect : v ≤ length (c .defect)
-  pub lengths : v ≤ length (c .lengths)
-  pub numbers : 2 * e ≤ length (c .numbers)
+  pub listLengths : v ≤ length (c .listLengths)
+  pub neighborNumbers : 2 * e ≤ length (c .neighborNumbers)
   pub sound : SoundGraph v e a b
 
 pub fill-met : (v e : ℕ) (a b : List ℕ) (c : Vertices) → fillRefusal v e a b c ≡ 0 → FillMet v e a b c
 unfolding vertexColumnsLong edgeColumnsLong
 fill-met v e a b c z =
-    let six = vertexColumnsLong v c && edgeColumnsLong e a b (c .numbers) in
-    let (p, q) = and-both (vertexColumnsLong v c) (edgeColumnsLong e a b (c .numbers)) (met six 5 _ z) in
-    let (r, s) = and-both (threeLong v (length (c .i)) (length (c .j)) (length (c .t))) _ p in
+    let six = vertexColumnsLong v c && edgeColumnsLong e a b (c .neighborNumbers) in
+    let (p, q) = and-both (vertexColumnsLong v c) (edgeColumnsLong e a b (c .neighborNumbers)) (met six 5 _ z) in
+    let (r, s) = and-both (threeLong v (length (c .posI)) (length (c .posJ)) (length (c .posT))) _ p in
     let (i, j, t) = three-long v _ _ _ r in
     let (m, d, l) = three-long v _ _ _ s in
     let (ends, n) = and-both (twoLong e (length a) (length b)) _ q in
     record {
-      i = i;
-      j = j;
-      t = t;
+      posI = i;
+      posJ = j;
+      posT = t;
       boundary = m;
       defect = d;
-      lengths = l;
-      numbers = leb-true _ _ n;
+      listLengths = l;
+      neighborNumbers = leb-true _ _ n;
       sound = graph-says v e a b (met (graphSound v e a b) 6 0 (goes-on six 5 _ z));
     }
 

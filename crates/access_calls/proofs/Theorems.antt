@@ -44,13 +44,13 @@ listed-marks n list column =
 
 -- what a getter hands back where a setter's list was named
 pub record ListsNames (n : ℕ) (list room out : List ℕ) (count : ℕ) : Type 0 where
-  pub left : out ≡ over (chosen n (names list)) room
+  pub out-is : out ≡ over (chosen n (names list)) room
   pub count-is : count ≡ length (chosen n (names list))
 
 got : (n q count : ℕ) (list before column room out : List ℕ) → column ≡ over (marks n list) before → q ≡ 0 → out ≡ over (listed n column) room → count ≡ length (listed n column) → ListsNames n list room out count
 got n q count list before column room out s z o c =
     let is : listed n column ≡ chosen n (names list) = ap (listed n) s ∙ listed-marks n list before in
-    record { left = o ∙ ap (λ (xs : List ℕ). over xs room) is; count-is = c ∙ ap length is }
+    record { out-is = o ∙ ap (λ (xs : List ℕ). over xs room) is; count-is = c ∙ ap length is }
 
 -- get_defect_vertices after set_defect_vertices, get_erasures after set_erasures
 pub set-then-get : {sound : Bool} {n : ℕ} {list before column room out : List ℕ} {count : ℕ}
@@ -59,8 +59,8 @@ set-then-get {sound} {n} {list} {before} {column} {room} {out} {count} s g =
     let zs = zero-of (s .answers) in
     let zg = zero-of (g .answers) in
     got n (getMarksRefusal sound n column room) count list before column room out
-    (s .left ∙ after-accepted (setMarksRefusal sound n list before) (marks n list) before zs) zg
-    (g .left ∙ after-accepted (getMarksRefusal sound n column room) (listed n column) room zg) (values-of (g .answers) zg)
+    (s .column-after ∙ after-accepted (setMarksRefusal sound n list before) (marks n list) before zs) zg
+    (g .list-after ∙ after-accepted (getMarksRefusal sound n column room) (listed n column) room zg) (values-of (g .answers) zg)
 
 -- get_syndrome after set_syndrome
 pub set-then-get-syndrome : {v e : ℕ} {lists before column room out : Syndrome} {defects erasures : ℕ}

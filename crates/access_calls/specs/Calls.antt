@@ -74,7 +74,7 @@ setMarksRefusal sound n list column = ask (leb n (length column)) 6 (ask sound 7
 -- Taken over, the trait `ExampleCode`: the bytes that the list names are 1, the others 0; the answer, and the column afterwards.
 pub record SetMarks (sound : Bool) (n : ℕ) (list column₀ column : List ℕ) (answer : Done) : Type 0 where
   pub answers : Answered (doneSaid answer) (setMarksRefusal sound n list column₀) tt tt
-  pub left : column ≡ after (setMarksRefusal sound n list column₀) (marks n list) column₀
+  pub column-after : column ≡ after (setMarksRefusal sound n list column₀) (marks n list) column₀
 
 -- ---- set_syndrome: both, each question of both before the next
 
@@ -113,7 +113,7 @@ getMarksRefusal sound n column list = ask (twoLong n (length column) (length lis
 -- Sampling, syndromes, reordering, paragraph 2, sentence 4: the list of defects or erasures ascends; the answer is how many there are.
 pub record GotMarks (sound : Bool) (n : ℕ) (column list₀ list : List ℕ) (answer : ListCount) : Type 0 where
   pub answers : Answered (listSaid answer) (getMarksRefusal sound n column list₀) (length (listed n column)) 0
-  pub left : list ≡ after (getMarksRefusal sound n column list₀) (listed n column) list₀
+  pub list-after : list ≡ after (getMarksRefusal sound n column list₀) (listed n column) list₀
 
 -- ---- get_syndrome: both, each question of both before the next
 

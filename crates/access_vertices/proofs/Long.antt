@@ -9,7 +9,7 @@ use Rattle.columns_room.proofs.Refusals.{three-long}
 use Rattle.access_vertices.specs.Positions.{Positions, positionsLong, positionsRefusal}
 
 pub positions-long : (v : ℕ) (from to : Positions) → positionsRefusal v from to ≡ 0
-    → ((v ≤ length (from .i)) × (v ≤ length (from .j)) × (v ≤ length (from .t))) × ((v ≤ length (to .i)) × (v ≤ length (to .j)) × (v ≤ length (to .t)))
+    → ((v ≤ length (from .posI)) × (v ≤ length (from .posJ)) × (v ≤ length (from .posT))) × ((v ≤ length (to .posI)) × (v ≤ length (to .posJ)) × (v ≤ length (to .posT)))
 positions-long v from to z =
     let (p, q) = and-both (positionsLong v from) (positionsLong v to) (met (positionsLong v from && positionsLong v to) 5 _ z) in
     (three-long v _ _ _ p, three-long v _ _ _ q)

@@ -14,17 +14,17 @@ use Rattle.columns_room.specs.Room.{threeLong}
 
 -- Records, on vertices: the three columns of positions.
 pub record Positions : Type 0 where
-  pub i : List Float
-  pub j : List Float
-  pub t : List Float
+  pub posI : List Float
+  pub posJ : List Float
+  pub posT : List Float
 
 -- Records, on vertices: the three columns together.
 abbrev pub positions : List Float → List Float → List Float → Positions
-positions i j t = record { i = i; j = j; t = t }
+positions i j t = record { posI = i; posJ = j; posT = t }
 
 -- Questions at the door, 6: positions as long as the vertices.
 abbrev pub positionsLong : ℕ → Positions → Bool
-positionsLong v p = threeLong v (length (p .i)) (length (p .j)) (length (p .t))
+positionsLong v p = threeLong v (length (p .posI)) (length (p .posJ)) (length (p .posT))
 
 -- Questions at the door, 6 and 7, in order, of `get_positions`; 7 asks the count alone.
 abbrev pub positionsRefusal : ℕ → Positions → Positions → ℕ
@@ -33,6 +33,6 @@ positionsRefusal v from to = ask (positionsLong v from && positionsLong v to) 6 
 -- Taken over, the trait `ExampleCode`: the position of every vertex is copied; the answer, and the columns that it copies into afterwards.
 pub record GotPositions (v : ℕ) (from to₀ to : Positions) (answer : Done) : Type 0 where
   pub answers : Answered (doneSaid answer) (positionsRefusal v from to₀) tt tt
-  pub i-after : to .i ≡ after (positionsRefusal v from to₀) (take v (from .i)) (to₀ .i)
-  pub j-after : to .j ≡ after (positionsRefusal v from to₀) (take v (from .j)) (to₀ .j)
-  pub t-after : to .t ≡ after (positionsRefusal v from to₀) (take v (from .t)) (to₀ .t)
+  pub posI-after : to .posI ≡ after (positionsRefusal v from to₀) (take v (from .posI)) (to₀ .posI)
+  pub posJ-after : to .posJ ≡ after (positionsRefusal v from to₀) (take v (from .posJ)) (to₀ .posJ)
+  pub posT-after : to .posT ≡ after (positionsRefusal v from to₀) (take v (from .posT)) (to₀ .posT)

@@ -1,8 +1,8 @@
 ghost use Rattle.c_reports.specs.Reports.{Reported};
 ghost use Rattle.c_reports.specs.Engine.{ReportsEngine};
-ghost use Rattle.engine_columns.specs.Open.{OpenStep, graphColumns};
+ghost use Rattle.engine_columns.specs.Open.{Opened, graphColumns};
 ghost use Rattle.engine_columns.specs.Records.{kept, counts, engineIn};
-ghost use Rattle.engine_columns.specs.Step.{Step, loadErasures, loadWeights, reset};
+ghost use Rattle.engine_columns.specs.Step.{Modified, loadErasures, loadWeights, reset};
 use c_reports::engine::EngineReport;
 use c_reports::engine::engine_report;
 use columns::Weight;
@@ -22,7 +22,7 @@ pub extern "C" fn moldingcress_open(
     weights: &mut [Weight],
     boundary: &mut [u8],
 ) -> EngineReport
-    ensures { λ q. ⌜ Reported ReportsEngine (λ r. OpenStep vertices edges
+    ensures { λ q. ⌜ Reported ReportsEngine (λ r. Opened vertices edges
         (graphColumns (now («in_a» .entry)) (now («in_b» .entry)) (now («in_weights» .entry)) (now («in_boundary» .entry)))
         (graphColumns (now («ends_a» .entry)) (now («ends_b» .entry)) (now (weights .entry)) (now (boundary .entry)))
         r
@@ -56,7 +56,7 @@ pub extern "C" fn moldingcress_load_erasures(
     log_weights: &mut [Weight],
     list: &[u32],
 ) -> EngineReport
-    ensures { λ q. ⌜ Reported ReportsEngine (λ r. Step (loadErasures (now (list .entry)))
+    ensures { λ q. ⌜ Reported ReportsEngine (λ r. Modified (loadErasures (now (list .entry)))
         (engineIn (counts vertices edges entries) («ends_a» .entry) («ends_b» .entry) (weights .entry) (boundary .entry) («log_edges» .entry) («log_weights» .entry))
         r
         (engineIn (kept (counts vertices edges entries) r) («ends_a» .entry) («ends_b» .entry) (weights .exit) (boundary .entry) («log_edges» .exit) («log_weights» .exit))) q ⌝ }
@@ -92,7 +92,7 @@ pub extern "C" fn moldingcress_load_dynamic_weights(
     list: &[u32],
     values: &[Weight],
 ) -> EngineReport
-    ensures { λ q. ⌜ Reported ReportsEngine (λ r. Step (loadWeights (now (list .entry)) (now (values .entry)))
+    ensures { λ q. ⌜ Reported ReportsEngine (λ r. Modified (loadWeights (now (list .entry)) (now (values .entry)))
         (engineIn (counts vertices edges entries) («ends_a» .entry) («ends_b» .entry) (weights .entry) (boundary .entry) («log_edges» .entry) («log_weights» .entry))
         r
         (engineIn (kept (counts vertices edges entries) r) («ends_a» .entry) («ends_b» .entry) (weights .exit) (boundary .entry) («log_edges» .exit) («log_weights» .exit))) q ⌝ }
@@ -127,7 +127,7 @@ pub extern "C" fn moldingcress_reset(
     log_edges: &[u32],
     log_weights: &[Weight],
 ) -> EngineReport
-    ensures { λ q. ⌜ Reported ReportsEngine (λ r. Step reset
+    ensures { λ q. ⌜ Reported ReportsEngine (λ r. Modified reset
         (engineIn (counts vertices edges entries) («ends_a» .entry) («ends_b» .entry) (weights .entry) (boundary .entry) («log_edges» .entry) («log_weights» .entry))
         r
         (engineIn (kept (counts vertices edges entries) r) («ends_a» .entry) («ends_b» .entry) (weights .exit) (boundary .entry) («log_edges» .entry) («log_weights» .entry))) q ⌝ }

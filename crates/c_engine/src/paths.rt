@@ -15,7 +15,7 @@ ghost use Rattle.c_reports.specs.Reports.{Reported};
 ghost use Rattle.c_engine.specs.QueryReports.{ReportsPath, ReportsCrossing};
 
 // The path of least weight from a to b: each vertex after a, up to b, with the weight of the step into it.
-// The columns from `numbers` on are scratch.
+// The columns from `neighbor_numbers` on are scratch.
 #[no_mangle]
 pub extern "C" fn moldingcress_get_path(
     vertices: u32,
@@ -31,7 +31,7 @@ pub extern "C" fn moldingcress_get_path(
     b: u32,
     out_vertices: &mut [u32],
     out_steps: &mut [Weight],
-    numbers: &mut [u32],
+    neighbor_numbers: &mut [u32],
     list_ends: &mut [u32],
     status: &mut [u8],
     weight: &mut [Weight],
@@ -41,8 +41,8 @@ pub extern "C" fn moldingcress_get_path(
 ) -> TwoCounts
     ensures { λ q. ⌜ Reported ReportsPath (λ r. GotPath (engineIn (counts vertices edges entries) («ends_a» .entry) («ends_b» .entry) (weights .entry) (boundary .entry) («log_edges» .entry) («log_weights» .entry)) a b r
         (now («out_vertices» .entry)) (now («out_vertices» .exit)) (now («out_steps» .entry)) (now («out_steps» .exit))
-        (scratchIn (numbers .entry) («list_ends» .entry) (status .entry) (weight .entry) (previous .entry) (node .entry) (leaf .entry))
-        (scratchIn (numbers .exit) («list_ends» .exit) (status .exit) (weight .exit) (previous .exit) (node .exit) (leaf .exit))) q ⌝ }
+        (scratchIn («neighbor_numbers» .entry) («list_ends» .entry) (status .entry) (weight .entry) (previous .entry) (node .entry) (leaf .entry))
+        (scratchIn («neighbor_numbers» .exit) («list_ends» .exit) (status .exit) (weight .exit) (previous .exit) (node .exit) (leaf .exit))) q ⌝ }
 {
     path_report(query_paths::get_path(
         EngineCounts {
@@ -60,7 +60,7 @@ pub extern "C" fn moldingcress_get_path(
         VertexIndex(b),
         out_vertices,
         out_steps,
-        numbers,
+        neighbor_numbers,
         list_ends,
         status,
         weight,
@@ -71,7 +71,7 @@ pub extern "C" fn moldingcress_get_path(
 }
 
 // The least weight of a walk from a left to a right vertex; the weight column then holds the least weight from the left, -1 for unreached.
-// The columns from `numbers` on are scratch.
+// The columns from `neighbor_numbers` on are scratch.
 #[no_mangle]
 pub extern "C" fn moldingcress_crossing(
     vertices: u32,
@@ -84,7 +84,7 @@ pub extern "C" fn moldingcress_crossing(
     log_edges: &[u32],
     log_weights: &[Weight],
     out_weight: &mut [i32],
-    numbers: &mut [u32],
+    neighbor_numbers: &mut [u32],
     list_ends: &mut [u32],
     status: &mut [u8],
     weight: &mut [Weight],
@@ -93,8 +93,8 @@ pub extern "C" fn moldingcress_crossing(
     leaf: &mut [u64],
 ) -> OneCount
     ensures { λ q. ⌜ Reported ReportsCrossing (λ r. FoundCrossing (engineIn (counts vertices edges entries) («ends_a» .entry) («ends_b» .entry) (weights .entry) (boundary .entry) («log_edges» .entry) («log_weights» .entry)) r (now («out_weight» .entry)) (now («out_weight» .exit))
-        (scratchIn (numbers .entry) («list_ends» .entry) (status .entry) (weight .entry) (previous .entry) (node .entry) (leaf .entry))
-        (scratchIn (numbers .exit) («list_ends» .exit) (status .exit) (weight .exit) (previous .exit) (node .exit) (leaf .exit))) q ⌝ }
+        (scratchIn («neighbor_numbers» .entry) («list_ends» .entry) (status .entry) (weight .entry) (previous .entry) (node .entry) (leaf .entry))
+        (scratchIn («neighbor_numbers» .exit) («list_ends» .exit) (status .exit) (weight .exit) (previous .exit) (node .exit) (leaf .exit))) q ⌝ }
 {
     crossing_report(query_crossings::crossing(
         EngineCounts {
@@ -109,7 +109,7 @@ pub extern "C" fn moldingcress_crossing(
         log_edges,
         log_weights,
         out_weight,
-        numbers,
+        neighbor_numbers,
         list_ends,
         status,
         weight,

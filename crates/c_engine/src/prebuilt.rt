@@ -32,7 +32,7 @@ pub extern "C" fn moldingcress_fill_row(
     nearest: &[i32],
     out: &mut [i32],
     before: &mut [u32],
-    numbers: &mut [u32],
+    neighbor_numbers: &mut [u32],
     list_ends: &mut [u32],
     status: &mut [u8],
     weight: &mut [Weight],
@@ -42,8 +42,8 @@ pub extern "C" fn moldingcress_fill_row(
 ) -> u32
     ensures { λ q. ⌜ Reported ReportsDone (λ r. FilledRow (engineIn (counts vertices edges entries) («ends_a» .entry) («ends_b» .entry) (weights .entry) (boundary .entry) («log_edges» .entry) («log_weights» .entry)) vertex (now (nearest .entry)) r
         (now (out .entry)) (now (out .exit)) (now (before .entry)) (now (before .exit))
-        (scratchIn (numbers .entry) («list_ends» .entry) (status .entry) (weight .entry) (previous .entry) (node .entry) (leaf .entry))
-        (scratchIn (numbers .exit) («list_ends» .exit) (status .exit) (weight .exit) (previous .exit) (node .exit) (leaf .exit))) q ⌝ }
+        (scratchIn («neighbor_numbers» .entry) («list_ends» .entry) (status .entry) (weight .entry) (previous .entry) (node .entry) (leaf .entry))
+        (scratchIn («neighbor_numbers» .exit) («list_ends» .exit) (status .exit) (weight .exit) (previous .exit) (node .exit) (leaf .exit))) q ⌝ }
 {
     done_number(prebuilt_calls::fill_row(
         EngineCounts {
@@ -61,7 +61,7 @@ pub extern "C" fn moldingcress_fill_row(
         nearest,
         out,
         before,
-        numbers,
+        neighbor_numbers,
         list_ends,
         status,
         weight,
@@ -86,7 +86,7 @@ pub extern "C" fn moldingcress_get_boundary_weight(
     vertex: u32,
     least: &mut [i32],
     before: &mut [u32],
-    numbers: &mut [u32],
+    neighbor_numbers: &mut [u32],
     list_ends: &mut [u32],
     status: &mut [u8],
     weight: &mut [Weight],
@@ -96,8 +96,8 @@ pub extern "C" fn moldingcress_get_boundary_weight(
 ) -> BoundaryReport
     ensures { λ q. ⌜ Reported ReportsBoundary (λ r. GotBoundaryWeight (engineIn (counts vertices edges entries) («ends_a» .entry) («ends_b» .entry) (weights .entry) (boundary .entry) («log_edges» .entry) («log_weights» .entry)) vertex r
         (now (least .entry)) (now (least .exit)) (now (before .entry)) (now (before .exit))
-        (scratchIn (numbers .entry) («list_ends» .entry) (status .entry) (weight .entry) (previous .entry) (node .entry) (leaf .entry))
-        (scratchIn (numbers .exit) («list_ends» .exit) (status .exit) (weight .exit) (previous .exit) (node .exit) (leaf .exit))) q ⌝ }
+        (scratchIn («neighbor_numbers» .entry) («list_ends» .entry) (status .entry) (weight .entry) (previous .entry) (node .entry) (leaf .entry))
+        (scratchIn («neighbor_numbers» .exit) («list_ends» .exit) (status .exit) (weight .exit) (previous .exit) (node .exit) (leaf .exit))) q ⌝ }
 {
     boundary_report(prebuilt_calls::nearest::get_boundary_weight(
         EngineCounts {
@@ -114,7 +114,7 @@ pub extern "C" fn moldingcress_get_boundary_weight(
         VertexIndex(vertex),
         least,
         before,
-        numbers,
+        neighbor_numbers,
         list_ends,
         status,
         weight,
@@ -140,7 +140,7 @@ pub extern "C" fn moldingcress_fill_boundaries(
     out_vertex: &mut [u32],
     least: &mut [i32],
     before: &mut [u32],
-    numbers: &mut [u32],
+    neighbor_numbers: &mut [u32],
     list_ends: &mut [u32],
     status: &mut [u8],
     weight: &mut [Weight],
@@ -150,8 +150,8 @@ pub extern "C" fn moldingcress_fill_boundaries(
 ) -> u32
     ensures { λ q. ⌜ Reported ReportsDone (λ r. FilledBoundaries (engineIn (counts vertices edges entries) («ends_a» .entry) («ends_b» .entry) (weights .entry) (boundary .entry) («log_edges» .entry) («log_weights» .entry)) r
         (now («out_weight» .entry)) (now («out_weight» .exit)) (now («out_vertex» .entry)) (now («out_vertex» .exit)) (now (least .entry)) (now (least .exit)) (now (before .entry)) (now (before .exit))
-        (scratchIn (numbers .entry) («list_ends» .entry) (status .entry) (weight .entry) (previous .entry) (node .entry) (leaf .entry))
-        (scratchIn (numbers .exit) («list_ends» .exit) (status .exit) (weight .exit) (previous .exit) (node .exit) (leaf .exit))) q ⌝ }
+        (scratchIn («neighbor_numbers» .entry) («list_ends» .entry) (status .entry) (weight .entry) (previous .entry) (node .entry) (leaf .entry))
+        (scratchIn («neighbor_numbers» .exit) («list_ends» .exit) (status .exit) (weight .exit) (previous .exit) (node .exit) (leaf .exit))) q ⌝ }
 {
     done_number(prebuilt_calls::boundaries::fill_boundaries(
         EngineCounts {
@@ -169,7 +169,7 @@ pub extern "C" fn moldingcress_fill_boundaries(
         out_vertex,
         least,
         before,
-        numbers,
+        neighbor_numbers,
         list_ends,
         status,
         weight,

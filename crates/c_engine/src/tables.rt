@@ -11,7 +11,7 @@ use engine_columns::EngineCounts;
 
 // The least weight from the source and the previous vertex of every vertex, up to the named end: -1 and 0 where a vertex was not taken.
 // There is an end where `has_end` is not 0.
-// The columns from `numbers` on are scratch.
+// The columns from `neighbor_numbers` on are scratch.
 #[no_mangle]
 pub extern "C" fn moldingcress_all_edges_with_terminate(
     vertices: u32,
@@ -28,7 +28,7 @@ pub extern "C" fn moldingcress_all_edges_with_terminate(
     end: u32,
     out_weight: &mut [i32],
     out_previous: &mut [u32],
-    numbers: &mut [u32],
+    neighbor_numbers: &mut [u32],
     list_ends: &mut [u32],
     status: &mut [u8],
     weight: &mut [Weight],
@@ -38,8 +38,8 @@ pub extern "C" fn moldingcress_all_edges_with_terminate(
 ) -> u32
     ensures { λ q. ⌜ Reported ReportsDone (λ r. FoundTable (engineIn (counts vertices edges entries) («ends_a» .entry) («ends_b» .entry) (weights .entry) (boundary .entry) («log_edges» .entry) («log_weights» .entry)) source (givenEnd «has_end» end) r
         (now («out_weight» .entry)) (now («out_weight» .exit)) (now («out_previous» .entry)) (now («out_previous» .exit))
-        (scratchIn (numbers .entry) («list_ends» .entry) (status .entry) (weight .entry) (previous .entry) (node .entry) (leaf .entry))
-        (scratchIn (numbers .exit) («list_ends» .exit) (status .exit) (weight .exit) (previous .exit) (node .exit) (leaf .exit))) q ⌝ }
+        (scratchIn («neighbor_numbers» .entry) («list_ends» .entry) (status .entry) (weight .entry) (previous .entry) (node .entry) (leaf .entry))
+        (scratchIn («neighbor_numbers» .exit) («list_ends» .exit) (status .exit) (weight .exit) (previous .exit) (node .exit) (leaf .exit))) q ⌝ }
 {
     done_number(query_tables::all_edges_with_terminate(
         EngineCounts {
@@ -57,7 +57,7 @@ pub extern "C" fn moldingcress_all_edges_with_terminate(
         end_of(has_end, end),
         out_weight,
         out_previous,
-        numbers,
+        neighbor_numbers,
         list_ends,
         status,
         weight,
@@ -82,7 +82,7 @@ pub extern "C" fn moldingcress_all_edges(
     source: u32,
     out_weight: &mut [i32],
     out_previous: &mut [u32],
-    numbers: &mut [u32],
+    neighbor_numbers: &mut [u32],
     list_ends: &mut [u32],
     status: &mut [u8],
     weight: &mut [Weight],
@@ -92,8 +92,8 @@ pub extern "C" fn moldingcress_all_edges(
 ) -> u32
     ensures { λ q. ⌜ Reported ReportsDone (λ r. FoundTable (engineIn (counts vertices edges entries) («ends_a» .entry) («ends_b» .entry) (weights .entry) (boundary .entry) («log_edges» .entry) («log_weights» .entry)) source noEnd r
         (now («out_weight» .entry)) (now («out_weight» .exit)) (now («out_previous» .entry)) (now («out_previous» .exit))
-        (scratchIn (numbers .entry) («list_ends» .entry) (status .entry) (weight .entry) (previous .entry) (node .entry) (leaf .entry))
-        (scratchIn (numbers .exit) («list_ends» .exit) (status .exit) (weight .exit) (previous .exit) (node .exit) (leaf .exit))) q ⌝ }
+        (scratchIn («neighbor_numbers» .entry) («list_ends» .entry) (status .entry) (weight .entry) (previous .entry) (node .entry) (leaf .entry))
+        (scratchIn («neighbor_numbers» .exit) («list_ends» .exit) (status .exit) (weight .exit) (previous .exit) (node .exit) (leaf .exit))) q ⌝ }
 {
     done_number(query_tables::all_edges(
         EngineCounts {
@@ -110,7 +110,7 @@ pub extern "C" fn moldingcress_all_edges(
         VertexIndex(source),
         out_weight,
         out_previous,
-        numbers,
+        neighbor_numbers,
         list_ends,
         status,
         weight,

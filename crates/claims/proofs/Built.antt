@@ -62,8 +62,8 @@ columns-say kind d rounds q v e a₀ b₀ m₀ a b m ok (z, p, r) in-a in-b in-m
 create-says : (kind d rounds : ℕ) (lent back : CodeColumns) (v e : ℕ) → CreateCode kind d rounds lent back (Code v e)
     → BuiltGraph kind d rounds v e (back .endsA) (back .endsB) (back .boundary)
 create-says kind d rounds lent back v e h =
-    let k = code-case (h .answer) in
-    columns-say kind d rounds (refusalIn kind d rounds lent) v e (lent .endsA) (lent .endsB) (lent .boundary) _ _ _ (accepted-code kind d rounds lent (k .0)) k (h .columns .ends-a) (h .columns .ends-b) (h .columns .boundary)
+    let k = code-case (h .answers) in
+    columns-say kind d rounds (refusalIn kind d rounds lent) v e (lent .endsA) (lent .endsB) (lent .boundary) _ _ _ (accepted-code kind d rounds lent (k .0)) k (h .columns-after .endsA-after) (h .columns-after .endsB-after) (h .columns-after .boundary-after)
 
 accepted-new : (kind d rounds : ℕ) (p : Float) (diagonal : DiagonalProbability) (max : ℕ) (c : CodeColumns) → newRefusalIn kind d rounds p diagonal max c ≡ 0 → Buildable kind d rounds
 unfolding newRefusal
@@ -73,9 +73,9 @@ weighted-says : (kind d rounds : ℕ) (p : Float) (diagonal : DiagonalProbabilit
     → WeightedCode kind d rounds p diagonal max lent back (Code v e) → BuiltGraph kind d rounds v e (back .endsA) (back .endsB) (back .boundary)
 weighted-says kind d rounds p diagonal max lent back v e h =
     let q = newRefusalIn kind d rounds p diagonal max lent in
-    let k = code-case (h .answer) in
+    let k = code-case (h .answers) in
     columns-say kind d rounds q v e (lent .endsA) (lent .endsB) (lent .boundary) _ _ _ (accepted-new kind d rounds p diagonal max lent (k .0)) k
-    (h .columns .ends-a) (h .columns .ends-b) (h .columns .boundary)
+    (h .columns-after .endsA-after) (h .columns-after .endsB-after) (h .columns-after .boundary-after)
 
 pub built-of : (kind d rounds v e : ℕ) (a b m : List ℕ) → CodeBuilt kind d rounds v e a b m → BuiltGraph kind d rounds v e a b m
 built-of kind d rounds v e a b m (Called.created κs x v′ e′ s h) = create-says _ _ _ _ _ v′ e′ h

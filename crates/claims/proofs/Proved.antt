@@ -19,7 +19,7 @@ use Rattle.engine_walks.proofs.TwoGraphs.{weights-compare}
 use Rattle.query_crossing_answer.specs.declared.CrossingReply.the-variants.{Crossed}
 use Rattle.query_crossing_answer.specs.Crossing.{replyNumber, replyWeight}
 use Rattle.claims.specs.Listed.{tallyGraph, tallyCrossingRefusal, modifying, numbers}
-use Rattle.claims.specs.Demand3.{History, CrossingThen, TwoLists, tallyFirst, tallyLast, graphLeft, weightsLeft, refusedBefore, Demand3}
+use Rattle.claims.specs.Demand3.{History, CrossingThen, TwoLists, tallyFirst, tallyLast, graphAtEnd, weightsAtEnd, refusedBefore, Demand3}
 use Rattle.claims.proofs.Agreeing.{CrossingBy, range, edges-are, weight-at, crossing-number, accepted-of, accepted-when, column-at, graph-kept}
 use Rattle.claims.proofs.Runs.{FreshGraph, fresh-of, crossing-of, runs}
 use Rattle.claims.proofs.Built.{BuiltGraph, built-of, handed-on, built-distance}
@@ -32,77 +32,77 @@ module _ (h : History) where
   fresh : FreshGraph (h .vertices) (h .edges) (h .handed) (h .fresh)
   fresh = fresh-of (h .vertices) (h .edges) (h .handed) (h .fresh) (h .opened)
 
-  run : (h .answers ≡ numbers (h .calls) (tallyFirst h)) × Agrees (tallyLast h) (h .left)
-  run = runs (h .fresh) (h .calls) (h .answers) (h .left) (tallyFirst h) (fresh .agrees) (h .called)
+  run : (h .answers ≡ numbers (h .calls) (tallyFirst h)) × Agrees (tallyLast h) (h .at-end)
+  run = runs (h .fresh) (h .calls) (h .answers) (h .at-end) (tallyFirst h) (fresh .agrees) (h .called)
 
-  agrees : Agrees (tallyLast h) (h .left)
+  agrees : Agrees (tallyLast h) (h .at-end)
   agrees = run .1
 
   edges-kept : tallyLast h .counts .edges ≡ h .edges
   edges-kept = graph-kept (modifying (h .calls)) (tallyFirst h) .1
 
-  graph-first : graphLeft h ≡ tallyGraph (tallyFirst h)
+  graph-first : graphAtEnd h ≡ tallyGraph (tallyFirst h)
   graph-first = graph-kept (modifying (h .calls)) (tallyFirst h) .0
 
   vertices-kept : tallyLast h .counts .vertices ≡ h .vertices
   vertices-kept = ap (λ (g : Graph). g .vertices) graph-first
 
-  in-range : GraphInRange (graphLeft h)
-  in-range = range (tallyLast h) (h .left) agrees
+  in-range : GraphInRange (graphAtEnd h)
+  in-range = range (tallyLast h) (h .at-end) agrees
 
-  edges-left : edges (graphLeft h) ≡ h .edges
-  edges-left = edges-are (tallyLast h) (h .left) agrees ∙ edges-kept
+  edges-left : edges (graphAtEnd h) ≡ h .edges
+  edges-left = edges-are (tallyLast h) (h .at-end) agrees ∙ edges-kept
 
-  tally-weighs : (k : ℕ) → k < h .edges → weightsLeft h k ≡ getD (h .left .weights) k 0
-  tally-weighs k l = weight-at (tallyLast h) (h .left) agrees k (omega (arith, edges-kept, l))
+  tally-weighs : (k : ℕ) → k < h .edges → weightsAtEnd h k ≡ getD (h .at-end .weights) k 0
+  tally-weighs k l = weight-at (tallyLast h) (h .at-end) agrees k (omega (arith, edges-kept, l))
 
   abbrev found : Option ℕ
-  found = crossing (graphLeft h) (weightsLeft h)
+  found = crossing (graphAtEnd h) (weightsAtEnd h)
 
-  least : CrossingAnswer (graphLeft h) (weightsLeft h) found
-  least = crossing-is-least (graphLeft h) (weightsLeft h) in-range .0
+  least : CrossingAnswer (graphAtEnd h) (weightsAtEnd h) found
+  least = crossing-is-least (graphAtEnd h) (weightsAtEnd h) in-range .0
 
   module _ (c : CrossingThen h) where
-    step : CrossingBy (h .left) (c .own) (c .reply) (c .column₀) (c .column)
-    step = crossing-of (h .left) (c .own) (c .reply) (c .column₀) (c .column) (c .called)
+    step : CrossingBy (h .at-end) (c .own) (c .reply) (c .column₀) (c .column)
+    step = crossing-of (h .at-end) (c .own) (c .reply) (c .column₀) (c .column) (c .called)
 
-    number : replyNumber (c .reply) ≡ tallyCrossingRefusal (lengthsOf (h .left)) (c .own) (tallyLast h)
-    number = crossing-number (tallyLast h) (h .left) agrees (c .own) (c .reply) (c .column₀) (c .column) step
+    number : replyNumber (c .reply) ≡ tallyCrossingRefusal (lengthsOf (h .at-end)) (c .own) (tallyLast h)
+    number = crossing-number (tallyLast h) (h .at-end) agrees (c .own) (c .reply) (c .column₀) (c .column) step
 
     abbrev Reports : Type 0
-    Reports = (W : ℕ) × (found ≡ some W) × (c .reply ≡ Crossed W) × (c .column ≡ over (leastFromLeft (graphLeft h) (weightsLeft h)) (c .column₀))
+    Reports = (W : ℕ) × (found ≡ some W) × (c .reply ≡ Crossed W) × (c .column ≡ over (leastFromLeft (graphAtEnd h) (weightsAtEnd h)) (c .column₀))
 
     reports : replyNumber (c .reply) ≡ 0 → Reports
-    reports = accepted-of (tallyLast h) (h .left) agrees (c .own) (c .reply) (c .column₀) (c .column) step
+    reports = accepted-of (tallyLast h) (h .at-end) agrees (c .own) (c .reply) (c .column₀) (c .column) step
 
     accepted : refusedBefore h c ≡ 0 → (W : ℕ) → found ≡ some W → replyNumber (c .reply) ≡ 0
-    accepted = accepted-when (tallyLast h) (h .left) agrees (c .own) (c .reply) (c .column₀) (c .column) step
+    accepted = accepted-when (tallyLast h) (h .at-end) agrees (c .own) (c .reply) (c .column₀) (c .column) step
 
-    at : replyNumber (c .reply) ≡ 0 → (v : ℕ) → v < h .vertices → weightIn (c .column) v ≡ weightIn (leastFromLeft (graphLeft h) (weightsLeft h)) v
-    at z v l = column-at (tallyLast h) (h .left) agrees (c .own) (c .reply) (c .column₀) (c .column) step v (omega (arith, vertices-kept, l)) (reports z .3)
+    at : replyNumber (c .reply) ≡ 0 → (v : ℕ) → v < h .vertices → weightIn (c .column) v ≡ weightIn (leastFromLeft (graphAtEnd h) (weightsAtEnd h)) v
+    at z v l = column-at (tallyLast h) (h .at-end) agrees (c .own) (c .reply) (c .column₀) (c .column) step v (omega (arith, vertices-kept, l)) (reports z .3)
 
-    is-crossing : replyNumber (c .reply) ≡ 0 → IsCrossing (graphLeft h) (weightsLeft h) (replyWeight (c .reply))
+    is-crossing : replyNumber (c .reply) ≡ 0 → IsCrossing (graphAtEnd h) (weightsAtEnd h) (replyWeight (c .reply))
     is-crossing z =
         let (W, f, r, q) = reports z in
-        subst (IsCrossing (graphLeft h) (weightsLeft h)) (sym (ap replyWeight r)) (subst (CrossingAnswer (graphLeft h) (weightsLeft h)) f least)
+        subst (IsCrossing (graphAtEnd h) (weightsAtEnd h)) (sym (ap replyWeight r)) (subst (CrossingAnswer (graphAtEnd h) (weightsAtEnd h)) f least)
 
-    joined : refusedBefore h c ≡ 0 → (replyNumber (c .reply) ≡ 0) ↔ LeftJoinsRight (graphLeft h)
+    joined : refusedBefore h c ≡ 0 → (replyNumber (c .reply) ≡ 0) ↔ LeftJoinsRight (graphAtEnd h)
     joined b = (there, back)
       where
-        there : replyNumber (c .reply) ≡ 0 → LeftJoinsRight (graphLeft h)
+        there : replyNumber (c .reply) ≡ 0 → LeftJoinsRight (graphAtEnd h)
         there z = let (x, y, s, l, r, w, q) = is-crossing z .walk .a-walk in (x, y, l, r, (s, w))
 
-        by : (o : Option ℕ) → found ≡ o → CrossingAnswer (graphLeft h) (weightsLeft h) o → LeftJoinsRight (graphLeft h) → replyNumber (c .reply) ≡ 0
+        by : (o : Option ℕ) → found ≡ o → CrossingAnswer (graphAtEnd h) (weightsAtEnd h) o → LeftJoinsRight (graphAtEnd h) → replyNumber (c .reply) ≡ 0
         by none q f (x, y, l, r, j) = absurd (f x y l r j)
         by (some W) q f j = accepted b W q
 
-        back : LeftJoinsRight (graphLeft h) → replyNumber (c .reply) ≡ 0
+        back : LeftJoinsRight (graphAtEnd h) → replyNumber (c .reply) ≡ 0
         back j = by found refl least j
 
     distance : (kind d rounds : ℕ) → BuiltGraph kind d rounds (h .vertices) (h .edges) (h .handed .endsA) (h .handed .endsB) (h .handed .boundary)
-        → ((k : ℕ) → k < h .edges → weightsLeft h k ≡ 1) → refusedBefore h c ≡ 0 → c .reply ≡ Crossed d
+        → ((k : ℕ) → k < h .edges → weightsAtEnd h k ≡ 1) → refusedBefore h c ≡ 0 → c .reply ≡ Crossed d
     distance kind d rounds b ones z =
-        let same = weights-compare (graphLeft h) (graphLeft h) (weightsLeft h) (λ k. 1) in-range
+        let same = weights-compare (graphAtEnd h) (graphAtEnd h) (weightsAtEnd h) (λ k. 1) in-range
         (record { same-vertices = refl; same-edges = refl; same-a = λ e l. refl; same-b = λ e l. refl; same-byte = λ v l. refl }) .1 in
         let f : found ≡ some d = same (λ e l. ones e (omega (arith, edges-left, l))) .crossings
         ∙ ap (λ (g : Graph). crossing g (λ k. 1)) graph-first
@@ -122,26 +122,26 @@ module _ (h h′ : History) (c : CrossingThen h) (c′ : CrossingThen h′) (two
   inside : (v : ℕ) → v < h .vertices → v < h′ .vertices
   inside v l = omega (arith, vertices-kept h, vertices-kept h′, two .alike .same-vertices, l)
 
-  equal-weights : ((k : ℕ) → k < h .edges → weightsLeft h k ≡ weightsLeft h′ k)
+  equal-weights : ((k : ℕ) → k < h .edges → weightsAtEnd h k ≡ weightsAtEnd h′ k)
       → (replyWeight (c .reply) ≡ replyWeight (c′ .reply)) × ((v : ℕ) → v < h .vertices → weightIn (c .column) v ≡ weightIn (c′ .column) v)
   equal-weights same =
-      let q = weights-compare (graphLeft h) (graphLeft h′) (weightsLeft h) (weightsLeft h′) (in-range h) (two .alike) .1 (λ e l. same e (omega (arith, edges-left h, l))) in
+      let q = weights-compare (graphAtEnd h) (graphAtEnd h′) (weightsAtEnd h) (weightsAtEnd h′) (in-range h) (two .alike) .1 (λ e l. same e (omega (arith, edges-left h, l))) in
       let (W, f, r, k) = reports h c (two .accepted) in
       let (W′, f′, r′, k′) = reports h′ c′ (two .accepted′) in (
         ap replyWeight r ∙ ap valueOf (sym f ∙ q .crossings ∙ f′) ∙ sym (ap replyWeight r′),
         λ v l. at h c (two .accepted) v l ∙ ap (λ (column : List ℤ). weightIn column v) (q .columns) ∙ sym (at h′ c′ (two .accepted′) v (inside v l)),
       )
 
-  nowhere-greater : ((k : ℕ) → k < h .edges → weightsLeft h k ≤ weightsLeft h′ k)
+  nowhere-greater : ((k : ℕ) → k < h .edges → weightsAtEnd h k ≤ weightsAtEnd h′ k)
       → (replyWeight (c .reply) ≤ replyWeight (c′ .reply)) × ((v : ℕ) → v < h .vertices → NotGreater (weightIn (c .column) v) (weightIn (c′ .column) v))
   nowhere-greater less =
-      let q = weights-compare (graphLeft h) (graphLeft h′) (weightsLeft h) (weightsLeft h′) (in-range h) (two .alike) .2 (λ e l. less e (omega (arith, edges-left h, l))) in
+      let q = weights-compare (graphAtEnd h) (graphAtEnd h′) (weightsAtEnd h) (weightsAtEnd h′) (in-range h) (two .alike) .2 (λ e l. less e (omega (arith, edges-left h, l))) in
       let (W, f, r, k) = reports h c (two .accepted) in
       let (W′, f′, r′, k′) = reports h′ c′ (two .accepted′) in
-      let n : W ≤ W′ = not-above (subst (λ o. NotGreater (signed o) (pos W′)) f (subst (λ o. NotGreater (signed (crossing (graphLeft h) (weightsLeft h))) (signed o)) f′ (q .crossings))) in (
+      let n : W ≤ W′ = not-above (subst (λ o. NotGreater (signed o) (pos W′)) f (subst (λ o. NotGreater (signed (crossing (graphAtEnd h) (weightsAtEnd h))) (signed o)) f′ (q .crossings))) in (
         omega (arith, ap replyWeight r, ap replyWeight r′, n),
         λ v l. subst (λ x. NotGreater x (weightIn (c′ .column) v)) (sym (at h c (two .accepted) v l))
-            (subst (λ x. NotGreater (weightIn (leastFromLeft (graphLeft h) (weightsLeft h)) v) x) (sym (at h′ c′ (two .accepted′) v (inside v l))) (q .columns v (omega (arith, vertices-kept h, l)))),
+            (subst (λ x. NotGreater (weightIn (leastFromLeft (graphAtEnd h) (weightsAtEnd h)) v) x) (sym (at h′ c′ (two .accepted′) v (inside v l))) (q .columns v (omega (arith, vertices-kept h, l)))),
       )
 
 -- the demand
@@ -155,8 +155,8 @@ demand-3 = record {
   joined = joined;
   none-less = λ h c z. is-crossing h c z .every-set;
   one-exactly = λ h c z. is-crossing h c z .a-set;
-  least-weights = λ h c z v l. subst (LeftWeight (graphLeft h) (weightsLeft h) v) (sym (at h c z v l))
-      (crossing-is-least (graphLeft h) (weightsLeft h) (in-range h) .2 v (omega (arith, vertices-kept h, l)));
+  least-weights = λ h c z v l. subst (LeftWeight (graphAtEnd h) (weightsAtEnd h) v) (sym (at h c z v l))
+      (crossing-is-least (graphAtEnd h) (weightsAtEnd h) (in-range h) .2 v (omega (arith, vertices-kept h, l)));
   equal-weights = equal-weights;
   nowhere-greater = nowhere-greater;
   distance = λ h c kind d rounds a b m built same-a same-b same-m.

@@ -9,8 +9,8 @@ use Rattle.engine_columns.specs.declared.EngineCounts.{EngineCounts}
 use Rattle.engine_columns.specs.declared.EngineAnswer.{EngineAnswer}
 use Rattle.engine_columns.specs.declared.EngineAnswer.the-variants.{Counts}
 use Rattle.engine_columns.specs.Records.{Engine, engine, counts}
-use Rattle.engine_columns.specs.Step.{Call, Step}
-use Rattle.engine_columns.specs.Open.{GraphColumns, openRefusal, OpenStep}
+use Rattle.engine_columns.specs.Step.{Call, Modified}
+use Rattle.engine_columns.specs.Open.{GraphColumns, openRefusal, Opened}
 use Rattle.engine_tally.specs.Tally.{Tally, tallyOf, lengthsOf, tallyStep}
 use Rattle.engine_tally.proofs.Agreement.{Agrees, step-agrees, opened-agrees}
 use Rattle.engine_columns.proofs.Refusals.{opens-of}
@@ -20,7 +20,7 @@ use Rattle.claims.specs.Called.{OpenCalled, opened, Called, erased, weig
 use Rattle.claims.proofs.Agreeing.{CrossingBy, crossing-number}
 
 -- what a call's contract says is the step
-pub step-of : (call : Call) (e : Engine) (r : EngineAnswer) (e₁ : Engine) → Called call e r e₁ → Step call e r e₁
+pub step-of : (call : Call) (e : Engine) (r : EngineAnswer) (e₁ : Engine) → Called call e r e₁ → Modified call e r e₁
 step-of call e r e₁ (erased κs a q s h) = h
 step-of call e r e₁ (weighed κs a q s h) = h
 step-of call e r e₁ (undid κs a q s h) = h
@@ -35,11 +35,11 @@ pub record FreshGraph (v e : ℕ) (handed : GraphColumns) (fresh : Engine) : Typ
   pub agrees : Agrees (tallyOf v e handed) fresh
   pub weights-long : e ≤ length (handed .weights)
 
-open-says : (v e : ℕ) (handed lent left : GraphColumns) (c : EngineCounts) (le lw : List ℕ) → OpenStep v e handed lent (Counts c) left
+open-says : (v e : ℕ) (handed lent left : GraphColumns) (c : EngineCounts) (le lw : List ℕ) → Opened v e handed lent (Counts c) left
     → FreshGraph v e handed (engine c (left .endsA) (left .endsB) (left .weights) (left .boundary) le lw)
 open-says v e handed lent left c le lw h =
-    let d : openRefusal v e handed lent ≡ 0 = sym (h .answer .number-is) in
-    let k : c ≡ counts v e 0 = values-of (h .answer) d in
+    let d : openRefusal v e handed lent ≡ 0 = sym (h .answers .number-is) in
+    let k : c ≡ counts v e 0 = values-of (h .answers) d in
     record {
       agrees = subst (λ (n : EngineCounts). Agrees (tallyOf v e handed) (engine n (left .endsA) (left .endsB) (left .weights) (left .boundary) le lw)) (sym k)
           (opened-agrees v e handed lent left (Counts c) le lw h refl);

@@ -105,13 +105,13 @@ module _ (kind d rounds q : ℕ) (lent back : CodeColumns) (z : q ≡ 0) (v e : 
 pub created-codes-are-sound : CreatedCodesAreSound
 unfolding createRefusal
 created-codes-are-sound kind d rounds lent back v e c =
-    let w = code-case (c .answer) in
-    let h = c .columns in
-    written-zero kind d rounds (refusalIn kind d rounds lent) lent back (w .0) v e (w .1) (w .2) (accepted kind d rounds _ (w .0) .0) (h .ends-a) (h .ends-b) (h .list-lengths) (h .neighbor-numbers)
+    let w = code-case (c .answers) in
+    let h = c .columns-after in
+    written-zero kind d rounds (refusalIn kind d rounds lent) lent back (w .0) v e (w .1) (w .2) (accepted kind d rounds _ (w .0) .0) (h .endsA-after) (h .endsB-after) (h .listLengths-after) (h .neighborNumbers-after)
 
 pub new-codes-are-sound : NewCodesAreSound
 unfolding newRefusal
 new-codes-are-sound kind d rounds p diagonal max lent back v e c =
-    let w = code-case (c .answer) in
-    let h = c .columns in
-    written-zero kind d rounds (newRefusalIn kind d rounds p diagonal max lent) lent back (w .0) v e (w .1) (w .2) (accepted kind d rounds _ (w .0) .0) (h .ends-a) (h .ends-b) (h .list-lengths) (h .neighbor-numbers)
+    let w = code-case (c .answers) in
+    let h = c .columns-after in
+    written-zero kind d rounds (newRefusalIn kind d rounds p diagonal max lent) lent back (w .0) v e (w .1) (w .2) (accepted kind d rounds _ (w .0) .0) (h .endsA-after) (h .endsB-after) (h .listLengths-after) (h .neighborNumbers-after)

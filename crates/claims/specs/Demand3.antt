@@ -20,7 +20,7 @@ use Rattle.claims.specs.Listed.{OwnLengths, ListedCall, tallyGraph, tall
 use Rattle.claims.specs.Called.{OpenCalled, Calls, CrossingCalled, CodeBuilt}
 
 -- Demand 3, sentence 1; Engine, Tally, sentence 2: a freshly opened graph and a list of
--- calls on it, with the number of each answer; `left`: the engine's columns at its end.
+-- calls on it, with the number of each answer; `at-end`: the engine's columns at its end.
 pub record History : Type 0 where
   pub vertices : ℕ
   pub edges : ℕ
@@ -28,9 +28,9 @@ pub record History : Type 0 where
   pub fresh : Engine
   pub calls : List ListedCall
   pub answers : List ℕ
-  pub left : Engine
+  pub at-end : Engine
   pub opened : OpenCalled vertices edges handed fresh
-  pub called : Calls fresh calls answers left
+  pub called : Calls fresh calls answers at-end
 
 -- Engine, Tally, sentence 6: the tally at first.
 abbrev pub tallyFirst : History → Tally
@@ -41,12 +41,12 @@ abbrev pub tallyLast : History → Tally
 tallyLast h = tallyAtEnd (h .calls) (tallyFirst h)
 
 -- Engine, Tally, sentences 4 and 6: the graph that the tally then holds.
-abbrev pub graphLeft : History → Graph
-graphLeft h = tallyGraph (tallyLast h)
+abbrev pub graphAtEnd : History → Graph
+graphAtEnd h = tallyGraph (tallyLast h)
 
 -- Engine, Tally, sentence 4: the weights that the tally then holds.
-abbrev pub weightsLeft : History → ℕ → ℕ
-weightsLeft h = tallyWeights (tallyLast h)
+abbrev pub weightsAtEnd : History → ℕ → ℕ
+weightsAtEnd h = tallyWeights (tallyLast h)
 
 -- Demand 3, sentence 4: a crossing called then: its own columns' lengths, its answer, and the weight column before and after.
 pub record CrossingThen (h : History) : Type 0 where
@@ -54,15 +54,15 @@ pub record CrossingThen (h : History) : Type 0 where
   pub reply : CrossingReply
   pub column₀ : List ℤ
   pub column : List ℤ
-  pub called : CrossingCalled (h .left) own reply column₀ column
+  pub called : CrossingCalled (h .at-end) own reply column₀ column
 
 -- Demand 3, sentence 4: the question before 18 that refuses it, or 0.
 abbrev pub refusedBefore : (h : History) → CrossingThen h → ℕ
-refusedBefore h c = before18 (lengthsOf (h .left)) (c .own) (tallyLast h)
+refusedBefore h c = before18 (lengthsOf (h .at-end)) (c .own) (tallyLast h)
 
 -- Demand 3, sentences 6 and 7: an accepted crossing after each of two lists, on graphs alike in ends and boundary bytes.
 pub record TwoLists (h h′ : History) (c : CrossingThen h) (c′ : CrossingThen h′) : Type 0 where
-  pub alike : Alike (graphLeft h) (graphLeft h′)
+  pub alike : Alike (graphAtEnd h) (graphAtEnd h′)
   pub accepted : replyNumber (c .reply) ≡ 0
   pub accepted′ : replyNumber (c′ .reply) ≡ 0
 
@@ -70,32 +70,32 @@ pub record TwoLists (h h′ : History) (c : CrossingThen h) (c′ : CrossingThen
 pub record Demand3 : Type 0 where
   -- "Each call is accepted or refused as document 01's questions say."
   pub each-call : (h : History) → h .answers ≡ numbers (h .calls) (tallyFirst h)
-  pub crossing-then : (h : History) (c : CrossingThen h) → replyNumber (c .reply) ≡ tallyCrossingRefusal (lengthsOf (h .left)) (c .own) (tallyLast h)
+  pub crossing-then : (h : History) (c : CrossingThen h) → replyNumber (c .reply) ≡ tallyCrossingRefusal (lengthsOf (h .at-end)) (c .own) (tallyLast h)
   -- Engine, Tally, sentence 6: the tally's count of log entries, and its other counts, are those that the calls hand back.
-  pub counts : (h : History) → h .left .counts ≡ tallyLast h .counts
+  pub counts : (h : History) → h .at-end .counts ≡ tallyLast h .counts
   -- "An edge weighs what an accepted load last named for it since the last accepted reset (0 if erased), else its opening weight."
   pub edge-weighs : (h : History) (k : ℕ) → k < h .edges
-      → getD (h .left .weights) k 0 ≡ weightBy (setByCalls (modifying (h .calls)) (tallyNumbers (modifying (h .calls)) (tallyFirst h)) k) (getD (h .handed .weights) k 0)
-  pub tally-weighs : (h : History) (k : ℕ) → k < h .edges → weightsLeft h k ≡ getD (h .left .weights) k 0
+      → getD (h .at-end .weights) k 0 ≡ weightBy (setByCalls (modifying (h .calls)) (tallyNumbers (modifying (h .calls)) (tallyFirst h)) k) (getD (h .handed .weights) k 0)
+  pub tally-weighs : (h : History) (k : ℕ) → k < h .edges → weightsAtEnd h k ≡ getD (h .at-end .weights) k 0
   -- "Unless a question before 18 refuses it, a crossing called then is accepted exactly when some walk joins a left vertex to a right one."
-  pub joined : (h : History) (c : CrossingThen h) → refusedBefore h c ≡ 0 → (replyNumber (c .reply) ≡ 0) ↔ LeftJoinsRight (graphLeft h)
+  pub joined : (h : History) (c : CrossingThen h) → refusedBefore h c ≡ 0 → (replyNumber (c .reply) ≡ 0) ↔ LeftJoinsRight (graphAtEnd h)
   -- "Of all edge sets that leave no defect and meet the left boundary an odd number of times,
   -- none weighs less than the crossing weight that an accepted crossing reports,"
   pub none-less : (h : History) (c : CrossingThen h) → replyNumber (c .reply) ≡ 0
-      → (s : List ℕ) → CrossingSet (graphLeft h) s → replyWeight (c .reply) ≤ sum s (weightsLeft h)
+      → (s : List ℕ) → CrossingSet (graphAtEnd h) s → replyWeight (c .reply) ≤ sum s (weightsAtEnd h)
   -- "and one weighs exactly that."
   pub one-exactly : (h : History) (c : CrossingThen h) → replyNumber (c .reply) ≡ 0
-      → (s : List ℕ) × CrossingSet (graphLeft h) s × (sum s (weightsLeft h) ≡ replyWeight (c .reply))
+      → (s : List ℕ) × CrossingSet (graphAtEnd h) s × (sum s (weightsAtEnd h) ≡ replyWeight (c .reply))
   -- Engine, Crossing, sentence 2: "The weight column then holds the least weight from the left, −1 for unreached."
   pub least-weights : (h : History) (c : CrossingThen h) → replyNumber (c .reply) ≡ 0
-      → (v : ℕ) → v < h .vertices → LeftWeight (graphLeft h) (weightsLeft h) v (weightIn (c .column) v)
+      → (v : ℕ) → v < h .vertices → LeftWeight (graphAtEnd h) (weightsAtEnd h) v (weightIn (c .column) v)
   -- "Where they leave equal weights, accepted crossings report the same crossing weight and, for each vertex, the same least weight from the left;"
   pub equal-weights : (h h′ : History) (c : CrossingThen h) (c′ : CrossingThen h′) → TwoLists h h′ c c′
-      → ((k : ℕ) → k < h .edges → weightsLeft h k ≡ weightsLeft h′ k)
+      → ((k : ℕ) → k < h .edges → weightsAtEnd h k ≡ weightsAtEnd h′ k)
       → (replyWeight (c .reply) ≡ replyWeight (c′ .reply)) × ((v : ℕ) → v < h .vertices → weightIn (c .column) v ≡ weightIn (c′ .column) v)
   -- "where one leaves weights nowhere greater, its accepted crossing reports none of these greater than the other's accepted one does."
   pub nowhere-greater : (h h′ : History) (c : CrossingThen h) (c′ : CrossingThen h′) → TwoLists h h′ c c′
-      → ((k : ℕ) → k < h .edges → weightsLeft h k ≤ weightsLeft h′ k)
+      → ((k : ℕ) → k < h .edges → weightsAtEnd h k ≤ weightsAtEnd h′ k)
       → (replyWeight (c .reply) ≤ replyWeight (c′ .reply)) × ((v : ℕ) → v < h .vertices → NotGreater (weightIn (c .column) v) (weightIn (c′ .column) v))
   -- "With every weight 1, each built code of distance d reports d." The graph was handed the ends and boundary bytes of the code, whatever stands past the counts,
   -- and any sound weights; the 1s came about by any list of calls.
@@ -104,4 +104,4 @@ pub record Demand3 : Type 0 where
       → take (h .edges) (h .handed .endsA) ≡ take (h .edges) endsA
       → take (h .edges) (h .handed .endsB) ≡ take (h .edges) endsB
       → take (h .vertices) (h .handed .boundary) ≡ take (h .vertices) boundary
-      → ((k : ℕ) → k < h .edges → weightsLeft h k ≡ 1) → refusedBefore h c ≡ 0 → c .reply ≡ Crossed d
+      → ((k : ℕ) → k < h .edges → weightsAtEnd h k ≡ 1) → refusedBefore h c ≡ 0 → c .reply ≡ Crossed d

@@ -20,10 +20,10 @@ module _ (input text₀ text : List ℕ) (r : Listed) (h : textRoom ≤ length t
   open-refusal = ap (λ (b : Bool). ask b 6 0) (le-leb textRoom (length text₀) h)
 
   answered : r ≡ Text (length (answerText input))
-  answered = text-case r (s .answer) open-refusal
+  answered = text-case r (s .answers) open-refusal
 
   written : text ≡ over (answerText input) text₀
-  written = s .written ∙ after-accepted (textRefusal text₀) (answerText input) text₀ open-refusal
+  written = s .text-after ∙ after-accepted (textRefusal text₀) (answerText input) text₀ open-refusal
 
   pub shown : (n : ℕ) → r ≡ Text n → (n ≤ length text) × (take n text ≡ answerText input)
   shown n e =

@@ -1,7 +1,7 @@
 -- The columns and the answer of `create_code`, accepted and refused. Assumes nothing.
 use mathlib.Core.Path.{_≡_, sym, ap, _∙_}
 use mathlib.Core.List.{List, _++_}
-use Prim.Native.Nat.{ℕ, _+_, _*_, _≤_, _<_, min}
+use Prim.Native.Nat.{ℕ, _+_, _*_, _≤_, _<_}
 use native.Mathlib.Omega.{arith}
 use lib.ListN.{length, getD, length-map, List·getD-map}
 use lib.Dec.{leb}
@@ -27,8 +27,8 @@ use Rattle.codes_calls.specs.Steps.{EdgeColumnsLong, EdgeColumnsFilled, 
 
 -- ---- the number, by the columns' lengths
 
-pub told : (kind d rounds q vr er nl vr′ er′ nl′ : ℕ) → q ≡ createRefusal kind d rounds vr er nl → vr ≡ vr′ → er ≡ er′ → nl ≡ nl′ → q ≡ createRefusal kind d rounds vr′ er′ nl′
-told kind d rounds q vr er nl vr′ er′ nl′ a b c e = cc
+pub create-number : (kind d rounds q vr er nl vr′ er′ nl′ : ℕ) → q ≡ createRefusal kind d rounds vr er nl → vr ≡ vr′ → er ≡ er′ → nl ≡ nl′ → q ≡ createRefusal kind d rounds vr′ er′ nl′
+create-number kind d rounds q vr er nl vr′ er′ nl′ a b c e = cc
 
 -- ---- room, where no question is answered no
 
@@ -127,23 +127,23 @@ yes q vs lent z e = e ∙ sym (after-accepted q vs lent z)
 
 pub kept-back : (q : ℕ) (new lent : CodeColumns) → (q ≡ 0 → ⊥) → HandedBack q new lent lent
 kept-back q new lent f = record {
-  ends-a = sym (after-refused q (new .endsA) (lent .endsA) f);
-  ends-b = sym (after-refused q (new .endsB) (lent .endsB) f);
-  p = sym (after-refused q (new .p) (lent .p) f);
-  pe = sym (after-refused q (new .pe) (lent .pe) f);
-  half-weight = sym (after-refused q (new .halfWeight) (lent .halfWeight) f);
-  erasure = sym (after-refused q (new .erasure) (lent .erasure) f);
-  pos-i = sym (after-refused q (new .posI) (lent .posI) f);
-  pos-j = sym (after-refused q (new .posJ) (lent .posJ) f);
-  pos-t = sym (after-refused q (new .posT) (lent .posT) f);
-  boundary = sym (after-refused q (new .boundary) (lent .boundary) f);
-  defect = sym (after-refused q (new .defect) (lent .defect) f);
-  list-lengths = sym (after-refused q (new .listLengths) (lent .listLengths) f);
-  neighbor-numbers = sym (after-refused q (new .neighborNumbers) (lent .neighborNumbers) f);
+  endsA-after = sym (after-refused q (new .endsA) (lent .endsA) f);
+  endsB-after = sym (after-refused q (new .endsB) (lent .endsB) f);
+  p-after = sym (after-refused q (new .p) (lent .p) f);
+  pe-after = sym (after-refused q (new .pe) (lent .pe) f);
+  halfWeight-after = sym (after-refused q (new .halfWeight) (lent .halfWeight) f);
+  erasure-after = sym (after-refused q (new .erasure) (lent .erasure) f);
+  posI-after = sym (after-refused q (new .posI) (lent .posI) f);
+  posJ-after = sym (after-refused q (new .posJ) (lent .posJ) f);
+  posT-after = sym (after-refused q (new .posT) (lent .posT) f);
+  boundary-after = sym (after-refused q (new .boundary) (lent .boundary) f);
+  defect-after = sym (after-refused q (new .defect) (lent .defect) f);
+  listLengths-after = sym (after-refused q (new .listLengths) (lent .listLengths) f);
+  neighborNumbers-after = sym (after-refused q (new .neighborNumbers) (lent .neighborNumbers) f);
 }
 
 pub refused : (kind d rounds q n : ℕ) (lent : CodeColumns) → n ≡ q → (n ≡ 0 → ⊥) → CodeCreated kind d rounds q lent lent (Refused n)
-refused kind d rounds q n lent e f = record { answer = refuses-of e f; columns = kept-back q (newColumns kind d rounds) lent (λ z. f (e ∙ z)) }
+refused kind d rounds q n lent e f = record { answers = refuses-of e f; columns-after = kept-back q (newColumns kind d rounds) lent (λ z. f (e ∙ z)) }
 
 module _ (kind d rounds q : ℕ) (lent back : CodeColumns) (z : q ≡ 0) (o : Open kind d rounds lent) (e v : ℕ) (list-ends : List ℕ) where
   pub built : EdgeColumnsFilled kind d rounds (lent .endsA) (lent .endsB) (lent .p) (lent .pe) (lent .halfWeight) (lent .erasure) (back .endsA) (back .endsB) (back .p) (back .pe) (back .halfWeight) (back .erasure) e
@@ -156,20 +156,20 @@ module _ (kind d rounds q : ℕ) (lent back : CodeColumns) (z : q ≡ 0) (o : Op
       let pa : (k : ℕ) → k < edgeNum kind d rounds → getD (back .endsA) k 0 ≡ getD a k 0 = λ k h. ap (λ (r : List ℕ). getD r k 0) (x .in-a) ∙ first-at kind d rounds (o .ok) (lent .endsA) k h in
       let pb : (k : ℕ) → k < edgeNum kind d rounds → getD (back .endsB) k 0 ≡ getD b k 0 = λ k h. ap (λ (r : List ℕ). getD r k 0) (x .in-b) ∙ second-at kind d rounds (o .ok) (lent .endsB) k h in
       record {
-        answer = rw (y .count, x .count) (accepts-of z);
-        columns = record {
-          ends-a = yes q (newColumns kind d rounds .endsA) (lent .endsA) z (x .in-a);
-          ends-b = yes q (newColumns kind d rounds .endsB) (lent .endsB) z (x .in-b);
-          p = yes q (newColumns kind d rounds .p) (lent .p) z (x .in-p);
-          pe = yes q (newColumns kind d rounds .pe) (lent .pe) z (x .in-pe);
-          half-weight = yes q (newColumns kind d rounds .halfWeight) (lent .halfWeight) z (x .in-h);
-          erasure = yes q (newColumns kind d rounds .erasure) (lent .erasure) z (x .in-er);
-          pos-i = yes q (newColumns kind d rounds .posI) (lent .posI) z (y .in-i);
-          pos-j = yes q (newColumns kind d rounds .posJ) (lent .posJ) z (y .in-j);
-          pos-t = yes q (newColumns kind d rounds .posT) (lent .posT) z (y .in-t);
-          boundary = yes q (newColumns kind d rounds .boundary) (lent .boundary) z (y .in-m);
-          defect = yes q (newColumns kind d rounds .defect) (lent .defect) z (y .in-df);
-          list-lengths = yes q (newColumns kind d rounds .listLengths) (lent .listLengths) z (l .lengths-are ∙ ap (λ (r : List ℕ). over r (lent .listLengths)) ((λ i. degrees (back .endsA) (back .endsB) (x .count i) (y .count i)) ∙ degrees-same (back .endsA) (back .endsB) a b (edgeNum kind d rounds) pa pb (vertexNum kind d rounds)));
-          neighbor-numbers = yes q (newColumns kind d rounds .neighborNumbers) (lent .neighborNumbers) z (l .numbers-are ∙ ap (λ (r : List ℕ). over r (lent .neighborNumbers)) ((λ i. lists (back .endsA) (back .endsB) (x .count i) (y .count i)) ∙ lists-same (back .endsA) (back .endsB) a b (edgeNum kind d rounds) pa pb (vertexNum kind d rounds)));
+        answers = rw (y .count, x .count) (accepts-of z);
+        columns-after = record {
+          endsA-after = yes q (newColumns kind d rounds .endsA) (lent .endsA) z (x .in-a);
+          endsB-after = yes q (newColumns kind d rounds .endsB) (lent .endsB) z (x .in-b);
+          p-after = yes q (newColumns kind d rounds .p) (lent .p) z (x .in-p);
+          pe-after = yes q (newColumns kind d rounds .pe) (lent .pe) z (x .in-pe);
+          halfWeight-after = yes q (newColumns kind d rounds .halfWeight) (lent .halfWeight) z (x .in-h);
+          erasure-after = yes q (newColumns kind d rounds .erasure) (lent .erasure) z (x .in-er);
+          posI-after = yes q (newColumns kind d rounds .posI) (lent .posI) z (y .in-i);
+          posJ-after = yes q (newColumns kind d rounds .posJ) (lent .posJ) z (y .in-j);
+          posT-after = yes q (newColumns kind d rounds .posT) (lent .posT) z (y .in-t);
+          boundary-after = yes q (newColumns kind d rounds .boundary) (lent .boundary) z (y .in-m);
+          defect-after = yes q (newColumns kind d rounds .defect) (lent .defect) z (y .in-df);
+          listLengths-after = yes q (newColumns kind d rounds .listLengths) (lent .listLengths) z (l .lengths-are ∙ ap (λ (r : List ℕ). over r (lent .listLengths)) ((λ i. degrees (back .endsA) (back .endsB) (x .count i) (y .count i)) ∙ degrees-same (back .endsA) (back .endsB) a b (edgeNum kind d rounds) pa pb (vertexNum kind d rounds)));
+          neighborNumbers-after = yes q (newColumns kind d rounds .neighborNumbers) (lent .neighborNumbers) z (l .numbers-are ∙ ap (λ (r : List ℕ). over r (lent .neighborNumbers)) ((λ i. lists (back .endsA) (back .endsB) (x .count i) (y .count i)) ∙ lists-same (back .endsA) (back .endsB) a b (edgeNum kind d rounds) pa pb (vertexNum kind d rounds)));
         };
       }

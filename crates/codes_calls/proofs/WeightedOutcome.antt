@@ -3,7 +3,7 @@ use mathlib.Core.Path.{_≡_, refl, sym, ap, _∙_, subst}
 use mathlib.Core.Logic.{inl, inr}
 use mathlib.Core.Bool.{Bool, true, false, _&&_, cond}
 use mathlib.Core.List.{List, map, _++_}
-use Prim.Native.Nat.{ℕ, zero, suc, _+_, _*_, _≤_, _<_}
+use Prim.Native.Nat.{ℕ, zero, suc, _+_, _≤_, _<_}
 use native.Mathlib.Omega.{arith}
 use lib.Dec.{eqb, leb}
 use lib.ListN.{length, getD, drop, replicate, length-map, length-replicate}
@@ -77,9 +77,9 @@ number-is kind d rounds p diagonal max vr er nl q l k e f =
     ap (λ (b : Bool). ask (isLargestHalfWeight max) 8 (ask (isProbability p && isDiagonalProbability diagonal) 9 (ask b 10 0))) ten)
 
 -- the same by the columns' lengths
-pub told : (kind d rounds : ℕ) (p : Float) (diagonal : DiagonalProbability) (max q vr er nl vr′ er′ nl′ : ℕ) → q ≡ newRefusal kind d rounds p diagonal max vr er nl → vr ≡ vr′ → er ≡ er′ → nl ≡ nl′
+pub new-number : (kind d rounds : ℕ) (p : Float) (diagonal : DiagonalProbability) (max q vr er nl vr′ er′ nl′ : ℕ) → q ≡ newRefusal kind d rounds p diagonal max vr er nl → vr ≡ vr′ → er ≡ er′ → nl ≡ nl′
     → q ≡ newRefusal kind d rounds p diagonal max vr′ er′ nl′
-told kind d rounds p diagonal max q vr er nl vr′ er′ nl′ a b c e = a ∙ λ i. newRefusal kind d rounds p diagonal max (b i) (c i) (e i)
+new-number kind d rounds p diagonal max q vr er nl vr′ er′ nl′ a b c e = a ∙ λ i. newRefusal kind d rounds p diagonal max (b i) (c i) (e i)
 
 -- no question refuses: none of 2 to 6 does
 refusal-zero : (q : ℕ) (e n t : Bool) → weightsRefusal q e n t ≡ 0 → q ≡ 0
@@ -94,8 +94,8 @@ created-too kind d rounds vr er nl vr′ er′ nl′ q e n t f z a b c = sym (λ
 
 pub refused : (kind d rounds : ℕ) (p : Float) (diagonal : DiagonalProbability) (max q n : ℕ) (lent : CodeColumns) → n ≡ q → (n ≡ 0 → ⊥) → Weighted kind d rounds p diagonal max q lent lent (Refused n)
 refused kind d rounds p diagonal max q n lent e f = record {
-  answer = refuses-of e f;
-  columns = kept-back q (weightedColumns kind d rounds p diagonal max) lent (λ z. f (e ∙ z));
+  answers = refuses-of e f;
+  columns-after = kept-back q (weightedColumns kind d rounds p diagonal max) lent (λ z. f (e ∙ z));
 }
 
 -- ---- accepted
@@ -115,10 +115,10 @@ weigh-room kind d rounds lent mid q n r o z m e =
     let p = length-over (replicate (edgeNum kind d rounds) zeroFloat) (lent .p) (omega (arith, length-replicate (edgeNum kind d rounds) zeroFloat, l .long-p)) in
     let h = length-over (replicate (edgeNum kind d rounds) zero) (lent .halfWeight) (omega (arith, length-replicate (edgeNum kind d rounds) zero, l .long-h)) in
     record {
-      room-a = omega (arith, e, a, l .long-a, ap length (wrote q (firsts es) (lent .endsA) z (m .columns .ends-a)));
-      room-b = omega (arith, e, b, l .long-b, ap length (wrote q (seconds es) (lent .endsB) z (m .columns .ends-b)));
-      room-p = omega (arith, e, p, l .long-p, ap length (wrote q (replicate (edgeNum kind d rounds) zeroFloat) (lent .p) z (m .columns .p)));
-      room-h = omega (arith, e, h, l .long-h, ap length (wrote q (replicate (edgeNum kind d rounds) zero) (lent .halfWeight) z (m .columns .half-weight)));
+      room-a = omega (arith, e, a, l .long-a, ap length (wrote q (firsts es) (lent .endsA) z (m .columns-after .endsA-after)));
+      room-b = omega (arith, e, b, l .long-b, ap length (wrote q (seconds es) (lent .endsB) z (m .columns-after .endsB-after)));
+      room-p = omega (arith, e, p, l .long-p, ap length (wrote q (replicate (edgeNum kind d rounds) zeroFloat) (lent .p) z (m .columns-after .p-after)));
+      room-h = omega (arith, e, h, l .long-h, ap length (wrote q (replicate (edgeNum kind d rounds) zero) (lent .halfWeight) z (m .columns-after .halfWeight-after)));
     }
 
 -- a column whose first places are written again
@@ -219,7 +219,7 @@ module _ (kind d rounds : ℕ) (p : Float) (diagonal : DiagonalProbability) (max
       let hs : List ℕ = halfWeights max ps in
       let by : ℕ → Bool = byColumns kind d rounds ok (lent .endsA) (lent .endsB) (lent .posI) (lent .posJ) (lent .posT) in
       let same : diagonalAt (mid .endsA) (mid .endsB) (mid .posI) (mid .posJ) (mid .posT) ≡ by =
-      λ c. diagonalAt (wrote q₀ (newColumns kind d rounds .endsA) (lent .endsA) z₀ (m .columns .ends-a) c) (wrote q₀ (newColumns kind d rounds .endsB) (lent .endsB) z₀ (m .columns .ends-b) c) (wrote q₀ (newColumns kind d rounds .posI) (lent .posI) z₀ (m .columns .pos-i) c) (wrote q₀ (newColumns kind d rounds .posJ) (lent .posJ) z₀ (m .columns .pos-j) c) (wrote q₀ (newColumns kind d rounds .posT) (lent .posT) z₀ (m .columns .pos-t) c) in
+      λ c. diagonalAt (wrote q₀ (newColumns kind d rounds .endsA) (lent .endsA) z₀ (m .columns-after .endsA-after) c) (wrote q₀ (newColumns kind d rounds .endsB) (lent .endsB) z₀ (m .columns-after .endsB-after) c) (wrote q₀ (newColumns kind d rounds .posI) (lent .posI) z₀ (m .columns-after .posI-after) c) (wrote q₀ (newColumns kind d rounds .posJ) (lent .posJ) z₀ (m .columns-after .posJ-after) c) (wrote q₀ (newColumns kind d rounds .posT) (lent .posT) z₀ (m .columns-after .posT-after) c) in
       let largest : l ≡ largestWeight ps = le ∙ sym (largest-is kind d rounds p diagonal ok k) in
       let in-p : p′ ≡ sets (mid .p) 0 ps =
       w .in-p ∙ ap (sets (mid .p) 0) ((λ c. each (e c) (λ x. cond (same c x) (oe c .p) (se c .p))) ∙ probabilities-are kind d rounds ok (lent .endsA) (lent .endsB) (lent .posI) (lent .posJ) (lent .posT) p diagonal) in
@@ -227,26 +227,26 @@ module _ (kind d rounds : ℕ) (p : Float) (diagonal : DiagonalProbability) (max
       w .in-h ∙ ap (sets (mid .halfWeight) 0) ((λ c. each (e c) (λ x. cond (same c x) (oe c .half) (se c .half))) ∙ halves-are kind d rounds ok (lent .endsA) (lent .endsB) (lent .posI) (lent .posJ) (lent .posT) p diagonal max l largest) in
       let size-p : length ps ≡ edgeNum kind d rounds = sized kind d rounds p diagonal ok in
       let size-h : length hs ≡ edgeNum kind d rounds = length-map ps (λ x. halfWeight max (edgeWeight x) (largestWeight ps)) ∙ size-p in
-      let p-is : p′ ≡ over ps (lent .p) = again (edgeNum kind d rounds) (replicate (edgeNum kind d rounds) zeroFloat) ps (lent .p) (length-replicate (edgeNum kind d rounds) zeroFloat) size-p (long .long-p) (wrote q₀ (newColumns kind d rounds .p) (lent .p) z₀ (m .columns .p)) in-p in
-      let h-is : h′ ≡ over hs (lent .halfWeight) = again (edgeNum kind d rounds) (replicate (edgeNum kind d rounds) zero) hs (lent .halfWeight) (length-replicate (edgeNum kind d rounds) zero) size-h (long .long-h) (wrote q₀ (newColumns kind d rounds .halfWeight) (lent .halfWeight) z₀ (m .columns .half-weight)) in-h in
+      let p-is : p′ ≡ over ps (lent .p) = again (edgeNum kind d rounds) (replicate (edgeNum kind d rounds) zeroFloat) ps (lent .p) (length-replicate (edgeNum kind d rounds) zeroFloat) size-p (long .long-p) (wrote q₀ (newColumns kind d rounds .p) (lent .p) z₀ (m .columns-after .p-after)) in-p in
+      let h-is : h′ ≡ over hs (lent .halfWeight) = again (edgeNum kind d rounds) (replicate (edgeNum kind d rounds) zero) hs (lent .halfWeight) (length-replicate (edgeNum kind d rounds) zero) size-h (long .long-h) (wrote q₀ (newColumns kind d rounds .halfWeight) (lent .halfWeight) z₀ (m .columns-after .halfWeight-after)) in-h in
       let both : q₀ ≡ q = z₀ ∙ sym z in
       let made = subst (λ (x : ℕ). CodeCreated kind d rounds x lent mid r) both m in
       record {
-        answer = made .answer;
-        columns = record {
-          ends-a = made .columns .ends-a;
-          ends-b = made .columns .ends-b;
-          p = p-is ∙ sym (after-accepted q ps (lent .p) z);
-          pe = made .columns .pe;
-          half-weight = h-is ∙ sym (after-accepted q hs (lent .halfWeight) z);
-          erasure = made .columns .erasure;
-          pos-i = made .columns .pos-i;
-          pos-j = made .columns .pos-j;
-          pos-t = made .columns .pos-t;
-          boundary = made .columns .boundary;
-          defect = made .columns .defect;
-          list-lengths = made .columns .list-lengths;
-          neighbor-numbers = made .columns .neighbor-numbers;
+        answers = made .answers;
+        columns-after = record {
+          endsA-after = made .columns-after .endsA-after;
+          endsB-after = made .columns-after .endsB-after;
+          p-after = p-is ∙ sym (after-accepted q ps (lent .p) z);
+          pe-after = made .columns-after .pe-after;
+          halfWeight-after = h-is ∙ sym (after-accepted q hs (lent .halfWeight) z);
+          erasure-after = made .columns-after .erasure-after;
+          posI-after = made .columns-after .posI-after;
+          posJ-after = made .columns-after .posJ-after;
+          posT-after = made .columns-after .posT-after;
+          boundary-after = made .columns-after .boundary-after;
+          defect-after = made .columns-after .defect-after;
+          listLengths-after = made .columns-after .listLengths-after;
+          neighborNumbers-after = made .columns-after .neighborNumbers-after;
         };
       }
 

@@ -46,10 +46,10 @@ newColumns kind d rounds = record {
 }
 
 -- Six builders: the answer of `create_code`, and its columns afterwards; q is the question's number.
-pub record CodeCreated (kind d rounds q : ℕ) (c₀ c : CodeColumns) (r : Created) : Type 0 where
-  pub answer : Answered (createdSaid r) q (vertexNum kind d rounds, edgeNum kind d rounds) (0, 0)
-  pub columns : HandedBack q (newColumns kind d rounds) c₀ c
+pub record CodeCreated (kind d rounds q : ℕ) (c₀ c : CodeColumns) (answer : Created) : Type 0 where
+  pub answers : Answered (createdSaid answer) q (vertexNum kind d rounds, edgeNum kind d rounds) (0, 0)
+  pub columns-after : HandedBack q (newColumns kind d rounds) c₀ c
 
 -- Six builders: what `create_code` answers and leaves.
-abbrev pub CreateCode : (kind d rounds : ℕ) (c₀ c : CodeColumns) (r : Created) → Type 0
-CreateCode kind d rounds c₀ c r = CodeCreated kind d rounds (refusalIn kind d rounds c₀) c₀ c r
+abbrev pub CreateCode : (kind d rounds : ℕ) (c₀ c : CodeColumns) (answer : Created) → Type 0
+CreateCode kind d rounds c₀ c answer = CodeCreated kind d rounds (refusalIn kind d rounds c₀) c₀ c answer

@@ -48,18 +48,18 @@ weightedColumns kind d rounds p diagonal max = record {
 }
 
 -- Weights: the answer of a call that builds a code with a diagonal probability, and its columns afterwards; q is the question's number.
-pub record Weighted (kind d rounds : ℕ) (p : Float) (diagonal : DiagonalProbability) (max q : ℕ) (c₀ c : CodeColumns) (r : Created) : Type 0 where
-  pub answer : Answered (createdSaid r) q (vertexNum kind d rounds, edgeNum kind d rounds) (0, 0)
-  pub columns : HandedBack q (weightedColumns kind d rounds p diagonal max) c₀ c
+pub record Weighted (kind d rounds : ℕ) (p : Float) (diagonal : DiagonalProbability) (max q : ℕ) (c₀ c : CodeColumns) (answer : Created) : Type 0 where
+  pub answers : Answered (createdSaid answer) q (vertexNum kind d rounds, edgeNum kind d rounds) (0, 0)
+  pub columns-after : HandedBack q (weightedColumns kind d rounds p diagonal max) c₀ c
 
 -- Weights, on the diagonal probability: what such a call answers and leaves, where the diagonal probability is absent or a number.
-abbrev pub WeightedCode : (kind d rounds : ℕ) (p : Float) (diagonal : DiagonalProbability) (max : ℕ) (c₀ c : CodeColumns) (r : Created) → Type 0
-WeightedCode kind d rounds p diagonal max c₀ c r = Weighted kind d rounds p diagonal max (newRefusalIn kind d rounds p diagonal max c₀) c₀ c r
+abbrev pub WeightedCode : (kind d rounds : ℕ) (p : Float) (diagonal : DiagonalProbability) (max : ℕ) (c₀ c : CodeColumns) (answer : Created) → Type 0
+WeightedCode kind d rounds p diagonal max c₀ c answer = Weighted kind d rounds p diagonal max (newRefusalIn kind d rounds p diagonal max c₀) c₀ c answer
 
 -- Weights, on the diagonal probability, sentence 2: what `new` answers and leaves.
-abbrev pub NewCode : (kind d rounds : ℕ) (p : Float) (max : ℕ) (c₀ c : CodeColumns) (r : Created) → Type 0
-NewCode kind d rounds p max c₀ c r = WeightedCode kind d rounds p (diagonalOf kind p) max c₀ c r
+abbrev pub NewCode : (kind d rounds : ℕ) (p : Float) (max : ℕ) (c₀ c : CodeColumns) (answer : Created) → Type 0
+NewCode kind d rounds p max c₀ c answer = WeightedCode kind d rounds p (diagonalOf kind p) max c₀ c answer
 
 -- Weights, on the diagonal probability, sentence 1: what `new_diagonal` answers and leaves; it builds kind 4, for which question 2 is met.
-abbrev pub NewDiagonal : (d rounds : ℕ) (p : Float) (diagonal : DiagonalProbability) (max : ℕ) (c₀ c : CodeColumns) (r : Created) → Type 0
-NewDiagonal d rounds p diagonal max c₀ c r = WeightedCode 4 d rounds p diagonal max c₀ c r
+abbrev pub NewDiagonal : (d rounds : ℕ) (p : Float) (diagonal : DiagonalProbability) (max : ℕ) (c₀ c : CodeColumns) (answer : Created) → Type 0
+NewDiagonal d rounds p diagonal max c₀ c answer = WeightedCode 4 d rounds p diagonal max c₀ c answer

@@ -1,5 +1,6 @@
 // Codes with probabilities and half weights: `new` and `new_diagonal`.
 use super::Created;
+use super::create::CodeRoom;
 use super::create::create_code;
 use super::create::refusal_of;
 use super::create::shortest_of;
@@ -55,13 +56,11 @@ fn new_refusal(
     diagonal: DiagonalProbability,
     max_half_weight: Weight,
     largest: f64,
-    vertex_room: usize,
-    edge_room: usize,
-    numbers: usize,
+    room: CodeRoom,
 ) -> u32
-    ensures { λ r. ⌜ r ≡ weightsRefusal (createRefusal kind d rounds «vertex_room» «edge_room» numbers) (isLargestHalfWeight «max_half_weight») (isProbability p && isDiagonalProbability diagonal) (lt zeroFloat largest) ⌝ }
+    ensures { λ r. ⌜ r ≡ weightsRefusal (createRefusal kind d rounds (room .vertices) (room .edges) (room .numbers)) (isLargestHalfWeight «max_half_weight») (isProbability p && isDiagonalProbability diagonal) (lt zeroFloat largest) ⌝ }
 {
-    let q = refusal_of(kind, d, rounds, vertex_room, edge_room, numbers);
+    let q = refusal_of(kind, d, rounds, room);
     weights_refusal(q, p, diagonal, max_half_weight, largest)
 }
 
@@ -118,9 +117,11 @@ fn build(
         diagonal,
         max_half_weight,
         largest,
-        vertex_room,
-        edge_room,
-        neighbor_numbers.len(),
+        CodeRoom {
+            vertices: vertex_room,
+            edges: edge_room,
+            numbers: neighbor_numbers.len(),
+        },
     );
     if q != 0 {
         return Created::Refused(q);

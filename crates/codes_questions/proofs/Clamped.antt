@@ -28,9 +28,9 @@ question-5 kind d rounds next d′ rounds′ f g =
     λ k. ask (leb (vertexNum kind (e k) (h k)) vertexLimit) 5 next))
 
 -- the questions, asked one after another
-pub told : (r a b c v next : ℕ) (met₂ met₃ met₄ q₂ q₃ q₄ : Bool) (n : ℕ) → r ≡ ask met₂ 2 a → a ≡ ask met₃ 3 b → b ≡ ask met₄ 4 c → c ≡ ask (leb v vertexLimit) 5 next
+pub code-number : (r a b c v next : ℕ) (met₂ met₃ met₄ q₂ q₃ q₄ : Bool) (n : ℕ) → r ≡ ask met₂ 2 a → a ≡ ask met₃ 3 b → b ≡ ask met₄ 4 c → c ≡ ask (leb v vertexLimit) 5 next
     → met₂ ≡ q₂ → met₃ ≡ q₃ → met₄ ≡ q₄ → v ≡ n → r ≡ ask q₂ 2 (ask q₃ 3 (ask q₄ 4 (ask (leb n vertexLimit) 5 next)))
-told r a b c v next met₂ met₃ met₄ q₂ q₃ q₄ n e₁ e₂ e₃ e₄ e₅ e₆ e₇ e₈ = cc
+code-number r a b c v next met₂ met₃ met₄ q₂ q₃ q₄ n e₁ e₂ e₃ e₄ e₅ e₆ e₇ e₈ = cc
 
 -- question 4, where every test before the last has failed
 pub rounds-last : (kind rounds : ℕ) → rounds ≤ 4095 → (rounds ≡ 0 → ⊥) → (kind ≡ 3 → ⊥) → (kind ≡ 4 → ⊥) → eqb kind 6 ≡ roundsSound kind rounds

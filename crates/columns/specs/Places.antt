@@ -23,4 +23,4 @@ position i j t = record { i = i; j = j; t = t }
 
 -- Records, on vertices: the position of vertex v in the columns of i, j and t, 0 past their ends.
 abbrev pub positionAt : List Float → List Float → List Float → ℕ → VisualizePosition
-positionAt is js ts v = position (getD is v zeroFloat) (getD js v zeroFloat) (getD ts v zeroFloat)
+positionAt i j t v = position (getD i v zeroFloat) (getD j v zeroFloat) (getD t v zeroFloat)

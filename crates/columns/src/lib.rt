@@ -89,22 +89,22 @@ impl VisualizePosition {
     }
 
     // The position at a place of three columns.
-    pub fn load(is: &[f64], js: &[f64], ts: &[f64], v: usize) -> Self
-        ensures { λ r. ⌜ r ≡ positionAt (now (is .entry)) (now (js .entry)) (now (ts .entry)) v ⌝ }
+    pub fn load(pos_i: &[f64], pos_j: &[f64], pos_t: &[f64], v: usize) -> Self
+        ensures { λ r. ⌜ r ≡ positionAt (now («pos_i» .entry)) (now («pos_j» .entry)) (now («pos_t» .entry)) v ⌝ }
     {
         Self {
-            i: stores::load_f64(is, v),
-            j: stores::load_f64(js, v),
-            t: stores::load_f64(ts, v),
+            i: stores::load_f64(pos_i, v),
+            j: stores::load_f64(pos_j, v),
+            t: stores::load_f64(pos_t, v),
         }
     }
 
     // Stores the position at a place of three columns.
-    pub fn store(self, is: &mut [f64], js: &mut [f64], ts: &mut [f64], v: usize)
-        ensures { λ _. ⌜ (now (is .exit) ≡ set (now (is .entry)) v (self .i)) × (now (js .exit) ≡ set (now (js .entry)) v (self .j)) × (now (ts .exit) ≡ set (now (ts .entry)) v (self .t)) ⌝ }
+    pub fn store(self, pos_i: &mut [f64], pos_j: &mut [f64], pos_t: &mut [f64], v: usize)
+        ensures { λ _. ⌜ (now («pos_i» .exit) ≡ set (now («pos_i» .entry)) v (self .i)) × (now («pos_j» .exit) ≡ set (now («pos_j» .entry)) v (self .j)) × (now («pos_t» .exit) ≡ set (now («pos_t» .entry)) v (self .t)) ⌝ }
     {
-        stores::store_f64(is, v, self.i);
-        stores::store_f64(js, v, self.j);
-        stores::store_f64(ts, v, self.t);
+        stores::store_f64(pos_i, v, self.i);
+        stores::store_f64(pos_j, v, self.j);
+        stores::store_f64(pos_t, v, self.t);
     }
 }

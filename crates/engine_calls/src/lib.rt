@@ -1,7 +1,7 @@
 // The changes of an engine graph's weights: open, load erasures, load weights, reset.
 ghost use Rattle.engine_columns.specs.Records.{kept, engineIn};
-ghost use Rattle.engine_columns.specs.Step.{Step, loadErasures, loadWeights, reset};
-ghost use Rattle.engine_columns.specs.Open.{OpenStep, graphColumns};
+ghost use Rattle.engine_columns.specs.Step.{Modified, loadErasures, loadWeights, reset};
+ghost use Rattle.engine_columns.specs.Open.{Opened, graphColumns};
 use columns::Weight;
 use columns_stores::copy_u8;
 use columns_stores::copy_u32;
@@ -26,7 +26,7 @@ pub fn load_erasures(
     log_weights: &mut [Weight],
     list: &[u32],
 ) -> EngineAnswer
-    ensures { λ r. ⌜ Step (loadErasures (now (list .entry)))
+    ensures { λ r. ⌜ Modified (loadErasures (now (list .entry)))
         (engineIn c («ends_a» .entry) («ends_b» .entry) (weights .entry) (boundary .entry) («log_edges» .entry) («log_weights» .entry))
         r
         (engineIn (kept c r) («ends_a» .entry) («ends_b» .entry) (weights .exit) (boundary .entry) («log_edges» .exit) («log_weights» .exit)) ⌝ }
@@ -64,7 +64,7 @@ pub fn load_dynamic_weights(
     list: &[u32],
     values: &[Weight],
 ) -> EngineAnswer
-    ensures { λ r. ⌜ Step (loadWeights (now (list .entry)) (now (values .entry)))
+    ensures { λ r. ⌜ Modified (loadWeights (now (list .entry)) (now (values .entry)))
         (engineIn c («ends_a» .entry) («ends_b» .entry) (weights .entry) (boundary .entry) («log_edges» .entry) («log_weights» .entry))
         r
         (engineIn (kept c r) («ends_a» .entry) («ends_b» .entry) (weights .exit) (boundary .entry) («log_edges» .exit) («log_weights» .exit)) ⌝ }
@@ -101,7 +101,7 @@ pub fn reset(
     log_edges: &[u32],
     log_weights: &[Weight],
 ) -> EngineAnswer
-    ensures { λ r. ⌜ Step reset
+    ensures { λ r. ⌜ Modified reset
         (engineIn c («ends_a» .entry) («ends_b» .entry) (weights .entry) (boundary .entry) («log_edges» .entry) («log_weights» .entry))
         r
         (engineIn (kept c r) («ends_a» .entry) («ends_b» .entry) (weights .exit) (boundary .entry) («log_edges» .entry) («log_weights» .entry)) ⌝ }
@@ -131,7 +131,7 @@ pub fn open(
     weights: &mut [Weight],
     boundary: &mut [u8],
 ) -> EngineAnswer
-    ensures { λ r. ⌜ OpenStep vertices edges
+    ensures { λ r. ⌜ Opened vertices edges
         (graphColumns (now («in_a» .entry)) (now («in_b» .entry)) (now («in_weights» .entry)) (now («in_boundary» .entry)))
         (graphColumns (now («ends_a» .entry)) (now («ends_b» .entry)) (now (weights .entry)) (now (boundary .entry)))
         r

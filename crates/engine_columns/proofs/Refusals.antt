@@ -2,7 +2,7 @@
 use mathlib.Core.Path.{_≡_, refl, sym, ap, _∙_}
 use mathlib.Core.Bool.{Bool, true, false, _&&_, cond}
 use mathlib.Core.List.{List}
-use Prim.Native.Nat.{ℕ, zero, suc, _+_, _≤_, _<_}
+use Prim.Native.Nat.{ℕ, _+_, _≤_, _<_}
 use native.Mathlib.Omega.{arith}
 use borrow.Author.Tests.{leb-true, le-leb, eqb-true, ne-eqb}
 use lib.ListN.{length, getD, take}
@@ -19,7 +19,7 @@ use Rattle.engine_columns.specs.declared.EngineAnswer.{EngineAnswer}
 use Rattle.engine_columns.specs.declared.EngineAnswer.the-variants.{Counts, Refused}
 use Rattle.engine_columns.specs.Records.{Engine, engine, counts}
 use Rattle.engine_columns.specs.Questions.{columnsLong, engineLong, columnsSound, engineSound}
-use Rattle.engine_columns.specs.Step.{Call, loadWeights, reset, engineRefusal, changed, Step}
+use Rattle.engine_columns.specs.Step.{Call, loadWeights, reset, engineRefusal, changed, Modified}
 use Rattle.engine_columns.specs.Open.{GraphColumns, openRefusal}
 
 -- a question that did not stop the call
@@ -105,17 +105,17 @@ sound-from e s = both-and (columns-sound-from _ _ _ _ _ _ (s .columns)) (both-an
 -- ---- a step from its parts: accepted, and refused
 
 pub accepted : (call : Call) (before last : Engine) (r : EngineAnswer) → engineRefusal call before ≡ 0
-    → r ≡ Counts (changed call before .counts) → last ≡ changed call before → Step call before r last
+    → r ≡ Counts (changed call before .counts) → last ≡ changed call before → Modified call before r last
 accepted call before last r z q p = record {
-  answer = rw q (accepts-of z);
-  left = p ∙ ap (λ (n : ℕ). cond (eqb n 0) (changed call before) before) (sym z);
+  answers = rw q (accepts-of z);
+  engine-after = p ∙ ap (λ (n : ℕ). cond (eqb n 0) (changed call before) before) (sym z);
 }
 
 pub refused : (call : Call) (before last : Engine) (r : EngineAnswer) (n : ℕ) → n ≡ engineRefusal call before → (n ≡ 0 → ⊥)
-    → r ≡ Refused n → last ≡ before → Step call before r last
+    → r ≡ Refused n → last ≡ before → Modified call before r last
 refused call before last r n d h q p = record {
-  answer = rw q (refuses-of d h);
-  left = p
+  answers = rw q (refuses-of d h);
+  engine-after = p
       ∙ ap (λ (b : Bool). cond b (changed call before) before) (sym (ne-eqb n 0 h))
       ∙ ap (λ (k : ℕ). cond (eqb k 0) (changed call before) before) d;
 }

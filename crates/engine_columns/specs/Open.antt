@@ -29,9 +29,9 @@ openRefusal v e handed lent =
     (ask (columnsSound v e (handed .endsA) (handed .endsB) (handed .weights) (handed .boundary)) 7 0)
 
 -- Engine, Open: the answer, and every column: an accepted open copies, and the log is empty.
-pub record OpenStep (v e : ℕ) (handed lent : GraphColumns) (r : EngineAnswer) (opened : GraphColumns) : Type 0 where
-  pub answer : Answered (engineSaid r) (openRefusal v e handed lent) (counts v e 0) noCounts
-  pub endsA-after : opened .endsA ≡ after (openRefusal v e handed lent) (take e (handed .endsA)) (lent .endsA)
-  pub endsB-after : opened .endsB ≡ after (openRefusal v e handed lent) (take e (handed .endsB)) (lent .endsB)
-  pub weights-after : opened .weights ≡ after (openRefusal v e handed lent) (take e (handed .weights)) (lent .weights)
-  pub boundary-after : opened .boundary ≡ after (openRefusal v e handed lent) (take v (handed .boundary)) (lent .boundary)
+pub record Opened (v e : ℕ) (handed lent₀ : GraphColumns) (answer : EngineAnswer) (lent : GraphColumns) : Type 0 where
+  pub answers : Answered (engineSaid answer) (openRefusal v e handed lent₀) (counts v e 0) noCounts
+  pub endsA-after : lent .endsA ≡ after (openRefusal v e handed lent₀) (take e (handed .endsA)) (lent₀ .endsA)
+  pub endsB-after : lent .endsB ≡ after (openRefusal v e handed lent₀) (take e (handed .endsB)) (lent₀ .endsB)
+  pub weights-after : lent .weights ≡ after (openRefusal v e handed lent₀) (take e (handed .weights)) (lent₀ .weights)
+  pub boundary-after : lent .boundary ≡ after (openRefusal v e handed lent₀) (take v (handed .boundary)) (lent₀ .boundary)

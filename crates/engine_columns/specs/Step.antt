@@ -51,6 +51,6 @@ changed reset e =
     (undone (e .logEdges) (e .logWeights) (e .counts .entries) (e .weights)) (e .boundary) (e .logEdges) (e .logWeights)
 
 -- Engine, Load and Reset; Questions at the door, sentence 2: the answer, and every column left, refusals included.
-pub record Step (call : Call) (before : Engine) (r : EngineAnswer) (after : Engine) : Type 0 where
-  pub answer : Answered (engineSaid r) (engineRefusal call before) (changed call before .counts) noCounts
-  pub left : after ≡ cond (eqb (engineRefusal call before) 0) (changed call before) before
+pub record Modified (call : Call) (e₀ : Engine) (answer : EngineAnswer) (e : Engine) : Type 0 where
+  pub answers : Answered (engineSaid answer) (engineRefusal call e₀) (changed call e₀ .counts) noCounts
+  pub engine-after : e ≡ cond (eqb (engineRefusal call e₀) 0) (changed call e₀) e₀

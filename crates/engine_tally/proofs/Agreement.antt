@@ -2,7 +2,7 @@
 use mathlib.Core.Path.{_≡_, refl, sym, ap, _∙_}
 use mathlib.Core.Bool.{Bool, true, false, cond}
 use mathlib.Core.List.{List, []}
-use Prim.Native.Nat.{ℕ, zero, suc, _+_, _≤_, _<_}
+use Prim.Native.Nat.{ℕ, _+_, _≤_, _<_}
 use native.Mathlib.Omega.{arith}
 use borrow.Author.Tests.{eqb-true}
 use lib.ListN.{length, getD, take, length-take}
@@ -20,8 +20,8 @@ use Rattle.engine_columns.specs.declared.EngineAnswer.{EngineAnswer}
 use Rattle.engine_columns.specs.Records.{Engine, engine, counts, engineSaid}
 use Rattle.engine_log.specs.Load.{loaded, earlier, named, undone, erased, given}
 use Rattle.engine_columns.specs.Questions.{columnsLong, engineLong}
-use Rattle.engine_columns.specs.Step.{Call, loadErasures, loadWeights, reset, engineRefusal, changed, loadedBy, Step}
-use Rattle.engine_columns.specs.Open.{GraphColumns, openRefusal, OpenStep}
+use Rattle.engine_columns.specs.Step.{Call, loadErasures, loadWeights, reset, engineRefusal, changed, loadedBy, Modified}
+use Rattle.engine_columns.specs.Open.{GraphColumns, openRefusal, Opened}
 use Rattle.engine_tally.specs.Tally.{lengthsOf, Tally, tallyOf, tallyLong, tallyRefusal, withWeights, tallied, tallyStep}
 use Rattle.engine_log.proofs.Loads.{loaded-length, named-length, earlier-length, undone-length, undo-load, take-loaded, within-loaded, named-at, earlier-at}
 use Rattle.engine_columns.proofs.Refusals.{Long, Sound, Opens, opens-of, sound-from, Loads, loads-of, named-of, Weighed, weighed-of}
@@ -156,11 +156,11 @@ accepted-agrees (loadWeights es xs) t e a z =
 accepted-agrees reset t e a z = reset-agrees t e a
 
 -- one call
-pub step-agrees : (call : Call) (t : Tally) (e e₁ : Engine) (r : EngineAnswer) → Agrees t e → Step call e r e₁
+pub step-agrees : (call : Call) (t : Tally) (e e₁ : Engine) (r : EngineAnswer) → Agrees t e → Modified call e r e₁
     → (engineSaid r .number ≡ tallyRefusal call (lengthsOf e) t) × Agrees (tallyStep (record { call = call; lent = lengthsOf e }) t) e₁
 step-agrees call t e e₁ r a s = (
-  s .answer .number-is ∙ refusal-same call t e a,
-  rw (s .left, ← refusal-same call t e a) (go (eqb (engineRefusal call e) 0) refl),
+  s .answers .number-is ∙ refusal-same call t e a,
+  rw (s .engine-after, ← refusal-same call t e a) (go (eqb (engineRefusal call e) 0) refl),
 )
   where
     go : (b : Bool) → eqb (engineRefusal call e) 0 ≡ b → Agrees (cond b (tallied call t) t) (cond b (changed call e) e)
@@ -195,10 +195,10 @@ copied-graph v e a b a′ b′ la lb s =
       apart = λ j k h l o. s .apart j k h l (rw (ga j (omega arith), gb j (omega arith), ga k l, gb k l) at o);
     }
 
-pub opened-agrees : (v e : ℕ) (h l o : GraphColumns) (r : EngineAnswer) (le lw : List ℕ) → OpenStep v e h l r o → engineSaid r .number ≡ 0
+pub opened-agrees : (v e : ℕ) (h l o : GraphColumns) (r : EngineAnswer) (le lw : List ℕ) → Opened v e h l r o → engineSaid r .number ≡ 0
     → Agrees (tallyOf v e h) (engine (counts v e 0) (o .endsA) (o .endsB) (o .weights) (o .boundary) le lw)
 opened-agrees v e h l o r le lw s z =
-    let d : openRefusal v e h l ≡ 0 = sym (s .answer .number-is) ∙ z in
+    let d : openRefusal v e h l ≡ 0 = sym (s .answers .number-is) ∙ z in
     let p : Opens v e h l = opens-of v e h l d in
     let f = p .from in
     let g = p .to in

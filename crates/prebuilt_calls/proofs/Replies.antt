@@ -60,8 +60,8 @@ search-again {g} {s} {t} {a} f h p q =
     let ends = each (g .vertices) (λ v. length (lists (g .endsA) (g .endsB) (edges g) (v + 1))) in
     let keys : State → List ℕ = λ r. each (g .vertices) (λ v. keyOf (statusAt r v) (weightAt r v) v) in
     record {
-      numbers-after = q .numbers-after ∙ ap (over numbers) (p .numbers-after) ∙ over-again numbers numbers (a .numbers) refl;
-      ends-after = q .ends-after ∙ ap (over ends) (p .ends-after) ∙ over-again ends ends (a .ends) refl;
+      neighborNumbers-after = q .neighborNumbers-after ∙ ap (over numbers) (p .neighborNumbers-after) ∙ over-again numbers numbers (a .neighborNumbers) refl;
+      listEnds-after = q .listEnds-after ∙ ap (over ends) (p .listEnds-after) ∙ over-again ends ends (a .listEnds) refl;
       status-after = q .status-after ∙ ap (over (t .status)) (p .status-after) ∙ over-again (t .status) (s .status) (a .status) (h .status-fits ∙ sym (f .status-fits));
       weight-after = q .weight-after ∙ ap (over (t .weight)) (p .weight-after) ∙ over-again (t .weight) (s .weight) (a .weight) (h .weight-fits ∙ sym (f .weight-fits));
       previous-after = q .previous-after ∙ ap (over (t .previous)) (p .previous-after) ∙ over-again (t .previous) (s .previous) (a .previous) (h .previous-fits ∙ sym (f .previous-fits));

@@ -37,7 +37,7 @@ fn fill_one(
     out_vertex: &mut [u32],
     least: &mut [i32],
     before: &mut [u32],
-    numbers: &mut [u32],
+    neighbor_numbers: &mut [u32],
     list_ends: &mut [u32],
     status: &mut [u8],
     weight: &mut [Weight],
@@ -45,14 +45,14 @@ fn fill_one(
     node: &mut [u64],
     leaf: &mut [u64],
 )
-    requires { ⌜ Fillable (engineIn c «ends_a» «ends_b» weights boundary «log_edges» «log_weights») (length (now «out_weight»)) (length (now «out_vertex»)) (length (now least)) (length (now before)) (scratchLengths (scratchIn numbers «list_ends» status weight previous node leaf)) ⌝ }
+    requires { ⌜ Fillable (engineIn c «ends_a» «ends_b» weights boundary «log_edges» «log_weights») (length (now «out_weight»)) (length (now «out_vertex»)) (length (now least)) (length (now before)) (scratchLengths (scratchIn «neighbor_numbers» «list_ends» status weight previous node leaf)) ⌝ }
     requires { ⌜ v < c .vertices ⌝ }
     ensures { λ _. ⌜ now («out_weight» .exit) ≡ set (now («out_weight» .entry)) v (boundaryWeight (graphIn (engineIn c («ends_a» .entry) («ends_b» .entry) (weights .entry) (boundary .entry) («log_edges» .entry) («log_weights» .entry))) (weightsIn (engineIn c («ends_a» .entry) («ends_b» .entry) (weights .entry) (boundary .entry) («log_edges» .entry) («log_weights» .entry))) v) ⌝ }
     ensures { λ _. ⌜ now («out_vertex» .exit) ≡ set (now («out_vertex» .entry)) v (boundaryVertex (graphIn (engineIn c («ends_a» .entry) («ends_b» .entry) (weights .entry) (boundary .entry) («log_edges» .entry) («log_weights» .entry))) (weightsIn (engineIn c («ends_a» .entry) («ends_b» .entry) (weights .entry) (boundary .entry) («log_edges» .entry) («log_weights» .entry))) v) ⌝ }
     ensures { λ _. ⌜ TableInside 0 (engineIn c («ends_a» .entry) («ends_b» .entry) (weights .entry) (boundary .entry) («log_edges» .entry) («log_weights» .entry)) v
         (now (least .entry)) (now (least .exit)) (now (before .entry)) (now (before .exit))
-        (scratchIn (numbers .entry) («list_ends» .entry) (status .entry) (weight .entry) (previous .entry) (node .entry) (leaf .entry))
-        (scratchIn (numbers .exit) («list_ends» .exit) (status .exit) (weight .exit) (previous .exit) (node .exit) (leaf .exit)) ⌝ }
+        (scratchIn («neighbor_numbers» .entry) («list_ends» .entry) (status .entry) (weight .entry) (previous .entry) (node .entry) (leaf .entry))
+        (scratchIn («neighbor_numbers» .exit) («list_ends» .exit) (status .exit) (weight .exit) (previous .exit) (node .exit) (leaf .exit)) ⌝ }
 {
     all_edges(
         c,
@@ -65,7 +65,7 @@ fn fill_one(
         VertexIndex(v),
         least,
         before,
-        numbers,
+        neighbor_numbers,
         list_ends,
         status,
         weight,
@@ -96,7 +96,7 @@ fn fill_all(
     out_vertex: &mut [u32],
     least: &mut [i32],
     before: &mut [u32],
-    numbers: &mut [u32],
+    neighbor_numbers: &mut [u32],
     list_ends: &mut [u32],
     status: &mut [u8],
     weight: &mut [Weight],
@@ -104,13 +104,13 @@ fn fill_all(
     node: &mut [u64],
     leaf: &mut [u64],
 )
-    requires { ⌜ Fillable (engineIn c «ends_a» «ends_b» weights boundary «log_edges» «log_weights») (length (now «out_weight»)) (length (now «out_vertex»)) (length (now least)) (length (now before)) (scratchLengths (scratchIn numbers «list_ends» status weight previous node leaf)) ⌝ }
+    requires { ⌜ Fillable (engineIn c «ends_a» «ends_b» weights boundary «log_edges» «log_weights») (length (now «out_weight»)) (length (now «out_vertex»)) (length (now least)) (length (now before)) (scratchLengths (scratchIn «neighbor_numbers» «list_ends» status weight previous node leaf)) ⌝ }
     ensures { λ _. ⌜ now («out_weight» .exit) ≡ sets (now («out_weight» .entry)) 0 (each (c .vertices) (boundaryWeight (graphIn (engineIn c («ends_a» .entry) («ends_b» .entry) (weights .entry) (boundary .entry) («log_edges» .entry) («log_weights» .entry))) (weightsIn (engineIn c («ends_a» .entry) («ends_b» .entry) (weights .entry) (boundary .entry) («log_edges» .entry) («log_weights» .entry))))) ⌝ }
     ensures { λ _. ⌜ now («out_vertex» .exit) ≡ sets (now («out_vertex» .entry)) 0 (each (c .vertices) (boundaryVertex (graphIn (engineIn c («ends_a» .entry) («ends_b» .entry) (weights .entry) (boundary .entry) («log_edges» .entry) («log_weights» .entry))) (weightsIn (engineIn c («ends_a» .entry) («ends_b» .entry) (weights .entry) (boundary .entry) («log_edges» .entry) («log_weights» .entry))))) ⌝ }
     ensures { λ _. ⌜ TablesInside (engineIn c («ends_a» .entry) («ends_b» .entry) (weights .entry) (boundary .entry) («log_edges» .entry) («log_weights» .entry)) (c .vertices)
         (now (least .entry)) (now (least .exit)) (now (before .entry)) (now (before .exit))
-        (scratchIn (numbers .entry) («list_ends» .entry) (status .entry) (weight .entry) (previous .entry) (node .entry) (leaf .entry))
-        (scratchIn (numbers .exit) («list_ends» .exit) (status .exit) (weight .exit) (previous .exit) (node .exit) (leaf .exit)) ⌝ }
+        (scratchIn («neighbor_numbers» .entry) («list_ends» .entry) (status .entry) (weight .entry) (previous .entry) (node .entry) (leaf .entry))
+        (scratchIn («neighbor_numbers» .exit) («list_ends» .exit) (status .exit) (weight .exit) (previous .exit) (node .exit) (leaf .exit)) ⌝ }
 {
     let mut v: u32 = 0;
     while v < c.vertices {
@@ -127,7 +127,7 @@ fn fill_all(
             out_vertex,
             least,
             before,
-            numbers,
+            neighbor_numbers,
             list_ends,
             status,
             weight,
@@ -153,7 +153,7 @@ pub fn fill_boundaries(
     out_vertex: &mut [u32],
     least: &mut [i32],
     before: &mut [u32],
-    numbers: &mut [u32],
+    neighbor_numbers: &mut [u32],
     list_ends: &mut [u32],
     status: &mut [u8],
     weight: &mut [Weight],
@@ -163,16 +163,16 @@ pub fn fill_boundaries(
 ) -> Done
     ensures { λ r. ⌜ FilledBoundaries (engineIn c («ends_a» .entry) («ends_b» .entry) (weights .entry) (boundary .entry) («log_edges» .entry) («log_weights» .entry)) r
         (now («out_weight» .entry)) (now («out_weight» .exit)) (now («out_vertex» .entry)) (now («out_vertex» .exit)) (now (least .entry)) (now (least .exit)) (now (before .entry)) (now (before .exit))
-        (scratchIn (numbers .entry) («list_ends» .entry) (status .entry) (weight .entry) (previous .entry) (node .entry) (leaf .entry))
-        (scratchIn (numbers .exit) («list_ends» .exit) (status .exit) (weight .exit) (previous .exit) (node .exit) (leaf .exit)) ⌝ }
+        (scratchIn («neighbor_numbers» .entry) («list_ends» .entry) (status .entry) (weight .entry) (previous .entry) (node .entry) (leaf .entry))
+        (scratchIn («neighbor_numbers» .exit) («list_ends» .exit) (status .exit) (weight .exit) (previous .exit) (node .exit) (leaf .exit)) ⌝ }
 {
     let v = c.vertices as usize;
     let scratch = scratch_long(
         c.vertices,
         c.edges,
         ScratchLengths {
-            numbers: numbers.len(),
-            ends: list_ends.len(),
+            neighbor_numbers: neighbor_numbers.len(),
+            list_ends: list_ends.len(),
             status: status.len(),
             weight: weight.len(),
             previous: previous.len(),
@@ -213,7 +213,7 @@ pub fn fill_boundaries(
             out_vertex,
             least,
             before,
-            numbers,
+            neighbor_numbers,
             list_ends,
             status,
             weight,

@@ -35,7 +35,7 @@ pub fn fill_row(
     nearest: &[i32],
     out: &mut [i32],
     before: &mut [u32],
-    numbers: &mut [u32],
+    neighbor_numbers: &mut [u32],
     list_ends: &mut [u32],
     status: &mut [u8],
     weight: &mut [Weight],
@@ -45,16 +45,16 @@ pub fn fill_row(
 ) -> Done
     ensures { λ r. ⌜ FilledRow (engineIn c («ends_a» .entry) («ends_b» .entry) (weights .entry) (boundary .entry) («log_edges» .entry) («log_weights» .entry)) (vertex .0) (now (nearest .entry)) r
         (now (out .entry)) (now (out .exit)) (now (before .entry)) (now (before .exit))
-        (scratchIn (numbers .entry) («list_ends» .entry) (status .entry) (weight .entry) (previous .entry) (node .entry) (leaf .entry))
-        (scratchIn (numbers .exit) («list_ends» .exit) (status .exit) (weight .exit) (previous .exit) (node .exit) (leaf .exit)) ⌝ }
+        (scratchIn («neighbor_numbers» .entry) («list_ends» .entry) (status .entry) (weight .entry) (previous .entry) (node .entry) (leaf .entry))
+        (scratchIn («neighbor_numbers» .exit) («list_ends» .exit) (status .exit) (weight .exit) (previous .exit) (node .exit) (leaf .exit)) ⌝ }
 {
     let v = c.vertices as usize;
     let scratch = scratch_long(
         c.vertices,
         c.edges,
         ScratchLengths {
-            numbers: numbers.len(),
-            ends: list_ends.len(),
+            neighbor_numbers: neighbor_numbers.len(),
+            list_ends: list_ends.len(),
             status: status.len(),
             weight: weight.len(),
             previous: previous.len(),
@@ -93,7 +93,7 @@ pub fn fill_row(
             vertex,
             out,
             before,
-            numbers,
+            neighbor_numbers,
             list_ends,
             status,
             weight,

@@ -61,7 +61,7 @@ pub fn get_boundary_weight(
     vertex: VertexIndex,
     least: &mut [i32],
     before: &mut [u32],
-    numbers: &mut [u32],
+    neighbor_numbers: &mut [u32],
     list_ends: &mut [u32],
     status: &mut [u8],
     weight: &mut [Weight],
@@ -71,8 +71,8 @@ pub fn get_boundary_weight(
 ) -> BoundaryAnswer
     ensures { λ r. ⌜ GotBoundaryWeight (engineIn c («ends_a» .entry) («ends_b» .entry) (weights .entry) (boundary .entry) («log_edges» .entry) («log_weights» .entry)) (vertex .0) r
         (now (least .entry)) (now (least .exit)) (now (before .entry)) (now (before .exit))
-        (scratchIn (numbers .entry) («list_ends» .entry) (status .entry) (weight .entry) (previous .entry) (node .entry) (leaf .entry))
-        (scratchIn (numbers .exit) («list_ends» .exit) (status .exit) (weight .exit) (previous .exit) (node .exit) (leaf .exit)) ⌝ }
+        (scratchIn («neighbor_numbers» .entry) («list_ends» .entry) (status .entry) (weight .entry) (previous .entry) (node .entry) (leaf .entry))
+        (scratchIn («neighbor_numbers» .exit) («list_ends» .exit) (status .exit) (weight .exit) (previous .exit) (node .exit) (leaf .exit)) ⌝ }
 {
     let done = all_edges(
         c,
@@ -85,7 +85,7 @@ pub fn get_boundary_weight(
         vertex,
         least,
         before,
-        numbers,
+        neighbor_numbers,
         list_ends,
         status,
         weight,

@@ -38,7 +38,7 @@ fn write_found(found: Weight, status: &[u8], weight: &[Weight], out: &mut [i32])
 }
 
 // The least weight of a walk from a left to a right vertex; the weight column then holds the least weight from the left, -1 for unreached.
-// The columns from `numbers` on are scratch.
+// The columns from `neighbor_numbers` on are scratch.
 pub fn crossing(
     c: EngineCounts,
     ends_a: &[u32],
@@ -48,7 +48,7 @@ pub fn crossing(
     log_edges: &[u32],
     log_weights: &[Weight],
     out_weight: &mut [i32],
-    numbers: &mut [u32],
+    neighbor_numbers: &mut [u32],
     list_ends: &mut [u32],
     status: &mut [u8],
     weight: &mut [Weight],
@@ -57,16 +57,16 @@ pub fn crossing(
     leaf: &mut [u64],
 ) -> CrossingReply
     ensures { λ r. ⌜ FoundCrossing (engineIn c («ends_a» .entry) («ends_b» .entry) (weights .entry) (boundary .entry) («log_edges» .entry) («log_weights» .entry)) r (now («out_weight» .entry)) (now («out_weight» .exit))
-        (scratchIn (numbers .entry) («list_ends» .entry) (status .entry) (weight .entry) (previous .entry) (node .entry) (leaf .entry))
-        (scratchIn (numbers .exit) («list_ends» .exit) (status .exit) (weight .exit) (previous .exit) (node .exit) (leaf .exit)) ⌝ }
+        (scratchIn («neighbor_numbers» .entry) («list_ends» .entry) (status .entry) (weight .entry) (previous .entry) (node .entry) (leaf .entry))
+        (scratchIn («neighbor_numbers» .exit) («list_ends» .exit) (status .exit) (weight .exit) (previous .exit) (node .exit) (leaf .exit)) ⌝ }
 {
     let v = c.vertices as usize;
     let scratch = scratch_long(
         c.vertices,
         c.edges,
         ScratchLengths {
-            numbers: numbers.len(),
-            ends: list_ends.len(),
+            neighbor_numbers: neighbor_numbers.len(),
+            list_ends: list_ends.len(),
             status: status.len(),
             weight: weight.len(),
             previous: previous.len(),
@@ -93,7 +93,7 @@ pub fn crossing(
             weights,
             boundary,
             Origin::Left,
-            numbers,
+            neighbor_numbers,
             list_ends,
             status,
             weight,

@@ -63,7 +63,7 @@ fn found_path(
 }
 
 // The path of least weight from a to b: each vertex after a, up to b, with the weight of the step into it.
-// The columns from `numbers` on are scratch.
+// The columns from `neighbor_numbers` on are scratch.
 pub fn get_path(
     c: EngineCounts,
     ends_a: &[u32],
@@ -76,7 +76,7 @@ pub fn get_path(
     b: VertexIndex,
     out_vertices: &mut [u32],
     out_steps: &mut [Weight],
-    numbers: &mut [u32],
+    neighbor_numbers: &mut [u32],
     list_ends: &mut [u32],
     status: &mut [u8],
     weight: &mut [Weight],
@@ -86,16 +86,16 @@ pub fn get_path(
 ) -> PathAnswer
     ensures { λ r. ⌜ GotPath (engineIn c («ends_a» .entry) («ends_b» .entry) (weights .entry) (boundary .entry) («log_edges» .entry) («log_weights» .entry)) (a .0) (b .0) r
         (now («out_vertices» .entry)) (now («out_vertices» .exit)) (now («out_steps» .entry)) (now («out_steps» .exit))
-        (scratchIn (numbers .entry) («list_ends» .entry) (status .entry) (weight .entry) (previous .entry) (node .entry) (leaf .entry))
-        (scratchIn (numbers .exit) («list_ends» .exit) (status .exit) (weight .exit) (previous .exit) (node .exit) (leaf .exit)) ⌝ }
+        (scratchIn («neighbor_numbers» .entry) («list_ends» .entry) (status .entry) (weight .entry) (previous .entry) (node .entry) (leaf .entry))
+        (scratchIn («neighbor_numbers» .exit) («list_ends» .exit) (status .exit) (weight .exit) (previous .exit) (node .exit) (leaf .exit)) ⌝ }
 {
     let v = c.vertices as usize;
     let scratch = scratch_long(
         c.vertices,
         c.edges,
         ScratchLengths {
-            numbers: numbers.len(),
-            ends: list_ends.len(),
+            neighbor_numbers: neighbor_numbers.len(),
+            list_ends: list_ends.len(),
             status: status.len(),
             weight: weight.len(),
             previous: previous.len(),
@@ -128,7 +128,7 @@ pub fn get_path(
             weights,
             boundary,
             Origin::At(a.0, b.0),
-            numbers,
+            neighbor_numbers,
             list_ends,
             status,
             weight,

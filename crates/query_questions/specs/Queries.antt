@@ -25,7 +25,7 @@ weightsIn e k = getD (take (e .counts .edges) (e .weights)) k 0
 -- Questions at the door, 6, of scratch: each column as long as the vertices, neighbour numbers twice the edges.
 unfoldable pub scratchLong : (v e : ℕ) → ScratchLengths → Bool
 scratchLong v e l =
-    leb (2 * e) (l .numbers) && (leb v (l .ends) && (leb v (l .status) && (leb v (l .weight) && (leb v (l .previous) && (leb v (l .node) && leb v (l .leaf))))))
+    leb (2 * e) (l .«neighbor_numbers») && (leb v (l .«list_ends») && (leb v (l .status) && (leb v (l .weight) && (leb v (l .previous) && (leb v (l .node) && leb v (l .leaf))))))
 
 -- Questions at the door, 6, 7 and 13, in order, of a query, then its later questions: `fits` says whether output and scratch columns are long enough,
 -- `inRange` whether the numbers handed over are in range.

@@ -18,8 +18,8 @@ use Rattle.query_questions.specs.Queries.{scratchLong}
 
 -- Engine, Crossing, last sentence: the scratch columns of a query.
 pub record ScratchColumns : Type 0 where
-  pub numbers : List ℕ
-  pub ends : List ℕ
+  pub neighborNumbers : List ℕ
+  pub listEnds : List ℕ
   pub status : List ℕ
   pub weight : List ℕ
   pub previous : List ℕ
@@ -29,7 +29,7 @@ pub record ScratchColumns : Type 0 where
 -- Engine, Crossing, last sentence: these columns together.
 abbrev pub scratchOf : (numbers ends status weight previous node leaf : List ℕ) → ScratchColumns
 scratchOf numbers ends status weight previous node leaf =
-    record { numbers = numbers; ends = ends; status = status; weight = weight; previous = previous; node = node; leaf = leaf }
+    record { neighborNumbers = numbers; listEnds = ends; status = status; weight = weight; previous = previous; node = node; leaf = leaf }
 
 -- Engine, Crossing, last sentence: likewise, of columns lent or left by reference.
 abbrev pub scratchIn : (numbers ends status weight previous node leaf : RefT (List ℕ)) → ScratchColumns
@@ -38,8 +38,8 @@ scratchIn numbers ends status weight previous node leaf = scratchOf (now numbers
 -- Questions at the door, 6: their lengths.
 abbrev pub scratchLengths : ScratchColumns → ScratchLengths
 scratchLengths s = record {
-  numbers = length (s .numbers);
-  ends = length (s .ends);
+  «neighbor_numbers» = length (s .neighborNumbers);
+  «list_ends» = length (s .listEnds);
   status = length (s .status);
   weight = length (s .weight);
   previous = length (s .previous);
@@ -59,8 +59,8 @@ isFree n = eqb n 0 || (eqb n 17 || eqb n 18)
 -- after another, and where each ends; the state's columns; the keys of the vertices that wait, in a tree of least keys. The places past the vertices, and past the
 -- lists, which are twice the edges, are as they were.
 pub record SearchLeft (g : Graph) (s : State) (scratch₀ scratch : ScratchColumns) : Type 0 where
-  pub numbers-after : scratch .numbers ≡ over (lists (g .endsA) (g .endsB) (edges g) (g .vertices)) (scratch₀ .numbers)
-  pub ends-after : scratch .ends ≡ over (each (g .vertices) (λ v. length (lists (g .endsA) (g .endsB) (edges g) (v + 1)))) (scratch₀ .ends)
+  pub neighborNumbers-after : scratch .neighborNumbers ≡ over (lists (g .endsA) (g .endsB) (edges g) (g .vertices)) (scratch₀ .neighborNumbers)
+  pub listEnds-after : scratch .listEnds ≡ over (each (g .vertices) (λ v. length (lists (g .endsA) (g .endsB) (edges g) (v + 1)))) (scratch₀ .listEnds)
   pub status-after : scratch .status ≡ over (s .status) (scratch₀ .status)
   pub weight-after : scratch .weight ≡ over (s .weight) (scratch₀ .weight)
   pub previous-after : scratch .previous ≡ over (s .previous) (scratch₀ .previous)

@@ -16,8 +16,8 @@ use engine_columns::long_enough;
 
 // The lengths of a query's scratch columns.
 pub struct ScratchLengths {
-    pub numbers: usize,
-    pub ends: usize,
+    pub neighbor_numbers: usize,
+    pub list_ends: usize,
     pub status: usize,
     pub weight: usize,
     pub previous: usize,
@@ -30,11 +30,11 @@ pub fn scratch_long(vertices: u32, edges: u32, l: ScratchLengths) -> bool
     ensures { λ r. ⌜ r ≡ scratchLong vertices edges l ⌝ }
 {
     let v = vertices as usize;
-    let twice = at_most(2 * (edges as usize), l.numbers);
+    let twice = at_most(2 * (edges as usize), l.neighbor_numbers);
     both(
         twice,
         both(
-            at_most(v, l.ends),
+            at_most(v, l.list_ends),
             both(
                 at_most(v, l.status),
                 both(

@@ -8,8 +8,8 @@ use lib.Dec.{ltb}
 use lib.ListN.{length, getD}
 
 -- The key that no number has.
-abbrev pub none : ℕ
-none = 18446744073709551615
+abbrev pub noKey : ℕ
+noKey = 18446744073709551615
 
 -- What stands at place j.
 unfoldable pub placeOf : List ℕ → List ℕ → ℕ → ℕ → ℕ

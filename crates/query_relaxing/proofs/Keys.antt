@@ -46,20 +46,20 @@ module _ {n : ℕ} {s : State} {node leaf : List ℕ} (r : Ready n s node leaf) 
   }
 
   -- u is taken
-  pub ready-takes : leaf′ ≡ set leaf u Q.none → Ready n (mark s u) node′ leaf′
+  pub ready-takes : leaf′ ≡ set leaf u Q.noKey → Ready n (mark s u) node′ leaf′
   ready-takes put = record {
     few = r .few;
     status-fits = length-set (s .status) u 2 ∙ r .status-fits;
     weight-fits = r .weight-fits;
     previous-fits = r .previous-fits;
     node-fits = omega (arith, r .node-fits);
-    leaf-fits = ap length put ∙ length-set leaf u Q.none ∙ r .leaf-fits;
+    leaf-fits = ap length put ∙ length-set leaf u Q.noKey ∙ r .leaf-fits;
     tree = tree′;
     keys = λ v h. elim (ℕ-discrete v u) [
       | yes e ↦ subst (λ z. getD leaf′ z 0 ≡ keyOf (getD (set (s .status) u 2) z 0) (weightAt s z) z) (sym e)
-          (ap (λ l. getD l u 0) put ∙ getD-set-same leaf u Q.none 0 (omega (arith, r .leaf-fits))
+          (ap (λ l. getD l u 0) put ∙ getD-set-same leaf u Q.noKey 0 (omega (arith, r .leaf-fits))
           ∙ sym (ap (λ x. keyOf x (weightAt s u) u) (getD-set-same (s .status) u 2 0 (omega (arith, r .status-fits)))))
-      | no e ↦ ap (λ l. getD l v 0) put ∙ getD-set-other leaf u v Q.none 0 e ∙ r .keys v h
+      | no e ↦ ap (λ l. getD l v 0) put ∙ getD-set-other leaf u v Q.noKey 0 e ∙ r .keys v h
           ∙ sym (ap (λ x. keyOf x (weightAt s v) v) (getD-set-other (s .status) u v 2 0 e))
     ];
     light = r .light;

@@ -28,7 +28,7 @@ stateOf status weight previous = record { status = status; weight = weight; prev
 
 -- Engine, Settling, sentence 1: the key of vertex v: weight first, then number, so that the least key is that of the vertex to take; none where v does not wait.
 abbrev pub keyOf : (status weight v : ℕ) → ℕ
-keyOf status weight v = cond (eqb status 1) (weight * 4096 + v) Q.none
+keyOf status weight v = cond (eqb status 1) (weight * 4096 + v) Q.noKey
 
 -- Records, last sentence: sums fit 32 signed bits, that is, they are below this limit.
 abbrev pub sumLimit : ℕ
@@ -106,4 +106,4 @@ pub record Begun (status weight previous w : List ℕ) (stop : ℕ) : Type 0 whe
 
 -- Engine, Settling, sentence 3: the first i leaves hold the keys of the vertices that wait with weight 0, the others none.
 abbrev pub Keyed : (status : List ℕ) (i : ℕ) (leaf : List ℕ) → Type 0
-Keyed status i leaf = (v : ℕ) → v < length status → getD leaf v 0 ≡ cond (ltb v i) (keyOf (getD status v 0) 0 v) Q.none
+Keyed status i leaf = (v : ℕ) → v < length status → getD leaf v 0 ≡ cond (ltb v i) (keyOf (getD status v 0) 0 v) Q.noKey

@@ -22,8 +22,8 @@ use Rattle.query_questions.specs.Scratch.{scratchOf, scratchLengths}
 use Rattle.query_questions.specs.declared.ScratchLengths.{ScratchLengths}
 
 pub record ScratchLong (v e : ℕ) (l : ScratchLengths) : Type 0 where
-  pub numbers-long : 2 * e ≤ l .numbers
-  pub ends-long : v ≤ l .ends
+  pub numbers-long : 2 * e ≤ l .«neighbor_numbers»
+  pub ends-long : v ≤ l .«list_ends»
   pub status-long : v ≤ l .status
   pub weight-long : v ≤ l .weight
   pub previous-long : v ≤ l .previous
@@ -33,8 +33,8 @@ pub record ScratchLong (v e : ℕ) (l : ScratchLengths) : Type 0 where
 pub scratch-of : (v e : ℕ) (l : ScratchLengths) → scratchLong v e l ≡ true → ScratchLong v e l
 unfolding scratchLong
 scratch-of v e l h =
-    let (p₁, h₁) = and-both (leb (2 * e) (l .numbers)) _ h in
-    let (p₂, h₂) = and-both (leb v (l .ends)) _ h₁ in
+    let (p₁, h₁) = and-both (leb (2 * e) (l .«neighbor_numbers»)) _ h in
+    let (p₂, h₂) = and-both (leb v (l .«list_ends»)) _ h₁ in
     let (p₃, h₃) = and-both (leb v (l .status)) _ h₂ in
     let (p₄, h₄) = and-both (leb v (l .weight)) _ h₃ in
     let (p₅, h₅) = and-both (leb v (l .previous)) _ h₄ in

@@ -17,8 +17,8 @@ use Rattle.query_relaxing.specs.Ready.{keyOf, stateOf, Ready, Keyed}
 
 module _ (status : List ℕ) where
   -- no key at first
-  pub keyed-none : (leaf : List ℕ) → Same leaf (length status) Q.none → Keyed status 0 leaf
-  keyed-none leaf s v h = s v h ∙ sym (ap (λ b. cond b (keyOf (getD status v 0) 0 v) Q.none) (le-ltb v 0 (omega arith)))
+  pub keyed-none : (leaf : List ℕ) → Same leaf (length status) Q.noKey → Keyed status 0 leaf
+  keyed-none leaf s v h = s v h ∙ sym (ap (λ b. cond b (keyOf (getD status v 0) 0 v) Q.noKey) (le-ltb v 0 (omega arith)))
 
   -- one vertex more
   pub keyed-more : (i : ℕ) (leaf leaf′ : List ℕ) → i < length status → length leaf ≡ length status → Keyed status i leaf
@@ -26,15 +26,15 @@ module _ (status : List ℕ) where
   keyed-more i leaf leaf′ h len k put v inside = ap (λ l. getD l v 0) put ∙ go (eqb (getD status i 0) 1) refl (ℕ-discrete v i)
     where
       key : (j : ℕ) → ℕ
-      key j = cond (ltb v j) (keyOf (getD status v 0) 0 v) Q.none
+      key j = cond (ltb v j) (keyOf (getD status v 0) 0 v) Q.noKey
 
-      go : (b : Bool) → eqb (getD status i 0) 1 ≡ b → Dec (v ≡ i) → getD (cond b (set leaf i i) leaf) v 0 ≡ cond (ltb v (i + 1)) (keyOf (getD status v 0) 0 v) Q.none
+      go : (b : Bool) → eqb (getD status i 0) 1 ≡ b → Dec (v ≡ i) → getD (cond b (set leaf i i) leaf) v 0 ≡ cond (ltb v (i + 1)) (keyOf (getD status v 0) 0 v) Q.noKey
       go true e (yes q) =
           ap (λ j. getD (set leaf i i) j 0) q ∙ getD-set-same leaf i i 0 (omega arith)
           ∙ (let z : i ≡ 0 * 4096 + i = omega arith in z)
-          ∙ sym (ap (λ b. cond b (keyOf (getD status v 0) 0 v) Q.none) (lt-ltb v (i + 1) (omega arith))
-          ∙ (λ j. cond (eqb (getD status (q j) 0) 1) (0 * 4096 + q j) Q.none) ∙ ap (λ b. cond b (0 * 4096 + i) Q.none) e)
-      go true e (no q) = getD-set-other leaf i v i 0 q ∙ k v inside ∙ ap (λ b. cond b (keyOf (getD status v 0) 0 v) Q.none) (same v i q)
+          ∙ sym (ap (λ b. cond b (keyOf (getD status v 0) 0 v) Q.noKey) (lt-ltb v (i + 1) (omega arith))
+          ∙ (λ j. cond (eqb (getD status (q j) 0) 1) (0 * 4096 + q j) Q.noKey) ∙ ap (λ b. cond b (0 * 4096 + i) Q.noKey) e)
+      go true e (no q) = getD-set-other leaf i v i 0 q ∙ k v inside ∙ ap (λ b. cond b (keyOf (getD status v 0) 0 v) Q.noKey) (same v i q)
         where
           same : (v i : ℕ) → (v ≡ i → ⊥) → ltb v i ≡ ltb v (i + 1)
           same v i f = elim (decLt v i) [
@@ -42,10 +42,10 @@ module _ (status : List ℕ) where
             | no l ↦ le-ltb v i (omega arith) ∙ sym (le-ltb v (i + 1) (omega arith))
           ]
       go false e (yes q) =
-          k v inside ∙ ap (λ b. cond b (keyOf (getD status v 0) 0 v) Q.none) (le-ltb v i (omega arith))
-          ∙ sym (ap (λ b. cond b (keyOf (getD status v 0) 0 v) Q.none) (lt-ltb v (i + 1) (omega arith))
-          ∙ (λ j. cond (eqb (getD status (q j) 0) 1) (0 * 4096 + q j) Q.none) ∙ ap (λ b. cond b (0 * 4096 + i) Q.none) e)
-      go false e (no q) = k v inside ∙ ap (λ b. cond b (keyOf (getD status v 0) 0 v) Q.none) (same v i q)
+          k v inside ∙ ap (λ b. cond b (keyOf (getD status v 0) 0 v) Q.noKey) (le-ltb v i (omega arith))
+          ∙ sym (ap (λ b. cond b (keyOf (getD status v 0) 0 v) Q.noKey) (lt-ltb v (i + 1) (omega arith))
+          ∙ (λ j. cond (eqb (getD status (q j) 0) 1) (0 * 4096 + q j) Q.noKey) ∙ ap (λ b. cond b (0 * 4096 + i) Q.noKey) e)
+      go false e (no q) = k v inside ∙ ap (λ b. cond b (keyOf (getD status v 0) 0 v) Q.noKey) (same v i q)
         where
           same : (v i : ℕ) → (v ≡ i → ⊥) → ltb v i ≡ ltb v (i + 1)
           same v i f = elim (decLt v i) [
@@ -66,6 +66,6 @@ module _ (status : List ℕ) where
         node-fits = nl;
         leaf-fits = ll;
         tree = tree;
-        keys = λ v h. keys v h ∙ ap (λ b. cond b (keyOf (getD status v 0) 0 v) Q.none) (lt-ltb v (length status) h) ∙ ap (λ x. keyOf (getD status v 0) x v) (sym (zero-at v h));
+        keys = λ v h. keys v h ∙ ap (λ b. cond b (keyOf (getD status v 0) 0 v) Q.noKey) (lt-ltb v (length status) h) ∙ ap (λ x. keyOf (getD status v 0) x v) (sym (zero-at v h));
         light = λ v h. omega (arith, zero-at v h);
       }

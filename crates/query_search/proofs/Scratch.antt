@@ -3,7 +3,7 @@ use mathlib.Core.Path.{_≡_, refl, sym, ap, _∙_, subst}
 use mathlib.Core.Logic.{_≢_}
 use mathlib.Core.Bool.{Bool, true, false, _&&_}
 use mathlib.Core.List.{List, _++_}
-use Prim.Native.Nat.{ℕ, _+_, _*_, _-_, _<_, _≤_, min}
+use Prim.Native.Nat.{ℕ, _+_, _*_, _-_, _<_, min}
 use native.Mathlib.Decide.{decLt}
 use native.Mathlib.Omega.{arith}
 use lib.ListN.{length, getD, drop, List·getD-append}
@@ -52,16 +52,16 @@ module _ (node leaf x y : List ℕ) (n : ℕ) (p : length node ≡ n) (q : lengt
       place-same k (omega arith) ∙ t k h l ∙ (λ i. min (sym (place-same (2 * k) (omega arith)) i) (sym (place-same (2 * k + 1) (omega arith)) i))
 
 pub search-left : (g : Graph) (s : State) (scratch₀ : ScratchColumns) {numbers ends status weight previous node leaf : List ℕ}
-    → length ends ≡ g .vertices → length node ≡ g .vertices → Searched g s (scratch₀ .numbers) numbers ends status weight previous node leaf
+    → length ends ≡ g .vertices → length node ≡ g .vertices → Searched g s (scratch₀ .neighborNumbers) numbers ends status weight previous node leaf
     → SearchLeft g s scratch₀
-    (scratchOf numbers (ends ++ drop (g .vertices) (scratch₀ .ends)) (status ++ drop (g .vertices) (scratch₀ .status)) (weight ++ drop (g .vertices) (scratch₀ .weight))
+    (scratchOf numbers (ends ++ drop (g .vertices) (scratch₀ .listEnds)) (status ++ drop (g .vertices) (scratch₀ .status)) (weight ++ drop (g .vertices) (scratch₀ .weight))
     (previous ++ drop (g .vertices) (scratch₀ .previous)) (node ++ drop (g .vertices) (scratch₀ .node)) (leaf ++ drop (g .vertices) (scratch₀ .leaf)))
 search-left g s scratch₀ {ends = ends} {status} {weight} {previous} {node} {leaf} e d f =
     let n : ℕ = g .vertices in
     let r = f .ready in
     record {
-      numbers-after = f .built .numbers-are;
-      ends-after = whole ends _ (scratch₀ .ends) n (column-is ends n (λ v. length (lists (g .endsA) (g .endsB) (edges g) (v + 1))) e (f .built .ends-are)) (length-each n _);
+      neighborNumbers-after = f .built .numbers-are;
+      listEnds-after = whole ends _ (scratch₀ .listEnds) n (column-is ends n (λ v. length (lists (g .endsA) (g .endsB) (edges g) (v + 1))) e (f .built .ends-are)) (length-each n _);
       status-after = whole status (s .status) (scratch₀ .status) n (ap (λ t. t .status) (f .state)) (r .status-fits);
       weight-after = whole weight (s .weight) (scratch₀ .weight) n (ap (λ t. t .weight) (f .state)) (r .weight-fits);
       previous-after = whole previous (s .previous) (scratch₀ .previous) n (ap (λ t. t .previous) (f .state)) (r .previous-fits);

@@ -35,7 +35,7 @@ fn search_cut(
     boundary: &[u8],
     origin: Origin,
     vertices: u32,
-    numbers: &mut [u32],
+    neighbor_numbers: &mut [u32],
     list_ends: &mut [u32],
     status: &mut [u8],
     weight: &mut [Weight],
@@ -43,11 +43,11 @@ fn search_cut(
     node: &mut [u64],
     leaf: &mut [u64],
 )
-    requires { ⌜ Searchable (length (now status)) (now «ends_a») (now «ends_b») (now weights) (now numbers) (now «list_ends») (now weight) (now previous) (now node) (now leaf) ⌝ }
+    requires { ⌜ Searchable (length (now status)) (now «ends_a») (now «ends_b») (now weights) (now «neighbor_numbers») (now «list_ends») (now weight) (now previous) (now node) (now leaf) ⌝ }
     requires { ⌜ (length (now boundary) ≡ length (now status)) × (vertices ≡ length (now status)) × Starts origin (length (now status)) ⌝ }
     ensures { λ _. ⌜ Searched (graphOf (length (now (status .entry))) (now («ends_a» .entry)) (now («ends_b» .entry)) (now (boundary .entry)))
         (stateFrom origin (graphOf (length (now (status .entry))) (now («ends_a» .entry)) (now («ends_b» .entry)) (now (boundary .entry))) (weighs (now (weights .entry))))
-        (now (numbers .entry)) (now (numbers .exit)) (now («list_ends» .exit)) (now (status .exit)) (now (weight .exit)) (now (previous .exit)) (now (node .exit)) (now (leaf .exit)) ⌝ }
+        (now («neighbor_numbers» .entry)) (now («neighbor_numbers» .exit)) (now («list_ends» .exit)) (now (status .exit)) (now (weight .exit)) (now (previous .exit)) (now (node .exit)) (now (leaf .exit)) ⌝ }
 {
     sources::begin_status(origin, status, boundary);
     columns_neighbors::lists::fill_lists(
@@ -55,7 +55,7 @@ fn search_cut(
         ends_b,
         ends_a.len(),
         previous,
-        numbers,
+        neighbor_numbers,
         list_ends,
         status.len(),
     );
@@ -64,7 +64,7 @@ fn search_cut(
         ends_a,
         ends_b,
         weights,
-        numbers,
+        neighbor_numbers,
         list_ends,
         status,
         weight,
@@ -83,7 +83,7 @@ pub fn search(
     weights: &[Weight],
     boundary: &[u8],
     origin: Origin,
-    numbers: &mut [u32],
+    neighbor_numbers: &mut [u32],
     list_ends: &mut [u32],
     status: &mut [u8],
     weight: &mut [Weight],
@@ -92,11 +92,11 @@ pub fn search(
     leaf: &mut [u64],
 )
     requires { ⌜ (columnsLong (c .vertices) (c .edges) (now «ends_a») (now «ends_b») (now weights) (now boundary) ≡ true) × (columnsSound (c .vertices) (c .edges) (now «ends_a») (now «ends_b») (now weights) (now boundary) ≡ true) ⌝ }
-    requires { ⌜ (scratchFits (engineWithoutLog c «ends_a» «ends_b» weights boundary) (scratchIn numbers «list_ends» status weight previous node leaf) ≡ true) × Starts origin (c .vertices) ⌝ }
+    requires { ⌜ (scratchFits (engineWithoutLog c «ends_a» «ends_b» weights boundary) (scratchIn «neighbor_numbers» «list_ends» status weight previous node leaf) ≡ true) × Starts origin (c .vertices) ⌝ }
     ensures { λ _. ⌜ SearchLeft (graphIn (engineWithoutLog c («ends_a» .entry) («ends_b» .entry) (weights .entry) (boundary .entry)))
         (stateFrom origin (graphIn (engineWithoutLog c («ends_a» .entry) («ends_b» .entry) (weights .entry) (boundary .entry))) (weightsIn (engineWithoutLog c («ends_a» .entry) («ends_b» .entry) (weights .entry) (boundary .entry))))
-        (scratchIn (numbers .entry) («list_ends» .entry) (status .entry) (weight .entry) (previous .entry) (node .entry) (leaf .entry))
-        (scratchIn (numbers .exit) («list_ends» .exit) (status .exit) (weight .exit) (previous .exit) (node .exit) (leaf .exit)) ⌝ }
+        (scratchIn («neighbor_numbers» .entry) («list_ends» .entry) (status .entry) (weight .entry) (previous .entry) (node .entry) (leaf .entry))
+        (scratchIn («neighbor_numbers» .exit) («list_ends» .exit) (status .exit) (weight .exit) (previous .exit) (node .exit) (leaf .exit)) ⌝ }
     ensures { λ _. ⌜ Settles (c .vertices) (stateFrom origin (graphIn (engineWithoutLog c («ends_a» .entry) («ends_b» .entry) (weights .entry) (boundary .entry))) (weightsIn (engineWithoutLog c («ends_a» .entry) («ends_b» .entry) (weights .entry) (boundary .entry)))) ⌝ }
 {
     let v = c.vertices as usize;
@@ -108,7 +108,7 @@ pub fn search(
         &boundary[..v],
         origin,
         c.vertices,
-        numbers,
+        neighbor_numbers,
         &mut list_ends[..v],
         &mut status[..v],
         &mut weight[..v],

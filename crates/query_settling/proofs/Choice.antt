@@ -27,21 +27,21 @@ use Rattle.query_relaxing.specs.Ready.{keyOf, Ready, Listed, Along, Offers, sum
 -- ---- the least key
 
 module _ {n : ℕ} {s : State} {node leaf : List ℕ} (r : Ready n s node leaf) (key : ℕ) (l : Least leaf n key) where
-  waiting : (v : ℕ) → v < n → statusAt s v ≡ 1 → (getD leaf v 0 ≡ weightAt s v * 4096 + v) × (getD leaf v 0 < Q.none)
+  waiting : (v : ℕ) → v < n → statusAt s v ≡ 1 → (getD leaf v 0 ≡ weightAt s v * 4096 + v) × (getD leaf v 0 < Q.noKey)
   waiting v h e =
       let k = r .keys v h ∙ ap (λ x. keyOf x (weightAt s v) v) e in
       (k, omega (arith, k, r .light v h, r .few))
 
-  absent : (v : ℕ) → v < n → statusAt s v ≢ 1 → getD leaf v 0 ≡ Q.none
-  absent v h f = r .keys v h ∙ ap (λ b. cond b (weightAt s v * 4096 + v) Q.none) (ne-eqb (statusAt s v) 1 f)
+  absent : (v : ℕ) → v < n → statusAt s v ≢ 1 → getD leaf v 0 ≡ Q.noKey
+  absent v h f = r .keys v h ∙ ap (λ b. cond b (weightAt s v * 4096 + v) Q.noKey) (ne-eqb (statusAt s v) 1 f)
 
   -- no vertex waits
-  pub takes-none : key ≡ Q.none → toTake n s ≡ none
+  pub takes-none : key ≡ Q.noKey → toTake n s ≡ none
   takes-none e = first-least-one (λ v. eqb (statusAt s v) 1) (weightAt s) n none
       (λ v h. ne-eqb (statusAt s v) 1 (λ q. omega (arith, l .below v h, waiting v h q .1)))
 
   -- the vertex that the least key names
-  pub taken-is : key ≢ Q.none → (key % 4096 < n) × (statusAt s (key % 4096) ≡ 1) × (toTake n s ≡ some (key % 4096))
+  pub taken-is : key ≢ Q.noKey → (key % 4096 < n) × (statusAt s (key % 4096) ≡ 1) × (toTake n s ≡ some (key % 4096))
   taken-is f =
       let v = l .number in
       elim (ℕ-discrete (statusAt s v) 1) [
@@ -145,7 +145,7 @@ module _ {n : ℕ} {a b w numbers ends : List ℕ} (l : Listed n a b w numbers e
 
 -- ---- a turn as the code makes it: v is the vertex of the least key, whose list stands at the places from `from` to `to`
 
-module _ {n : ℕ} {s : State} {node leaf : List ℕ} (r : Ready n s node leaf) (key : ℕ) (l : Least leaf n key) (f : key ≢ Q.none)
+module _ {n : ℕ} {s : State} {node leaf : List ℕ} (r : Ready n s node leaf) (key : ℕ) (l : Least leaf n key) (f : key ≢ Q.noKey)
     {a b w numbers ends : List ℕ} (listed : Listed n a b w numbers ends) (v u from′ to′ : ℕ)
     (v-is : v ≡ key % 4096) (u-is : u ≡ key % 4096) (from-is′ : from′ ≡ startIn ends v) (to-is′ : to′ ≡ getD ends v 0) where
   pub v-in : v < n

@@ -17,7 +17,7 @@ fn relax_list(
     ends_a: &[u32],
     ends_b: &[u32],
     weights: &[Weight],
-    numbers: &[u32],
+    neighbor_numbers: &[u32],
     from: usize,
     to: usize,
     status: &mut [u8],
@@ -30,8 +30,8 @@ fn relax_list(
     w: Weight,
 )
     requires { ⌜ Ready (length (now status)) (stateOf (now status) (now weight) (now previous)) (now node) (now leaf) ⌝ }
-    requires { ⌜ Along (length (now status)) (now «ends_a») (now «ends_b») (now weights) (now numbers) from to a w ⌝ }
-    ensures { λ _. ⌜ ((n : ℕ) (m : List ℕ) → stateOf (now (status .exit)) (now (weight .exit)) (now (previous .exit)) ≡ relaxAlong (graphOf n (now («ends_a» .entry)) (now («ends_b» .entry)) m) (weighs (now (weights .entry))) a q w (take (to - from) (drop from (now (numbers .entry)))) (stateOf (now (status .entry)) (now (weight .entry)) (now (previous .entry)))) ⌝ }
+    requires { ⌜ Along (length (now status)) (now «ends_a») (now «ends_b») (now weights) (now «neighbor_numbers») from to a w ⌝ }
+    ensures { λ _. ⌜ ((n : ℕ) (m : List ℕ) → stateOf (now (status .exit)) (now (weight .exit)) (now (previous .exit)) ≡ relaxAlong (graphOf n (now («ends_a» .entry)) (now («ends_b» .entry)) m) (weighs (now (weights .entry))) a q w (take (to - from) (drop from (now («neighbor_numbers» .entry)))) (stateOf (now (status .entry)) (now (weight .entry)) (now (previous .entry)))) ⌝ }
     ensures { λ _. ⌜ Ready (length (now (status .entry))) (stateOf (now (status .exit)) (now (weight .exit)) (now (previous .exit))) (now (node .exit)) (now (leaf .exit)) ⌝ }
 {
     let mut i = from;
@@ -48,7 +48,7 @@ fn relax_list(
             a,
             q,
             w,
-            numbers[i],
+            neighbor_numbers[i],
         );
         i += 1;
     }
@@ -70,7 +70,7 @@ fn turn(
     ends_a: &[u32],
     ends_b: &[u32],
     weights: &[Weight],
-    numbers: &[u32],
+    neighbor_numbers: &[u32],
     list_ends: &[u32],
     status: &mut [u8],
     weight: &mut [Weight],
@@ -79,7 +79,7 @@ fn turn(
     leaf: &mut [u64],
 ) -> bool
     requires { ⌜ Ready (length (now status)) (stateOf (now status) (now weight) (now previous)) (now node) (now leaf) ⌝ }
-    requires { ⌜ Listed (length (now status)) (now «ends_a») (now «ends_b») (now weights) (now numbers) (now «list_ends») ⌝ }
+    requires { ⌜ Listed (length (now status)) (now «ends_a») (now «ends_b») (now weights) (now «neighbor_numbers») (now «list_ends») ⌝ }
     requires { ⌜ (0 < length (now status)) × Offers (stateOf (now status) (now weight) (now previous)) (now weights) ⌝ }
     ensures { λ r. ⌜ ((m : List ℕ) → stateOf (now (status .exit)) (now (weight .exit)) (now (previous .exit)) ≡ takeChosen (graphOf (length (now (status .entry))) (now («ends_a» .entry)) (now («ends_b» .entry)) m) (weighs (now (weights .entry))) (stateOf (now (status .entry)) (now (weight .entry)) (now (previous .entry))) (toTake (length (now (status .entry))) (stateOf (now (status .entry)) (now (weight .entry)) (now (previous .entry))))) ⌝ }
     ensures { λ r. ⌜ Ready (length (now (status .entry))) (stateOf (now (status .exit)) (now (weight .exit)) (now (previous .exit))) (now (node .exit)) (now (leaf .exit)) ⌝ }
@@ -102,7 +102,7 @@ fn turn(
         ends_a,
         ends_b,
         weights,
-        numbers,
+        neighbor_numbers,
         from,
         to,
         status,
@@ -133,7 +133,7 @@ pub fn settle(
     ends_a: &[u32],
     ends_b: &[u32],
     weights: &[Weight],
-    numbers: &[u32],
+    neighbor_numbers: &[u32],
     list_ends: &[u32],
     status: &mut [u8],
     weight: &mut [Weight],
@@ -143,7 +143,7 @@ pub fn settle(
     stop: u32,
 )
     requires { ⌜ Ready (length (now status)) (stateOf (now status) (now weight) (now previous)) (now node) (now leaf) ⌝ }
-    requires { ⌜ Listed (length (now status)) (now «ends_a») (now «ends_b») (now weights) (now numbers) (now «list_ends») ⌝ }
+    requires { ⌜ Listed (length (now status)) (now «ends_a») (now «ends_b») (now weights) (now «neighbor_numbers») (now «list_ends») ⌝ }
     requires { ⌜ Begun (now status) (now weight) (now previous) (now weights) stop ⌝ }
     ensures { λ _. ⌜ ((m : List ℕ) → stateOf (now (status .exit)) (now (weight .exit)) (now (previous .exit)) ≡ settled (graphOf (length (now (status .entry))) (now («ends_a» .entry)) (now («ends_b» .entry)) m) (weighs (now (weights .entry))) (sources (now (status .entry))) (endOf (length (now (status .entry))) stop)) ⌝ }
     ensures { λ _. ⌜ Ready (length (now (status .entry))) (stateOf (now (status .exit)) (now (weight .exit)) (now (previous .exit))) (now (node .exit)) (now (leaf .exit)) ⌝ }
@@ -158,7 +158,7 @@ pub fn settle(
             ends_a,
             ends_b,
             weights,
-            numbers,
+            neighbor_numbers,
             list_ends,
             status,
             weight,

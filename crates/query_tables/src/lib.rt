@@ -48,7 +48,7 @@ fn stop_of(end: End, source: u32, vertices: u32) -> u32
 }
 
 // The least weight from the source and the previous vertex of every vertex, up to the named end: -1 and 0 where a vertex was not taken.
-// The columns from `numbers` on are scratch.
+// The columns from `neighbor_numbers` on are scratch.
 pub fn all_edges_with_terminate(
     c: EngineCounts,
     ends_a: &[u32],
@@ -61,7 +61,7 @@ pub fn all_edges_with_terminate(
     end: End,
     out_weight: &mut [i32],
     out_previous: &mut [u32],
-    numbers: &mut [u32],
+    neighbor_numbers: &mut [u32],
     list_ends: &mut [u32],
     status: &mut [u8],
     weight: &mut [Weight],
@@ -71,16 +71,16 @@ pub fn all_edges_with_terminate(
 ) -> Done
     ensures { λ r. ⌜ FoundTable (engineIn c («ends_a» .entry) («ends_b» .entry) (weights .entry) (boundary .entry) («log_edges» .entry) («log_weights» .entry)) (source .0) end r
         (now («out_weight» .entry)) (now («out_weight» .exit)) (now («out_previous» .entry)) (now («out_previous» .exit))
-        (scratchIn (numbers .entry) («list_ends» .entry) (status .entry) (weight .entry) (previous .entry) (node .entry) (leaf .entry))
-        (scratchIn (numbers .exit) («list_ends» .exit) (status .exit) (weight .exit) (previous .exit) (node .exit) (leaf .exit)) ⌝ }
+        (scratchIn («neighbor_numbers» .entry) («list_ends» .entry) (status .entry) (weight .entry) (previous .entry) (node .entry) (leaf .entry))
+        (scratchIn («neighbor_numbers» .exit) («list_ends» .exit) (status .exit) (weight .exit) (previous .exit) (node .exit) (leaf .exit)) ⌝ }
 {
     let v = c.vertices as usize;
     let scratch = scratch_long(
         c.vertices,
         c.edges,
         ScratchLengths {
-            numbers: numbers.len(),
-            ends: list_ends.len(),
+            neighbor_numbers: neighbor_numbers.len(),
+            list_ends: list_ends.len(),
             status: status.len(),
             weight: weight.len(),
             previous: previous.len(),
@@ -114,7 +114,7 @@ pub fn all_edges_with_terminate(
             weights,
             boundary,
             Origin::At(source.0, stop),
-            numbers,
+            neighbor_numbers,
             list_ends,
             status,
             weight,
@@ -141,7 +141,7 @@ pub fn all_edges(
     source: VertexIndex,
     out_weight: &mut [i32],
     out_previous: &mut [u32],
-    numbers: &mut [u32],
+    neighbor_numbers: &mut [u32],
     list_ends: &mut [u32],
     status: &mut [u8],
     weight: &mut [Weight],
@@ -151,8 +151,8 @@ pub fn all_edges(
 ) -> Done
     ensures { λ r. ⌜ FoundTable (engineIn c («ends_a» .entry) («ends_b» .entry) (weights .entry) (boundary .entry) («log_edges» .entry) («log_weights» .entry)) (source .0) End.None r
         (now («out_weight» .entry)) (now («out_weight» .exit)) (now («out_previous» .entry)) (now («out_previous» .exit))
-        (scratchIn (numbers .entry) («list_ends» .entry) (status .entry) (weight .entry) (previous .entry) (node .entry) (leaf .entry))
-        (scratchIn (numbers .exit) («list_ends» .exit) (status .exit) (weight .exit) (previous .exit) (node .exit) (leaf .exit)) ⌝ }
+        (scratchIn («neighbor_numbers» .entry) («list_ends» .entry) (status .entry) (weight .entry) (previous .entry) (node .entry) (leaf .entry))
+        (scratchIn («neighbor_numbers» .exit) («list_ends» .exit) (status .exit) (weight .exit) (previous .exit) (node .exit) (leaf .exit)) ⌝ }
 {
     all_edges_with_terminate(
         c,
@@ -166,7 +166,7 @@ pub fn all_edges(
         End::None,
         out_weight,
         out_previous,
-        numbers,
+        neighbor_numbers,
         list_ends,
         status,
         weight,

@@ -68,13 +68,13 @@ module _ (order column : List ℕ) where
   pub built-refused : {r : Done} {n : ℕ} → n ≡ buildRefusal order column → (n ≡ 0 → ⊥) → r ≡ done n → BuiltOldToNew order column r column
   built-refused e f q = record {
     answers = said-of _ _ (q ∙ ap done e);
-    column-is = sym (after-refused (buildRefusal order column) (oldToNew order) column (λ z. f (e ∙ z)));
+    column-after = sym (after-refused (buildRefusal order column) (oldToNew order) column (λ z. f (e ∙ z)));
   }
 
   pub built-accepted : {last : List ℕ} → buildRefusal order column ≡ 0 → last ≡ over (oldToNew order) column → BuiltOldToNew order column done-is.Accepted last
   built-accepted z q = record {
     answers = accepts-of z;
-    column-is = q ∙ sym (after-accepted (buildRefusal order column) (oldToNew order) column z);
+    column-after = q ∙ sym (after-accepted (buildRefusal order column) (oldToNew order) column z);
   }
 
 -- ---- translated_defect_to_reordered
@@ -125,13 +125,13 @@ module _ (order list column : List ℕ) where
       let g : translateRefusal order list column ≡ 0 → ⊥ = λ z. f (e ∙ z) in
       record {
         answers = refuses-of e f;
-        column-is = sym (after-refused (translateRefusal order list column) (renamed order list) column g);
+        column-after = sym (after-refused (translateRefusal order list column) (renamed order list) column g);
       }
 
   pub translated-accepted : {last : List ℕ} → translateRefusal order list column ≡ 0 → last ≡ over (renamed order list) column → TranslatedDefects order list column (Count (length list)) last
   translated-accepted z q = record {
     answers = accepts-of z;
-    column-is = q ∙ sym (after-accepted (translateRefusal order list column) (renamed order list) column z);
+    column-after = q ∙ sym (after-accepted (translateRefusal order list column) (renamed order list) column z);
   }
 
 -- ---- reorder_vertices
@@ -171,12 +171,12 @@ pub record ReorderMet (v e : ℕ) (order : List ℕ) (c : ReorderColumns) : Type
   pub sound : CodeSound (codeGraph v e (c .endsA) (c .endsB) (c .boundary))
   pub long-boundary : v ≤ length (c .boundary)
   pub long-defect : v ≤ length (c .defect)
-  pub long-lengths : v ≤ length (c .lengths)
+  pub long-lengths : v ≤ length (c .listLengths)
   pub long-i : v ≤ length (c .posI)
   pub long-j : v ≤ length (c .posJ)
   pub long-t : v ≤ length (c .posT)
-  pub long-numbers : sumTo v (c .lengths) ≤ length (c .numbers)
-  pub long-scratch : sumTo v (c .lengths) ≤ length (c .scratch)
+  pub long-numbers : sumTo v (c .listLengths) ≤ length (c .neighborNumbers)
+  pub long-scratch : sumTo v (c .listLengths) ≤ length (c .scratch)
   pub marks : marksSound v (c .defect) ≡ true
 
 pub reorder-met : (v e : ℕ) (order : List ℕ) (c : ReorderColumns) → reorderRefusal v e order c ≡ 0 → ReorderMet v e order c
@@ -186,9 +186,9 @@ reorder-met v e order c z =
     let rest = orderRefusal v order in
     let z₇ = goes-on (reorderLong v e c) 5 (ask seven 7 rest) z in
     let (ends, x) = and-both (twoLong e (length (c .endsA)) (length (c .endsB))) _ (met (reorderLong v e c) 5 (ask seven 7 rest) z) in
-    let (vertices, y) = and-both (threeLong v (length (c .boundary)) (length (c .defect)) (length (c .lengths))) _ x in
+    let (vertices, y) = and-both (threeLong v (length (c .boundary)) (length (c .defect)) (length (c .listLengths))) _ x in
     let (positions, w) = and-both (threeLong v (length (c .posI)) (length (c .posJ)) (length (c .posT))) _ y in
-    let (numbers, scratch) = and-both (listsLong v e (c .lengths) (c .numbers)) _ w in
+    let (numbers, scratch) = and-both (listsLong v e (c .listLengths) (c .neighborNumbers)) _ w in
     let (m, d, l) = three-long v _ _ _ vertices in
     let (i, j, t) = three-long v _ _ _ positions in
     let (ok, marks) = and-both (codeSound (codeGraph v e (c .endsA) (c .endsB) (c .boundary))) (marksSound v (c .defect)) (met seven 6 rest z₇) in
@@ -217,38 +217,38 @@ module _ (v e : ℕ) (order : List ℕ) (b : ReorderColumns) where
       let g : refusal ≡ 0 → ⊥ = λ z. f (q ∙ z) in
       record {
         answers = said-of _ _ (h ∙ ap done q);
-        endsA-is = sym (after-refused refusal (renamed order (take e (b .endsA))) (b .endsA) g);
-        endsB-is = sym (after-refused refusal (renamed order (take e (b .endsB))) (b .endsB) g);
-        boundary-is = sym (after-refused refusal (moved order 0 (b .boundary)) (b .boundary) g);
-        defect-is = sym (after-refused refusal (moved order 0 (b .defect)) (b .defect) g);
-        posI-is = sym (after-refused refusal (moved order zeroFloat (b .posI)) (b .posI) g);
-        posJ-is = sym (after-refused refusal (moved order zeroFloat (b .posJ)) (b .posJ) g);
-        posT-is = sym (after-refused refusal (moved order zeroFloat (b .posT)) (b .posT) g);
-        lengths-is = sym (after-refused refusal (moved order 0 (b .lengths)) (b .lengths) g);
-        numbers-is = sym (after-refused refusal (movedLists order (b .lengths) (b .numbers)) (b .numbers) g);
-        scratch-is = sym (after-refused refusal (take (sumTo v (b .lengths)) (b .numbers)) (b .scratch) g);
+        endsA-after = sym (after-refused refusal (renamed order (take e (b .endsA))) (b .endsA) g);
+        endsB-after = sym (after-refused refusal (renamed order (take e (b .endsB))) (b .endsB) g);
+        boundary-after = sym (after-refused refusal (moved order 0 (b .boundary)) (b .boundary) g);
+        defect-after = sym (after-refused refusal (moved order 0 (b .defect)) (b .defect) g);
+        posI-after = sym (after-refused refusal (moved order zeroFloat (b .posI)) (b .posI) g);
+        posJ-after = sym (after-refused refusal (moved order zeroFloat (b .posJ)) (b .posJ) g);
+        posT-after = sym (after-refused refusal (moved order zeroFloat (b .posT)) (b .posT) g);
+        listLengths-after = sym (after-refused refusal (moved order 0 (b .listLengths)) (b .listLengths) g);
+        neighborNumbers-after = sym (after-refused refusal (movedLists order (b .listLengths) (b .neighborNumbers)) (b .neighborNumbers) g);
+        scratch-after = sym (after-refused refusal (take (sumTo v (b .listLengths)) (b .neighborNumbers)) (b .scratch) g);
       }
 
   pub reordered-accepted : (last : ReorderColumns) → reorderRefusal v e order b ≡ 0 → length order ≡ v
       → last .endsA ≡ over (renamed order (take e (b .endsA))) (b .endsA) → last .endsB ≡ over (renamed order (take e (b .endsB))) (b .endsB)
       → last .boundary ≡ over (moved order 0 (b .boundary)) (b .boundary) → last .defect ≡ over (moved order 0 (b .defect)) (b .defect)
       → last .posI ≡ over (moved order zeroFloat (b .posI)) (b .posI) → last .posJ ≡ over (moved order zeroFloat (b .posJ)) (b .posJ)
-      → last .posT ≡ over (moved order zeroFloat (b .posT)) (b .posT) → last .lengths ≡ over (moved order 0 (b .lengths)) (b .lengths)
-      → last .numbers ≡ over (movedLists order (b .lengths) (b .numbers)) (b .numbers)
-      → last .scratch ≡ over (take (sumTo (length order) (b .lengths)) (b .numbers)) (b .scratch) → ReorderedVertices v e order b done-is.Accepted last
+      → last .posT ≡ over (moved order zeroFloat (b .posT)) (b .posT) → last .listLengths ≡ over (moved order 0 (b .listLengths)) (b .listLengths)
+      → last .neighborNumbers ≡ over (movedLists order (b .listLengths) (b .neighborNumbers)) (b .neighborNumbers)
+      → last .scratch ≡ over (take (sumTo (length order) (b .listLengths)) (b .neighborNumbers)) (b .scratch) → ReorderedVertices v e order b done-is.Accepted last
   reordered-accepted last z many pa pb pm pd pi pj pt pl pn ps =
       let refusal = reorderRefusal v e order b in
       record {
         answers = accepts-of z;
-        endsA-is = pa ∙ sym (after-accepted refusal (renamed order (take e (b .endsA))) (b .endsA) z);
-        endsB-is = pb ∙ sym (after-accepted refusal (renamed order (take e (b .endsB))) (b .endsB) z);
-        boundary-is = pm ∙ sym (after-accepted refusal (moved order 0 (b .boundary)) (b .boundary) z);
-        defect-is = pd ∙ sym (after-accepted refusal (moved order 0 (b .defect)) (b .defect) z);
-        posI-is = pi ∙ sym (after-accepted refusal (moved order zeroFloat (b .posI)) (b .posI) z);
-        posJ-is = pj ∙ sym (after-accepted refusal (moved order zeroFloat (b .posJ)) (b .posJ) z);
-        posT-is = pt ∙ sym (after-accepted refusal (moved order zeroFloat (b .posT)) (b .posT) z);
-        lengths-is = pl ∙ sym (after-accepted refusal (moved order 0 (b .lengths)) (b .lengths) z);
-        numbers-is = pn ∙ sym (after-accepted refusal (movedLists order (b .lengths) (b .numbers)) (b .numbers) z);
-        scratch-is = ps ∙ ap (λ (n : ℕ). over (take (sumTo n (b .lengths)) (b .numbers)) (b .scratch)) many
-            ∙ sym (after-accepted refusal (take (sumTo v (b .lengths)) (b .numbers)) (b .scratch) z);
+        endsA-after = pa ∙ sym (after-accepted refusal (renamed order (take e (b .endsA))) (b .endsA) z);
+        endsB-after = pb ∙ sym (after-accepted refusal (renamed order (take e (b .endsB))) (b .endsB) z);
+        boundary-after = pm ∙ sym (after-accepted refusal (moved order 0 (b .boundary)) (b .boundary) z);
+        defect-after = pd ∙ sym (after-accepted refusal (moved order 0 (b .defect)) (b .defect) z);
+        posI-after = pi ∙ sym (after-accepted refusal (moved order zeroFloat (b .posI)) (b .posI) z);
+        posJ-after = pj ∙ sym (after-accepted refusal (moved order zeroFloat (b .posJ)) (b .posJ) z);
+        posT-after = pt ∙ sym (after-accepted refusal (moved order zeroFloat (b .posT)) (b .posT) z);
+        listLengths-after = pl ∙ sym (after-accepted refusal (moved order 0 (b .listLengths)) (b .listLengths) z);
+        neighborNumbers-after = pn ∙ sym (after-accepted refusal (movedLists order (b .listLengths) (b .neighborNumbers)) (b .neighborNumbers) z);
+        scratch-after = ps ∙ ap (λ (n : ℕ). over (take (sumTo n (b .listLengths)) (b .neighborNumbers)) (b .scratch)) many
+            ∙ sym (after-accepted refusal (take (sumTo v (b .listLengths)) (b .neighborNumbers)) (b .scratch) z);
       }

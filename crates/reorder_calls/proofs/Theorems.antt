@@ -57,10 +57,10 @@ module _ (v e : ℕ) (order : List ℕ) (before last : ReorderColumns) (answer :
       ∙ map-at (newNumber order) (take e a) 0 i (omega arith) ∙ ap (newNumber order) (getD-take e a i 0 h)
 
   pub endsA-renamed : (i : ℕ) → i < e → getD (last .endsA) i 0 ≡ newNumber order (getD (before .endsA) i 0)
-  endsA-renamed = ends-at (before .endsA) (last .endsA) (call .endsA-is ∙ after-accepted (reorderRefusal v e order before) (renamed order (take e (before .endsA))) (before .endsA) refusal-is) (k .sound .graph .long-a)
+  endsA-renamed = ends-at (before .endsA) (last .endsA) (call .endsA-after ∙ after-accepted (reorderRefusal v e order before) (renamed order (take e (before .endsA))) (before .endsA) refusal-is) (k .sound .graph .long-a)
 
   pub endsB-renamed : (i : ℕ) → i < e → getD (last .endsB) i 0 ≡ newNumber order (getD (before .endsB) i 0)
-  endsB-renamed = ends-at (before .endsB) (last .endsB) (call .endsB-is ∙ after-accepted (reorderRefusal v e order before) (renamed order (take e (before .endsB))) (before .endsB) refusal-is) (k .sound .graph .long-b)
+  endsB-renamed = ends-at (before .endsB) (last .endsB) (call .endsB-after ∙ after-accepted (reorderRefusal v e order before) (renamed order (take e (before .endsB))) (before .endsB) refusal-is) (k .sound .graph .long-b)
 
   column-at : {A : Type 0} (d : A) (x x′ : List A) → x′ ≡ over (moved order d x) x → (i : ℕ) → i < v → getD x′ i d ≡ getD x (getD order i 0) d
   column-at d x x′ p i h =
@@ -68,10 +68,10 @@ module _ (v e : ℕ) (order : List ℕ) (before last : ReorderColumns) (answer :
       ∙ map-at (λ u. getD x u d) order d i (omega (arith, k .many))
 
   pub boundary-moved : (i : ℕ) → i < v → getD (last .boundary) i 0 ≡ getD (before .boundary) (getD order i 0) 0
-  boundary-moved = column-at 0 (before .boundary) (last .boundary) (call .boundary-is ∙ after-accepted (reorderRefusal v e order before) (moved order 0 (before .boundary)) (before .boundary) refusal-is)
+  boundary-moved = column-at 0 (before .boundary) (last .boundary) (call .boundary-after ∙ after-accepted (reorderRefusal v e order before) (moved order 0 (before .boundary)) (before .boundary) refusal-is)
 
   pub defect-moved : (i : ℕ) → i < v → getD (last .defect) i 0 ≡ getD (before .defect) (getD order i 0) 0
-  defect-moved = column-at 0 (before .defect) (last .defect) (call .defect-is ∙ after-accepted (reorderRefusal v e order before) (moved order 0 (before .defect)) (before .defect) refusal-is)
+  defect-moved = column-at 0 (before .defect) (last .defect) (call .defect-after ∙ after-accepted (reorderRefusal v e order before) (moved order 0 (before .defect)) (before .defect) refusal-is)
 
   in-order : (u : ℕ) → u < v → u < length order
   in-order u h = omega (arith, k .many)
@@ -105,8 +105,8 @@ module _ (v e : ℕ) (order : List ℕ) (before last : ReorderColumns) (answer :
         some-vertex = s .some-vertex;
         few-vertices = s .few-vertices;
         few-edges = s .few-edges;
-        long-a = omega (arith, s .long-a, ap length (call .endsA-is ∙ after-accepted (reorderRefusal v e order before) (renamed order (take e (before .endsA))) (before .endsA) refusal-is) ∙ length-over (renamed order (take e a)) a (omega (arith, length-map (take e a) (newNumber order), length-take e a)));
-        long-b = omega (arith, s .long-b, ap length (call .endsB-is ∙ after-accepted (reorderRefusal v e order before) (renamed order (take e (before .endsB))) (before .endsB) refusal-is) ∙ length-over (renamed order (take e b)) b (omega (arith, length-map (take e b) (newNumber order), length-take e b)));
+        long-a = omega (arith, s .long-a, ap length (call .endsA-after ∙ after-accepted (reorderRefusal v e order before) (renamed order (take e (before .endsA))) (before .endsA) refusal-is) ∙ length-over (renamed order (take e a)) a (omega (arith, length-map (take e a) (newNumber order), length-take e a)));
+        long-b = omega (arith, s .long-b, ap length (call .endsB-after ∙ after-accepted (reorderRefusal v e order before) (renamed order (take e (before .endsB))) (before .endsB) refusal-is) ∙ length-over (renamed order (take e b)) b (omega (arith, length-map (take e b) (newNumber order), length-take e b)));
         in-a = λ i h. subst (λ (x : ℕ). x < v) (sym (endsA-renamed i h)) (new-in (getD a i 0) (in-a i h));
         in-b = λ i h. subst (λ (x : ℕ). x < v) (sym (endsB-renamed i h)) (new-in (getD b i 0) (in-b i h));
         differ = λ i h q. s .differ i h (back a b i i (in-a i h) (in-b i h) (endsA-renamed i h) (endsB-renamed i h) q);

@@ -18,7 +18,7 @@ use Rattle.columns_room.specs.Room.{twoLong, threeLong, listsLong}
 use Rattle.columns_room.specs.Graph.{codeGraph, codeSound}
 use Rattle.reorder_orders.specs.Order.{noneTwice, renamed, moved}
 
--- Records, on vertices and edges: the columns that a reordering changes; `numbers` has the neighbour lists one after another, `scratch` has room for them too.
+-- Records, on vertices and edges: the columns that a reordering changes; `neighborNumbers` has the neighbour lists one after another, `scratch` has room for them too.
 pub record ReorderColumns : Type 0 where
   pub endsA : List ℕ
   pub endsB : List ℕ
@@ -27,8 +27,8 @@ pub record ReorderColumns : Type 0 where
   pub posI : List Float
   pub posJ : List Float
   pub posT : List Float
-  pub lengths : List ℕ
-  pub numbers : List ℕ
+  pub listLengths : List ℕ
+  pub neighborNumbers : List ℕ
   pub scratch : List ℕ
 
 -- Records, on vertices and edges: these columns together.
@@ -41,8 +41,8 @@ reorderColumns a b m d i j t l n s = record {
   posI = i;
   posJ = j;
   posT = t;
-  lengths = l;
-  numbers = n;
+  listLengths = l;
+  neighborNumbers = n;
   scratch = s;
 }
 
@@ -59,9 +59,9 @@ movedLists order lengths numbers = joined (length order) (λ k. listAt lengths n
 unfoldable pub reorderLong : (v e : ℕ) → ReorderColumns → Bool
 reorderLong v e c =
     twoLong e (length (c .endsA)) (length (c .endsB))
-    && (threeLong v (length (c .boundary)) (length (c .defect)) (length (c .lengths))
+    && (threeLong v (length (c .boundary)) (length (c .defect)) (length (c .listLengths))
     && (threeLong v (length (c .posI)) (length (c .posJ)) (length (c .posT))
-    && (listsLong v e (c .lengths) (c .numbers) && listsLong v e (c .lengths) (c .scratch))))
+    && (listsLong v e (c .listLengths) (c .neighborNumbers) && listsLong v e (c .listLengths) (c .scratch))))
 
 -- Questions at the door, 7: counts, ends, boundary and defect bytes.
 unfoldable pub reorderSound : (v e : ℕ) (a b m d : List ℕ) → Bool
@@ -82,13 +82,13 @@ reorderRefusal v e order c =
 -- after an accepted call the scratch starts with the old neighbour lists.
 pub record ReorderedVertices (v e : ℕ) (order : List ℕ) (c₀ : ReorderColumns) (answer : Done) (c : ReorderColumns) : Type 0 where
   pub answers : Answered (doneSaid answer) (reorderRefusal v e order c₀) tt tt
-  pub endsA-is : c .endsA ≡ after (reorderRefusal v e order c₀) (renamed order (take e (c₀ .endsA))) (c₀ .endsA)
-  pub endsB-is : c .endsB ≡ after (reorderRefusal v e order c₀) (renamed order (take e (c₀ .endsB))) (c₀ .endsB)
-  pub boundary-is : c .boundary ≡ after (reorderRefusal v e order c₀) (moved order 0 (c₀ .boundary)) (c₀ .boundary)
-  pub defect-is : c .defect ≡ after (reorderRefusal v e order c₀) (moved order 0 (c₀ .defect)) (c₀ .defect)
-  pub posI-is : c .posI ≡ after (reorderRefusal v e order c₀) (moved order zeroFloat (c₀ .posI)) (c₀ .posI)
-  pub posJ-is : c .posJ ≡ after (reorderRefusal v e order c₀) (moved order zeroFloat (c₀ .posJ)) (c₀ .posJ)
-  pub posT-is : c .posT ≡ after (reorderRefusal v e order c₀) (moved order zeroFloat (c₀ .posT)) (c₀ .posT)
-  pub lengths-is : c .lengths ≡ after (reorderRefusal v e order c₀) (moved order 0 (c₀ .lengths)) (c₀ .lengths)
-  pub numbers-is : c .numbers ≡ after (reorderRefusal v e order c₀) (movedLists order (c₀ .lengths) (c₀ .numbers)) (c₀ .numbers)
-  pub scratch-is : c .scratch ≡ after (reorderRefusal v e order c₀) (take (sumTo v (c₀ .lengths)) (c₀ .numbers)) (c₀ .scratch)
+  pub endsA-after : c .endsA ≡ after (reorderRefusal v e order c₀) (renamed order (take e (c₀ .endsA))) (c₀ .endsA)
+  pub endsB-after : c .endsB ≡ after (reorderRefusal v e order c₀) (renamed order (take e (c₀ .endsB))) (c₀ .endsB)
+  pub boundary-after : c .boundary ≡ after (reorderRefusal v e order c₀) (moved order 0 (c₀ .boundary)) (c₀ .boundary)
+  pub defect-after : c .defect ≡ after (reorderRefusal v e order c₀) (moved order 0 (c₀ .defect)) (c₀ .defect)
+  pub posI-after : c .posI ≡ after (reorderRefusal v e order c₀) (moved order zeroFloat (c₀ .posI)) (c₀ .posI)
+  pub posJ-after : c .posJ ≡ after (reorderRefusal v e order c₀) (moved order zeroFloat (c₀ .posJ)) (c₀ .posJ)
+  pub posT-after : c .posT ≡ after (reorderRefusal v e order c₀) (moved order zeroFloat (c₀ .posT)) (c₀ .posT)
+  pub listLengths-after : c .listLengths ≡ after (reorderRefusal v e order c₀) (moved order 0 (c₀ .listLengths)) (c₀ .listLengths)
+  pub neighborNumbers-after : c .neighborNumbers ≡ after (reorderRefusal v e order c₀) (movedLists order (c₀ .listLengths) (c₀ .neighborNumbers)) (c₀ .neighborNumbers)
+  pub scratch-after : c .scratch ≡ after (reorderRefusal v e order c₀) (take (sumTo v (c₀ .listLengths)) (c₀ .neighborNumbers)) (c₀ .scratch)

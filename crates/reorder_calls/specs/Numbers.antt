@@ -28,7 +28,7 @@ buildRefusal order column =
 -- Sampling, syndromes, reordering, paragraph 2, sentence 5: the answer, and the new number of each old vertex.
 pub record BuiltOldToNew (order column₀ : List ℕ) (answer : Done) (column : List ℕ) : Type 0 where
   pub answers : Answered (doneSaid answer) (buildRefusal order column₀) tt tt
-  pub column-is : column ≡ after (buildRefusal order column₀) (oldToNew order) column₀
+  pub column-after : column ≡ after (buildRefusal order column₀) (oldToNew order) column₀
 
 -- ---- translated_defect_to_reordered
 
@@ -48,4 +48,4 @@ translateRefusal order list column =
 -- Sampling, syndromes, reordering, paragraph 2, sentence 4: a translated list keeps its order; the answer, and the column afterwards.
 pub record TranslatedDefects (order list column₀ : List ℕ) (answer : TranslatedAnswer) (column : List ℕ) : Type 0 where
   pub answers : Answered (countSaid answer) (translateRefusal order list column₀) (length list) 0
-  pub column-is : column ≡ after (translateRefusal order list column₀) (renamed order list) column₀
+  pub column-after : column ≡ after (translateRefusal order list column₀) (renamed order list) column₀

@@ -17,9 +17,7 @@ use Rattle.columns.proofs.Columns.{after-accepted, after-refused, over-in}
 use Rattle.columns.proofs.Tests.{and-both, below-at}
 use Rattle.columns_neighbors.specs.Steps.{InRange}
 use Rattle.columns.proofs.Refusals.{met, goes-on}
-use Rattle.columns_answers.specs.declared.SyndromeCounts.{SyndromeCounts}
 use Rattle.columns_answers.specs.declared.SyndromeCounts.the-variants as syndrome
-use Rattle.columns_answers.specs.declared.ListCount.{ListCount}
 use Rattle.columns_answers.specs.declared.ListCount.the-variants as list
 use Rattle.columns_room.specs.Room.{twoLong}
 use Rattle.columns_room.proofs.Refusals.{two-long}
@@ -126,10 +124,10 @@ module _ (number v e : ℕ) (defects erasures : List ℕ) (before : SyndromeColu
       let g : number ≡ 0 → ⊥ = λ z. f (e ∙ z) in
       record {
         answers = refuses-of e f;
-        defect-is = sym (after-refused number defects (before .defect) g);
-        erasure-is = sym (after-refused number erasures (before .erasure) g);
-        defects-listed = sym (after-refused number (listed v defects) (before .defectList) g);
-        erasures-listed = sym (after-refused number (listed _ erasures) (before .erasureList) g);
+        defect-after = sym (after-refused number defects (before .defect) g);
+        erasure-after = sym (after-refused number erasures (before .erasure) g);
+        defectList-after = sym (after-refused number (listed v defects) (before .defectList) g);
+        erasureList-after = sym (after-refused number (listed _ erasures) (before .erasureList) g);
       }
 
   pub left-accepted : (last : SyndromeColumns) {d s : ℕ} → number ≡ 0
@@ -145,10 +143,10 @@ module _ (number v e : ℕ) (defects erasures : List ℕ) (before : SyndromeColu
       let cs : s ≡ length (listed e erasures) = ns ∙ ap length ms in
       record {
         answers = rw (cd, cs) (accepts-of z);
-        defect-is = pd ∙ sym (after-accepted number defects (before .defect) z);
-        erasure-is = ps ∙ sym (after-accepted number erasures (before .erasure) z);
-        defects-listed = xd ∙ ap (λ (l : List ℕ). over l (before .defectList)) md ∙ sym (after-accepted number (listed v defects) (before .defectList) z);
-        erasures-listed = xs ∙ ap (λ (l : List ℕ). over l (before .erasureList)) ms ∙ sym (after-accepted number (listed e erasures) (before .erasureList) z);
+        defect-after = pd ∙ sym (after-accepted number defects (before .defect) z);
+        erasure-after = ps ∙ sym (after-accepted number erasures (before .erasure) z);
+        defectList-after = xd ∙ ap (λ (l : List ℕ). over l (before .defectList)) md ∙ sym (after-accepted number (listed v defects) (before .defectList) z);
+        erasureList-after = xs ∙ ap (λ (l : List ℕ). over l (before .erasureList)) ms ∙ sym (after-accepted number (listed e erasures) (before .erasureList) z);
       }
 
 -- ---- syndrome_of
@@ -198,12 +196,12 @@ module _ (g : CodeGraph) (ks defectList : List ℕ) where
       let h : syndromeRefusal g ks defectList ≡ 0 → ⊥ = λ z. f (e ∙ z) in
       record {
         answers = refuses-of e f;
-        listed = sym (after-refused (syndromeRefusal g ks defectList) (syndromeOf g ks) defectList h);
+        defectList-after = sym (after-refused (syndromeRefusal g ks defectList) (syndromeOf g ks) defectList h);
       }
 
   pub syndrome-accepted : {last : List ℕ} {n : ℕ} → syndromeRefusal g ks defectList ≡ 0 → n ≡ length (syndromeOf g ks) → last ≡ over (syndromeOf g ks) defectList
       → FoundSyndrome g ks defectList (list.Count n) last
   syndrome-accepted z p q = record {
     answers = rw p (accepts-of z);
-    listed = q ∙ sym (after-accepted (syndromeRefusal g ks defectList) (syndromeOf g ks) defectList z);
+    defectList-after = q ∙ sym (after-accepted (syndromeRefusal g ks defectList) (syndromeOf g ks) defectList z);
   }

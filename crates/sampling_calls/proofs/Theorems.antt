@@ -64,7 +64,7 @@ marks-of : (seed k : ℕ) (g : CodeGraph) (p pe : List Float) (before last : Syn
 unfolding sampledErasures
 marks-of seed k g p pe before last r s z h =
     let marks = sampledErasures (seedFromU64 seed) pe (g .edges) in
-    ap (take k) (s .erasure-is ∙ after-accepted (samplingRefusal g p pe before) marks (before .erasure) (accepted-number s z))
+    ap (take k) (s .erasure-after ∙ after-accepted (samplingRefusal g p pe before) marks (before .erasure) (accepted-number s z))
     ∙ take-append-le k marks _ (omega (arith, length-sampledErasures (seedFromU64 seed) pe (g .edges)))
     ∙ take-each k (g .edges) (λ j. cond (isErased (seedFromU64 seed) pe j) 1 0) h
 

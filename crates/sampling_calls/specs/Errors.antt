@@ -18,10 +18,10 @@ use Rattle.columns_answers.specs.Counts.{syndromeSaid}
 -- then the defect and erasure bytes are those given, and both lists name the bytes that are set, here those that are 1, ascending.
 pub record SyndromeLeft (number v e : ℕ) (defects erasures : List ℕ) (s₀ : SyndromeColumns) (answer : SyndromeCounts) (s : SyndromeColumns) : Type 0 where
   pub answers : Answered (syndromeSaid answer) number (length (listed v defects), length (listed e erasures)) (0, 0)
-  pub defect-is : s .defect ≡ after number defects (s₀ .defect)
-  pub erasure-is : s .erasure ≡ after number erasures (s₀ .erasure)
-  pub defects-listed : s .defectList ≡ after number (listed v defects) (s₀ .defectList)
-  pub erasures-listed : s .erasureList ≡ after number (listed e erasures) (s₀ .erasureList)
+  pub defect-after : s .defect ≡ after number defects (s₀ .defect)
+  pub erasure-after : s .erasure ≡ after number erasures (s₀ .erasure)
+  pub defectList-after : s .defectList ≡ after number (listed v defects) (s₀ .defectList)
+  pub erasureList-after : s .erasureList ≡ after number (listed e erasures) (s₀ .erasureList)
 
 -- ---- generate_errors
 

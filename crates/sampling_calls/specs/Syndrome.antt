@@ -42,4 +42,4 @@ syndromeRefusal g edges defectList =
 -- Sampling, syndromes, reordering, paragraph 2, sentences 3 and 4: the answer is how many defects there are, and the list names them.
 pub record FoundSyndrome (g : CodeGraph) (edges defectList₀ : List ℕ) (answer : ListCount) (defectList : List ℕ) : Type 0 where
   pub answers : Answered (listSaid answer) (syndromeRefusal g edges defectList₀) (length (syndromeOf g edges)) 0
-  pub listed : defectList ≡ after (syndromeRefusal g edges defectList₀) (syndromeOf g edges) defectList₀
+  pub defectList-after : defectList ≡ after (syndromeRefusal g edges defectList₀) (syndromeOf g edges) defectList₀

@@ -28,8 +28,8 @@ module _ (v e : ℕ) (defect erasure : List ℕ) where
       let g : clearRefusal v e defect erasure ≡ 0 → ⊥ = λ z. f (q ∙ z) in
       record {
         answers = said-of _ _ (h ∙ ap done q);
-        defect-is = sym (after-refused (clearRefusal v e defect erasure) (replicate v 0) defect g);
-        erasure-is = sym (after-refused (clearRefusal v e defect erasure) (replicate e 1) erasure g);
+        defect-after = sym (after-refused (clearRefusal v e defect erasure) (replicate v 0) defect g);
+        erasure-after = sym (after-refused (clearRefusal v e defect erasure) (replicate e 1) erasure g);
       }
 
   pub clear-accepted : {d s : List ℕ} → clearRefusal v e defect erasure ≡ 0 → d ≡ sets defect 0 (replicate v 0) → s ≡ sets erasure 0 (replicate e 1)
@@ -41,6 +41,6 @@ module _ (v e : ℕ) (defect erasure : List ℕ) where
       let le : e ≤ length erasure = leb-true _ _ y in
       record {
         answers = accepts-of z;
-        defect-is = p ∙ sets-over defect (replicate v 0) (omega (arith, length-replicate {A = ℕ} v 0)) ∙ sym (after-accepted _ (replicate v 0) defect z);
-        erasure-is = q ∙ sets-over erasure (replicate e 1) (omega (arith, length-replicate {A = ℕ} e 1)) ∙ sym (after-accepted _ (replicate e 1) erasure z);
+        defect-after = p ∙ sets-over defect (replicate v 0) (omega (arith, length-replicate {A = ℕ} v 0)) ∙ sym (after-accepted _ (replicate v 0) defect z);
+        erasure-after = q ∙ sets-over erasure (replicate e 1) (omega (arith, length-replicate {A = ℕ} e 1)) ∙ sym (after-accepted _ (replicate e 1) erasure z);
       }

@@ -19,5 +19,5 @@ clearRefusal v e defect erasure =
 -- Sampling, syndromes, reordering, paragraph 2, sentence 2: every defect byte 0, every erasure byte 1; the answer, and both columns afterwards.
 pub record ClearedErrors (v e : ℕ) (defect₀ erasure₀ : List ℕ) (answer : Done) (defect erasure : List ℕ) : Type 0 where
   pub answers : Answered (doneSaid answer) (clearRefusal v e defect₀ erasure₀) tt tt
-  pub defect-is : defect ≡ after (clearRefusal v e defect₀ erasure₀) (replicate v 0) defect₀
-  pub erasure-is : erasure ≡ after (clearRefusal v e defect₀ erasure₀) (replicate e 1) erasure₀
+  pub defect-after : defect ≡ after (clearRefusal v e defect₀ erasure₀) (replicate v 0) defect₀
+  pub erasure-after : erasure ≡ after (clearRefusal v e defect₀ erasure₀) (replicate e 1) erasure₀

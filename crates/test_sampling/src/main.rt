@@ -137,9 +137,9 @@ fn positions_and_lists(order: &[u32]) {
     let mut ends_b = [2u32, 3, 3, 4, 4, 5, 6, 7, 7];
     let mut boundary = [0u8, 2, 1, 0, 0, 2, 1, 0];
     let mut defect = [1u8, 0, 1, 0, 1, 0, 0, 0];
-    let mut is = [0.0, 1.0, 2.0, 3.0, 4.0, 5.0, 6.0, 7.0];
-    let mut js = [0.5; 8];
-    let mut ts = [0.25; 8];
+    let mut pos_i = [0.0, 1.0, 2.0, 3.0, 4.0, 5.0, 6.0, 7.0];
+    let mut pos_j = [0.5; 8];
+    let mut pos_t = [0.25; 8];
     let mut lengths = [2u32, 1, 2, 4, 4, 2, 1, 2];
     let mut lists = [
         0u32,
@@ -172,9 +172,9 @@ fn positions_and_lists(order: &[u32]) {
         &mut ends_b,
         &mut boundary,
         &mut defect,
-        &mut is,
-        &mut js,
-        &mut ts,
+        &mut pos_i,
+        &mut pos_j,
+        &mut pos_t,
         &mut lengths,
         &mut lists,
         &mut scratch,

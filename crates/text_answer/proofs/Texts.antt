@@ -20,7 +20,6 @@ use Rattle.text_input.specs.declared.LineRead.the-variants.{WellFormed, NotWell
 use Rattle.text_input.specs.Line.{wellFormed, lineOf, ReadsLine}
 use Rattle.text_listing.specs.Listing.{codeText}
 use Rattle.text_listing.proofs.Texts.{renamed}
-use Rattle.text_answer.specs.declared.Listed.{Listed}
 use Rattle.text_answer.specs.declared.Listed.the-variants as call
 use Rattle.text_answer.specs.Answer.{textBy, textOf, answerText, textRoom, textRefusal, CodeListed}
 use Rattle.text_answer.proofs.Sizes.{every-text-fits}
@@ -50,8 +49,8 @@ pub too-short : (input text : List ℕ) → length text < textRoom → CodeListe
 too-short input text h =
     let q : textRefusal text ≡ 6 = ap (λ (b : Bool). ask b 6 0) (lt-leb textRoom (length text) h) in
     record {
-      answer = refuses-of (sym q) (λ z. absurd (omega arith));
-      written = sym (after-refused (textRefusal text) (answerText input) text (λ z. omega (arith, q)));
+      answers = refuses-of (sym q) (λ z. absurd (omega arith));
+      text-after = sym (after-refused (textRefusal text) (answerText input) text (λ z. omega (arith, q)));
     }
 
 pub long-enough : (input text₀ text : List ℕ) (l : LineRead) (r : ℕ) → textRoom ≤ length text₀ → ReadsLine input l → Put text₀ 0 (textOf l) text r → CodeListed input text₀ text (call.Text r)
@@ -61,6 +60,6 @@ long-enough input text₀ text l r h e p =
     let fits : length (answerText input) ≤ length text₀ = omega (arith, every-text-fits input) in
     let next : r ≡ length (answerText input) = p .next ∙ omega (arith, ap length same) in
     record {
-      answer = rw next (accepts-of q);
-      written = p .stored ∙ ap (sets text₀ 0) same ∙ sets-over text₀ (answerText input) fits ∙ sym (after-accepted (textRefusal text₀) (answerText input) text₀ q);
+      answers = rw next (accepts-of q);
+      text-after = p .stored ∙ ap (sets text₀ 0) same ∙ sets-over text₀ (answerText input) fits ∙ sym (after-accepted (textRefusal text₀) (answerText input) text₀ q);
     }

@@ -48,6 +48,6 @@ abbrev pub textRefusal : List ℕ → ℕ
 textRefusal text = ask (leb textRoom (length text)) 6 0
 
 -- The program codelist: the call's answer, and the text column before and after.
-pub record CodeListed (input before text : List ℕ) (r : Listed) : Type 0 where
-  pub answer : Answered (textSaid r) (textRefusal before) (length (answerText input)) 0
-  pub written : text ≡ after (textRefusal before) (answerText input) before
+pub record CodeListed (input text₀ text : List ℕ) (answer : Listed) : Type 0 where
+  pub answers : Answered (textSaid answer) (textRefusal text₀) (length (answerText input)) 0
+  pub text-after : text ≡ after (textRefusal text₀) (answerText input) text₀

@@ -2,6 +2,7 @@
 use columns::of_bits;
 use text_input::LineRead;
 use text_input::read_line;
+use text_listing::CodeArguments;
 use text_listing::write_code;
 use text_numbers::lines::write_refusal;
 ghost use Rattle.text_numbers.specs.Steps.{Put};
@@ -23,7 +24,16 @@ fn write_answer(line: LineRead, text: &mut [u8]) -> usize
 {
     match line {
         LineRead::NotWellFormed => write_refusal(text, 1),
-        LineRead::WellFormed(l) => write_code(l.kind, l.d, l.rounds, of_bits(l.bits), l.max, text),
+        LineRead::WellFormed(l) => write_code(
+            CodeArguments {
+                kind: l.kind,
+                d: l.d,
+                rounds: l.rounds,
+                probability: of_bits(l.bits),
+                max: l.max,
+            },
+            text,
+        ),
     }
 }
 

@@ -90,8 +90,8 @@ module _ (kind d rounds : ℕ) (p : _) (max v e : ℕ) (a b w m : List ℕ) (s :
   unfolding scratchLong
   scratch-long out l r =
       both-and (le-leb v out (omega (arith, s .few-vertices, r .out-room)))
-      (both-and (le-leb (2 * e) (l .numbers) (omega (arith, s .few-edges, r .numbers-room)))
-      (both-and (le-leb v (l .ends) (omega (arith, s .few-vertices, r .ends-room)))
+      (both-and (le-leb (2 * e) (l .«neighbor_numbers») (omega (arith, s .few-edges, r .numbers-room)))
+      (both-and (le-leb v (l .«list_ends») (omega (arith, s .few-vertices, r .ends-room)))
       (both-and (le-leb v (l .status) (omega (arith, s .few-vertices, r .status-room)))
       (both-and (le-leb v (l .weight) (omega (arith, s .few-vertices, r .weight-room)))
       (both-and (le-leb v (l .previous) (omega (arith, s .few-vertices, r .previous-room)))

@@ -2,7 +2,7 @@
 use mathlib.Core.Path.{_≡_, sym, ap, _∙_}
 use mathlib.Core.Bool.{Bool, true, cond}
 use mathlib.Core.List.{List}
-use Prim.Native.Nat.{ℕ, _+_, _*_, _≤_, _<_}
+use Prim.Native.Nat.{ℕ, _*_, _≤_, _<_}
 use native.Mathlib.Omega.{arith}
 use lib.ListN.{length, getD, take, length-map, length-take, List·getD-map}
 use lib.Seq.{getD-take}
@@ -46,19 +46,19 @@ module _ (kind d rounds : ℕ) (p : Float) (max : ℕ) (lent back : CodeColumns)
   pub refused-text : (n : ℕ) → NewCode kind d rounds p max lent back (Refused n) → refusalLine n ≡ codeText kind d rounds p max
   unfolding codeText
   refused-text n c =
-      let q : n ≡ listRefusal kind d rounds p max = c .answer .number-is ∙ refusal in
+      let q : n ≡ listRefusal kind d rounds p max = c .answers .number-is ∙ refusal in
       ap refusalLine q
-      ∙ sym (ap (λ (b : Bool). cond b (listingOf kind d rounds p max) (refusalLine (listRefusal kind d rounds p max))) (ne-eqb (listRefusal kind d rounds p max) 0 (λ z. refused-of (c .answer) (refusal ∙ z))))
+      ∙ sym (ap (λ (b : Bool). cond b (listingOf kind d rounds p max) (refusalLine (listRefusal kind d rounds p max))) (ne-eqb (listRefusal kind d rounds p max) 0 (λ z. refused-of (c .answers) (refusal ∙ z))))
 
   module _ (v e : ℕ) (c : NewCode kind d rounds p max lent back (Code v e)) where
     zero-number : newRefusalIn kind d rounds p (diagonalOf kind p) max lent ≡ 0
-    zero-number = code-case (c .answer) .0
+    zero-number = code-case (c .answers) .0
 
     v-is : v ≡ vertexNum kind d rounds
-    v-is = code-case (c .answer) .1
+    v-is = code-case (c .answers) .1
 
     e-is : e ≡ edgeNum kind d rounds
-    e-is = code-case (c .answer) .2
+    e-is = code-case (c .answers) .2
 
     open′ : ListOpen kind d rounds max
     open′ = list-opened kind d rounds p max (sym refusal ∙ zero-number)
@@ -85,10 +85,10 @@ module _ (kind d rounds : ℕ) (p : Float) (max : ℕ) (lent back : CodeColumns)
           few-edges = omega (arith, e-is, open′ .edges);
           max-few = open′ .max-few;
           max-some = open′ .max-some;
-          in-a = first-places (firsts es) (lent .endsA) e (length-map es (λ (x : Ends). x .0) ∙ count) (c .columns .ends-a);
-          in-b = first-places (seconds es) (lent .endsB) e (length-map es (λ (x : Ends). x .1) ∙ count) (c .columns .ends-b);
-          in-h = first-places (halfWeights max ps) (lent .halfWeight) e (length-map ps (λ x. halfWeight max (edgeWeight x) (largestWeight ps)) ∙ sized kind d rounds p (diagonalOf kind p) (open′ .ok) ∙ sym e-is) (c .columns .half-weight);
-          in-m = first-places (boundaries (verticesOf kind d rounds)) (lent .boundary) v (length-map (verticesOf kind d rounds) (λ (x : CodeVertex). x .boundary) ∙ count-v) (c .columns .boundary);
+          in-a = first-places (firsts es) (lent .endsA) e (length-map es (λ (x : Ends). x .0) ∙ count) (c .columns-after .endsA-after);
+          in-b = first-places (seconds es) (lent .endsB) e (length-map es (λ (x : Ends). x .1) ∙ count) (c .columns-after .endsB-after);
+          in-h = first-places (halfWeights max ps) (lent .halfWeight) e (length-map ps (λ x. halfWeight max (edgeWeight x) (largestWeight ps)) ∙ sized kind d rounds p (diagonalOf kind p) (open′ .ok) ∙ sym e-is) (c .columns-after .halfWeight-after);
+          in-m = first-places (boundaries (verticesOf kind d rounds)) (lent .boundary) v (length-map (verticesOf kind d rounds) (λ (x : CodeVertex). x .boundary) ∙ count-v) (c .columns-after .boundary-after);
         }
 
 -- ---- the weights

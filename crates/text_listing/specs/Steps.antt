@@ -25,8 +25,8 @@ use Rattle.query_questions.specs.declared.ScratchLengths.{ScratchLengths}
 -- Questions at the door, 6: scratch for 1,024 vertices and 6,144 edges.
 pub record ScratchRoom (out : ℕ) (l : ScratchLengths) : Type 0 where
   pub out-room : out ≡ 1024
-  pub numbers-room : l .numbers ≡ 12288
-  pub ends-room : l .ends ≡ 1024
+  pub numbers-room : l .«neighbor_numbers» ≡ 12288
+  pub ends-room : l .«list_ends» ≡ 1024
   pub status-room : l .status ≡ 1024
   pub weight-room : l .weight ≡ 1024
   pub previous-room : l .previous ≡ 1024

@@ -11,16 +11,22 @@ use columns::Weight;
 use engine_columns::EngineCounts;
 use query_crossing_answer::CrossingReply;
 use query_crossings::crossing;
+use text_numbers::lines::GraphLine;
 use text_numbers::lines::write_listing;
 use text_numbers::lines::write_refusal;
 
+// What a code is built from.
+pub struct CodeArguments {
+    pub kind: u32,
+    pub d: u32,
+    pub rounds: u32,
+    pub probability: f64,
+    pub max: Weight,
+}
+
 // The crossing of a built code under these weights; the columns from `out_weight` on are scratch here.
 fn crossing_in(
-    kind: u32,
-    d: u32,
-    rounds: u32,
-    probability: f64,
-    max_half_weight: Weight,
+    code: CodeArguments,
     v: u32,
     e: u32,
     ends_a: &[u32],
@@ -28,7 +34,7 @@ fn crossing_in(
     weights: &[Weight],
     boundary: &[u8],
     out_weight: &mut [i32],
-    numbers: &mut [u32],
+    neighbor_numbers: &mut [u32],
     list_ends: &mut [u32],
     status: &mut [u8],
     weight: &mut [Weight],
@@ -36,9 +42,9 @@ fn crossing_in(
     node: &mut [u64],
     leaf: &mut [u64],
 ) -> CrossingReply
-    requires { ⌜ HoldsWeights kind d rounds probability «max_half_weight» v e (now «ends_a») (now «ends_b») (now weights) (now boundary) ⌝ }
-    requires { ⌜ ScratchRoom (length (now «out_weight»)) (scratchLengths (scratchIn numbers «list_ends» status weight previous node leaf)) ⌝ }
-    ensures { λ r. ⌜ Replied kind d rounds probability «max_half_weight» r ⌝ }
+    requires { ⌜ HoldsWeights (code .kind) (code .d) (code .rounds) (code .probability) (code .max) v e (now «ends_a») (now «ends_b») (now weights) (now boundary) ⌝ }
+    requires { ⌜ ScratchRoom (length (now «out_weight»)) (scratchLengths (scratchIn «neighbor_numbers» «list_ends» status weight previous node leaf)) ⌝ }
+    ensures { λ r. ⌜ Replied (code .kind) (code .d) (code .rounds) (code .probability) (code .max) r ⌝ }
 {
     let log_edges = [0u32; 1];
     let log_weights = [0u32; 1];
@@ -56,7 +62,7 @@ fn crossing_in(
         &log_edges,
         &log_weights,
         out_weight,
-        numbers,
+        neighbor_numbers,
         list_ends,
         status,
         weight,
@@ -68,11 +74,7 @@ fn crossing_in(
 
 // The same with scratch of its own.
 fn crossing_of(
-    kind: u32,
-    d: u32,
-    rounds: u32,
-    probability: f64,
-    max_half_weight: Weight,
+    code: CodeArguments,
     v: u32,
     e: u32,
     ends_a: &[u32],
@@ -80,11 +82,11 @@ fn crossing_of(
     weights: &[Weight],
     boundary: &[u8],
 ) -> CrossingReply
-    requires { ⌜ HoldsWeights kind d rounds probability «max_half_weight» v e (now «ends_a») (now «ends_b») (now weights) (now boundary) ⌝ }
-    ensures { λ r. ⌜ Replied kind d rounds probability «max_half_weight» r ⌝ }
+    requires { ⌜ HoldsWeights (code .kind) (code .d) (code .rounds) (code .probability) (code .max) v e (now «ends_a») (now «ends_b») (now weights) (now boundary) ⌝ }
+    ensures { λ r. ⌜ Replied (code .kind) (code .d) (code .rounds) (code .probability) (code .max) r ⌝ }
 {
     let mut out_weight = [0i32; 1024];
-    let mut numbers = [0u32; 12288];
+    let mut neighbor_numbers = [0u32; 12288];
     let mut list_ends = [0u32; 1024];
     let mut status = [0u8; 1024];
     let mut weight = [0u32; 1024];
@@ -92,11 +94,7 @@ fn crossing_of(
     let mut node = [0u64; 1024];
     let mut leaf = [0u64; 1024];
     crossing_in(
-        kind,
-        d,
-        rounds,
-        probability,
-        max_half_weight,
+        code,
         v,
         e,
         ends_a,
@@ -104,7 +102,7 @@ fn crossing_of(
         weights,
         boundary,
         &mut out_weight,
-        &mut numbers,
+        &mut neighbor_numbers,
         &mut list_ends,
         &mut status,
         &mut weight,
@@ -117,9 +115,7 @@ fn crossing_of(
 // The listing, or the number that the crossing is refused with.
 fn write_reply(
     reply: CrossingReply,
-    kind: u32,
-    d: u32,
-    rounds: u32,
+    code: CodeArguments,
     v: u32,
     e: u32,
     ends_a: &[u32],
@@ -130,17 +126,19 @@ fn write_reply(
 ) -> usize
     requires { ⌜ (v ≤ 1024) × (v ≤ length (now boundary)) × (e ≤ 6144) × (e ≤ length (now «ends_a»)) × (e ≤ length (now «ends_b»)) ⌝ }
     requires { ⌜ e ≤ length (now weights) ⌝ }
-    ensures { λ r. ⌜ Put (now (text .entry)) 0 (replyText kind d rounds v e (now (boundary .entry)) (now («ends_a» .entry)) (now («ends_b» .entry)) (now (weights .entry)) reply) (now (text .exit)) r ⌝ }
+    ensures { λ r. ⌜ Put (now (text .entry)) 0 (replyText (code .kind) (code .d) (code .rounds) v e (now (boundary .entry)) (now («ends_a» .entry)) (now («ends_b» .entry)) (now (weights .entry)) reply) (now (text .exit)) r ⌝ }
 {
     match reply {
         CrossingReply::Refused(number) => write_refusal(text, number),
         CrossingReply::Crossed(weight) => write_listing(
             text,
-            kind,
-            d,
-            rounds,
-            v,
-            e,
+            GraphLine {
+                kind: code.kind,
+                d: code.d,
+                rounds: code.rounds,
+                vertices: v,
+                edges: e,
+            },
             boundary,
             ends_a,
             ends_b,
@@ -152,11 +150,7 @@ fn write_reply(
 
 // The text of a built code, over a column for its weights.
 fn write_weighed(
-    kind: u32,
-    d: u32,
-    rounds: u32,
-    probability: f64,
-    max_half_weight: Weight,
+    code: CodeArguments,
     v: u32,
     e: u32,
     ends_a: &[u32],
@@ -166,17 +160,13 @@ fn write_weighed(
     weights: &mut [Weight],
     text: &mut [u8],
 ) -> usize
-    requires { ⌜ HoldsCode kind d rounds probability «max_half_weight» v e (now «ends_a») (now «ends_b») (now «half_weight») (now boundary) ⌝ }
+    requires { ⌜ HoldsCode (code .kind) (code .d) (code .rounds) (code .probability) (code .max) v e (now «ends_a») (now «ends_b») (now «half_weight») (now boundary) ⌝ }
     requires { ⌜ length (now weights) ≡ 6144 ⌝ }
-    ensures { λ r. ⌜ Put (now (text .entry)) 0 (listingOf kind d rounds probability «max_half_weight») (now (text .exit)) r ⌝ }
+    ensures { λ r. ⌜ Put (now (text .entry)) 0 (listingOf (code .kind) (code .d) (code .rounds) (code .probability) (code .max)) (now (text .exit)) r ⌝ }
 {
     store_weights(half_weight, e as usize, weights);
     let reply = crossing_of(
-        kind,
-        d,
-        rounds,
-        probability,
-        max_half_weight,
+        code,
         v,
         e,
         ends_a,
@@ -186,9 +176,7 @@ fn write_weighed(
     );
     write_reply(
         reply,
-        kind,
-        d,
-        rounds,
+        code,
         v,
         e,
         ends_a,
@@ -201,11 +189,7 @@ fn write_weighed(
 
 // The text of a built code.
 pub fn write_built(
-    kind: u32,
-    d: u32,
-    rounds: u32,
-    probability: f64,
-    max_half_weight: Weight,
+    code: CodeArguments,
     v: u32,
     e: u32,
     ends_a: &[u32],
@@ -214,16 +198,12 @@ pub fn write_built(
     boundary: &[u8],
     text: &mut [u8],
 ) -> usize
-    requires { ⌜ HoldsCode kind d rounds probability «max_half_weight» v e (now «ends_a») (now «ends_b») (now «half_weight») (now boundary) ⌝ }
-    ensures { λ r. ⌜ Put (now (text .entry)) 0 (listingOf kind d rounds probability «max_half_weight») (now (text .exit)) r ⌝ }
+    requires { ⌜ HoldsCode (code .kind) (code .d) (code .rounds) (code .probability) (code .max) v e (now «ends_a») (now «ends_b») (now «half_weight») (now boundary) ⌝ }
+    ensures { λ r. ⌜ Put (now (text .entry)) 0 (listingOf (code .kind) (code .d) (code .rounds) (code .probability) (code .max)) (now (text .exit)) r ⌝ }
 {
     let mut weights = [0u32; 6144];
     write_weighed(
-        kind,
-        d,
-        rounds,
-        probability,
-        max_half_weight,
+        code,
         v,
         e,
         ends_a,

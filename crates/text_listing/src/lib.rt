@@ -1,6 +1,7 @@
 // What `codelist` prints for a code.
 mod built;
 
+pub use built::CodeArguments;
 use built::write_built;
 use codes_calls::Created;
 use codes_calls::weighted::new;
@@ -14,28 +15,20 @@ ghost use Rattle.text_listing.specs.Steps.{MadeHolds, madeText};
 // The text for what `new` answers.
 fn write_made(
     made: Created,
-    kind: u32,
-    d: u32,
-    rounds: u32,
-    probability: f64,
-    max_half_weight: Weight,
+    code: CodeArguments,
     ends_a: &[u32],
     ends_b: &[u32],
     half_weight: &[Weight],
     boundary: &[u8],
     text: &mut [u8],
 ) -> usize
-    requires { ⌜ MadeHolds kind d rounds probability «max_half_weight» (now «ends_a») (now «ends_b») (now «half_weight») (now boundary) made ⌝ }
-    ensures { λ r. ⌜ Put (now (text .entry)) 0 (madeText kind d rounds probability «max_half_weight» made) (now (text .exit)) r ⌝ }
+    requires { ⌜ MadeHolds (code .kind) (code .d) (code .rounds) (code .probability) (code .max) (now «ends_a») (now «ends_b») (now «half_weight») (now boundary) made ⌝ }
+    ensures { λ r. ⌜ Put (now (text .entry)) 0 (madeText (code .kind) (code .d) (code .rounds) (code .probability) (code .max) made) (now (text .exit)) r ⌝ }
 {
     match made {
         Created::Refused(number) => write_refusal(text, number),
         Created::Code(v, e) => write_built(
-            kind,
-            d,
-            rounds,
-            probability,
-            max_half_weight,
+            code,
             v,
             e,
             ends_a,
@@ -49,14 +42,10 @@ fn write_made(
 
 // The text for a code, over columns for 1,024 vertices.
 pub fn write_code(
-    kind: u32,
-    d: u32,
-    rounds: u32,
-    probability: f64,
-    max_half_weight: Weight,
+    code: CodeArguments,
     text: &mut [u8],
 ) -> usize
-    ensures { λ r. ⌜ Put (now (text .entry)) 0 (codeText kind d rounds probability «max_half_weight») (now (text .exit)) r ⌝ }
+    ensures { λ r. ⌜ Put (now (text .entry)) 0 (codeText (code .kind) (code .d) (code .rounds) (code .probability) (code .max)) (now (text .exit)) r ⌝ }
 {
     let mut ends_a = [0u32; 6144];
     let mut ends_b = [0u32; 6144];
@@ -72,11 +61,11 @@ pub fn write_code(
     let mut list_lengths = [0u32; 1024];
     let mut neighbor_numbers = [0u32; 12288];
     let made = new(
-        kind,
-        d,
-        rounds,
-        probability,
-        max_half_weight,
+        code.kind,
+        code.d,
+        code.rounds,
+        code.probability,
+        code.max,
         &mut ends_a,
         &mut ends_b,
         &mut p,
@@ -93,11 +82,7 @@ pub fn write_code(
     );
     write_made(
         made,
-        kind,
-        d,
-        rounds,
-        probability,
-        max_half_weight,
+        code,
         &ends_a,
         &ends_b,
         &half_weight,

@@ -105,26 +105,31 @@ pub fn write_refusal(text: &mut [u8], number: u32) -> usize
     put_one(text, 0, b'r', number)
 }
 
+// The numbers of a graph line.
+pub struct GraphLine {
+    pub kind: u32,
+    pub d: u32,
+    pub rounds: u32,
+    pub vertices: u32,
+    pub edges: u32,
+}
+
 // Writes the listing of a code; answers how many bytes it has.
 pub fn write_listing(
     text: &mut [u8],
-    kind: u32,
-    d: u32,
-    rounds: u32,
-    vertices: u32,
-    edges: u32,
+    g: GraphLine,
     boundary: &[u8],
     ends_a: &[u32],
     ends_b: &[u32],
     weights: &[Weight],
     crossing: u32,
 ) -> usize
-    requires { ⌜ (vertices ≤ 4096) × (vertices ≤ length (now boundary)) ⌝ }
-    requires { ⌜ (edges ≤ 32768) × (edges ≤ length (now «ends_a»)) × (edges ≤ length (now «ends_b»)) × (edges ≤ length (now weights)) ⌝ }
-    ensures { λ r. ⌜ Put (now (text .entry)) 0 (listing kind d rounds vertices edges (now (boundary .entry)) (now («ends_a» .entry)) (now («ends_b» .entry)) (now (weights .entry)) crossing) (now (text .exit)) r ⌝ }
+    requires { ⌜ ((g .vertices) ≤ 4096) × ((g .vertices) ≤ length (now boundary)) ⌝ }
+    requires { ⌜ ((g .edges) ≤ 32768) × ((g .edges) ≤ length (now «ends_a»)) × ((g .edges) ≤ length (now «ends_b»)) × ((g .edges) ≤ length (now weights)) ⌝ }
+    ensures { λ r. ⌜ Put (now (text .entry)) 0 (listing (g .kind) (g .d) (g .rounds) (g .vertices) (g .edges) (now (boundary .entry)) (now («ends_a» .entry)) (now («ends_b» .entry)) (now (weights .entry)) crossing) (now (text .exit)) r ⌝ }
 {
-    let a = put_graph(text, kind, d, rounds, vertices, edges);
-    let b = put_vertices(text, a, boundary, vertices);
-    let c = put_edges(text, b, ends_a, ends_b, weights, edges);
+    let a = put_graph(text, g.kind, g.d, g.rounds, g.vertices, g.edges);
+    let b = put_vertices(text, a, boundary, g.vertices);
+    let c = put_edges(text, b, ends_a, ends_b, weights, g.edges);
     put_one(text, c, b'c', crossing)
 }

@@ -76,7 +76,7 @@ written {edges} {p} {before} {max} {column} {answer} w a =
     let ps = take edges p in
     let one : Float → ℕ = λ x. halfWeight max (edgeWeight x) (largestWeight ps) in
     let size : length (halfWeights max ps) ≡ edges = omega (arith, length-map ps one, length-take edges p, m .long-p) in
-    let is = w .writes ∙ after-accepted q (halfWeights max ps) before zero in (
+    let is = w .column-after ∙ after-accepted q (halfWeights max ps) before zero in (
       m,
       record {
         first = λ k h.

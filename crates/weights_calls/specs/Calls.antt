@@ -64,7 +64,7 @@ computeRefusal edges p column max =
     (ask (all isProbability (take edges p)) 9
     (ask (someAbove (edgeWeights (take edges p))) 10 0))))
 
--- Weights, `compute_weights`: its answer, and what stands in the half-weight column, `before` it and afterwards.
-pub record ComputedWeights (edges : ℕ) (p : List Float) (before : List ℕ) (max : ℕ) (column : List ℕ) (answer : Done) : Type 0 where
-  pub answers : Answered (doneSaid answer) (computeRefusal edges p before max) tt tt
-  pub writes : column ≡ after (computeRefusal edges p before max) (halfWeights max (take edges p)) before
+-- Weights, `compute_weights`: its answer, and what stands in the half-weight column before it and afterwards.
+pub record ComputedWeights (edges : ℕ) (p : List Float) (column₀ : List ℕ) (max : ℕ) (column : List ℕ) (answer : Done) : Type 0 where
+  pub answers : Answered (doneSaid answer) (computeRefusal edges p column₀ max) tt tt
+  pub column-after : column ≡ after (computeRefusal edges p column₀ max) (halfWeights max (take edges p)) column₀

@@ -17,7 +17,7 @@ use Rattle.columns.specs.declared.Done.{Done}
 abbrev pub setEachRefusal : Bool → ℕ → List Float → ℕ
 setEachRefusal met edges column = ask (leb edges (length column)) 6 (ask (leb edges edgeLimit) 7 (ask met 9 0))
 
--- Records, on edges, p or pe of every edge set to one number: the call's answer, and what stands in the column of p or pe, `before` it and afterwards.
-pub record SetEach (met : Bool) (edges : ℕ) (value : Float) (before column : List Float) (answer : Done) : Type 0 where
-  pub answers : Answered (doneSaid answer) (setEachRefusal met edges before) tt tt
-  pub writes : column ≡ after (setEachRefusal met edges before) (replicate edges value) before
+-- Records, on edges, p or pe of every edge set to one number: the call's answer, and what stands in the column of p or pe before it and afterwards.
+pub record SetEach (met : Bool) (edges : ℕ) (value : Float) (column₀ column : List Float) (answer : Done) : Type 0 where
+  pub answers : Answered (doneSaid answer) (setEachRefusal met edges column₀) tt tt
+  pub column-after : column ≡ after (setEachRefusal met edges column₀) (replicate edges value) column₀

@@ -26,7 +26,7 @@ returns c =
     let p = c .before .before .list-set .ensures in
     record {
       answers = rw (p .0) (accepts-of z);
-      left = p .1 ∙ sym (after-accepted q vs (s .list .now) z);
+      list-after = p .1 ∙ sym (after-accepted q vs (s .list .now) z);
     }
 
 returns-2 : tie.Need-returns-2
@@ -38,7 +38,7 @@ returns-2 c =
     let g : q ≡ 0 → ⊥ = λ e. c .if1 .left (d ∙ e) in
     record {
       answers = refuses-of d (c .if1 .left);
-      left = sym (after-refused q vs (s .list .now) g);
+      list-after = sym (after-refused q vs (s .list .now) g);
     }
 
 pub get-named-spec : {M : Type 1} → statement M

@@ -27,7 +27,7 @@ returns c =
     let z : q ≡ 0 = sym (number (c .before .before .before .before .before)) ∙ c .before .before .before .before .if1 .taken in
     record {
       answers = accepts-of z;
-      left = c .before .before .set-marks .ensures ∙ sym (after-accepted q vs (s .column .now) z);
+      column-after = c .before .before .set-marks .ensures ∙ sym (after-accepted q vs (s .column .now) z);
     }
 
 returns-2 : tie.Need-returns-2
@@ -38,7 +38,7 @@ returns-2 c =
     let d = number (c .before .before) in
     record {
       answers = said-of _ _ (c .done-of .ensures ∙ ap done d);
-      left = sym (after-refused q vs (s .column .now) (λ e. c .before .if1 .left (d ∙ e)));
+      column-after = sym (after-refused q vs (s .column .now) (λ e. c .before .if1 .left (d ∙ e)));
     }
 
 pub set-named-spec : {M : Type 1} → statement M

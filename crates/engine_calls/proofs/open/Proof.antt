@@ -19,7 +19,7 @@ returns c =
     let z : openRefusal v e h l ≡ 0 = sym (c .before .before .before .before .before .before .before .before .before .before .before .before .before .before .before .before .before .open-refusal .ensures) ∙ c .before .before .before .before .before .before .before .before .before .before .before .before .before .before .before .before .if1 .taken in
     let o = opens-of v e h l z in
     record {
-      answer = accepts-of z;
+      answers = accepts-of z;
       endsA-after = c .before .before .before .before .before .before .before .before .before .before .before .before .before .before .copy-u32 .ensures ∙ copy-after e (openRefusal v e h l) (a .ends-a .now) (a .in-a .now) z (o .from .endsA) (o .to .endsA);
       endsB-after = c .before .before .before .before .before .before .before .before .before .before .copy-u322 .ensures ∙ copy-after e (openRefusal v e h l) (a .ends-b .now) (a .in-b .now) z (o .from .endsB) (o .to .endsB);
       weights-after = c .before .before .before .before .before .before .copy-u323 .ensures ∙ copy-after e (openRefusal v e h l) (a .weights .now) (a .in-weights .now) z (o .from .weights) (o .to .weights);
@@ -36,7 +36,7 @@ returns-2 c =
     let d = c .before .open-refusal .ensures in
     let f : openRefusal v e h l ≡ 0 → ⊥ = λ q. c .if1 .left (d ∙ q) in
     record {
-      answer = refuses-of d (c .if1 .left);
+      answers = refuses-of d (c .if1 .left);
       endsA-after = sym (after-refused (openRefusal v e h l) (take e (a .in-a .now)) (a .ends-a .now) f);
       endsB-after = sym (after-refused (openRefusal v e h l) (take e (a .in-b .now)) (a .ends-b .now) f);
       weights-after = sym (after-refused (openRefusal v e h l) (take e (a .in-weights .now)) (a .weights .now) f);

@@ -31,7 +31,7 @@ engine-of : tie.Start → Engine
 engine-of s = engineIn (s .args .c) (s .args .ends-a) (s .args .ends-b) (s .args .weights) (s .args .boundary) (s .args .log-edges) (s .args .log-weights)
 
 scratch-at : tie.Start → Bool
-scratch-at s = scratchFits (engine-of s) (scratchIn (s .args .numbers) (s .args .list-ends) (s .args .status) (s .args .weight) (s .args .previous) (s .args .node) (s .args .leaf))
+scratch-at s = scratchFits (engine-of s) (scratchIn (s .args .neighbor-numbers) (s .args .list-ends) (s .args .status) (s .args .weight) (s .args .previous) (s .args .node) (s .args .leaf))
 
 number-at : tie.Start → ℕ
 unfolding engine-of scratch-at
@@ -101,8 +101,8 @@ returns-2 c =
       out-after = sym (after-refused (number-at s) (row (graphIn (engine-of s)) (weightsIn (engine-of s)) (s .args .nearest .now) (s .args .vertex .0)) (s .args .out .now) f);
       before-after = sym (after-refused (c .before .query-refusal .result) (table (graphIn (engine-of s)) (weightsIn (engine-of s)) (s .args .vertex .0) none .previous) (s .args .before .now) (c .if1 .left));
       scratch-after = scratch-kept _ (graphIn (engine-of s)) (settled (graphIn (engine-of s)) (weightsIn (engine-of s)) (only (s .args .vertex .0)) none)
-          (scratchIn (s .args .numbers) (s .args .list-ends) (s .args .status) (s .args .weight) (s .args .previous) (s .args .node) (s .args .leaf)) (ap isFree d ∙ row-kept (engine-of s) (scratch-at s) (s .args .vertex .0) _ _ _ f);
+          (scratchIn (s .args .neighbor-numbers) (s .args .list-ends) (s .args .status) (s .args .weight) (s .args .previous) (s .args .node) (s .args .leaf)) (ap isFree d ∙ row-kept (engine-of s) (scratch-at s) (s .args .vertex .0) _ _ _ f);
     }
 
 pub fill-row-spec : {M : Type 1} → statement M
-fill-row-spec = tie.close (tie.spec (λ c. search needs) (λ c κs. tt) (λ c κs. tt) (λ c κs. tt) (λ c κs. tt) (λ c κs. tt) (λ c κs. tt) (λ c κs. tt) (λ c κs. tt) (λ c κs. tt) slice-aggregate-write-row write-row-requires (λ c. search needs) (λ c. c .before .before .before .before .before .before .before .before .before .before .before .before .before .before .before .before .before .before .before .before2 .given) (λ c. c .before .before .before .before .before .before .before .before .before .before .before .before .before .before .before .before .before .numbers .given) (λ c. c .before .before .before .before .before .before .before .before .before .before .before .before .before .before .before .list-ends .given) (λ c. c .before .before .before .before .before .before .before .before .before .before .before .before .before .status .given) (λ c. c .before .before .before .before .before .before .before .before .before .before .before .weight .given) (λ c. c .before .before .before .before .before .before .before .before .before .previous .given) (λ c. c .before .before .before .before .before .before .before .node .given) (λ c. c .before .before .before .before .before .leaf .given) returns returns-2)
+fill-row-spec = tie.close (tie.spec (λ c. search needs) (λ c κs. tt) (λ c κs. tt) (λ c κs. tt) (λ c κs. tt) (λ c κs. tt) (λ c κs. tt) (λ c κs. tt) (λ c κs. tt) (λ c κs. tt) slice-aggregate-write-row write-row-requires (λ c. search needs) (λ c. c .before .before .before .before .before .before .before .before .before .before .before .before .before .before .before .before .before .before .before .before2 .given) (λ c. c .before .before .before .before .before .before .before .before .before .before .before .before .before .before .before .before .before .neighbor-numbers .given) (λ c. c .before .before .before .before .before .before .before .before .before .before .before .before .before .before .before .list-ends .given) (λ c. c .before .before .before .before .before .before .before .before .before .before .before .before .before .status .given) (λ c. c .before .before .before .before .before .before .before .before .before .before .before .weight .given) (λ c. c .before .before .before .before .before .before .before .before .before .previous .given) (λ c. c .before .before .before .before .before .before .before .node .given) (λ c. c .before .before .before .before .before .leaf .given) returns returns-2)

@@ -32,7 +32,7 @@ engine-of : tie.Start → Engine
 engine-of s = engineIn (s .args .c) (s .args .ends-a) (s .args .ends-b) (s .args .weights) (s .args .boundary) (s .args .log-edges) (s .args .log-weights)
 
 scratch-at : tie.Start → Bool
-scratch-at s = scratchFits (engine-of s) (scratchIn (s .args .numbers) (s .args .list-ends) (s .args .status) (s .args .weight) (s .args .previous) (s .args .node) (s .args .leaf))
+scratch-at s = scratchFits (engine-of s) (scratchIn (s .args .neighbor-numbers) (s .args .list-ends) (s .args .status) (s .args .weight) (s .args .previous) (s .args .node) (s .args .leaf))
 
 number-at : tie.Start → ℕ
 unfolding engine-of scratch-at
@@ -42,7 +42,7 @@ asked-at : (s : tie.Start) → number-at s ≡ 0 → CrossingAsked (engine-of s)
 unfolding number-at
 asked-at s z = crossing-of (engine-of s) (scratch-at s) _ z
 
-fits : (s : tie.Start) → number-at s ≡ 0 → ScratchLong (s .args .c .vertices) (s .args .c .edges) (scratchLengths (scratchIn (s .args .numbers) (s .args .list-ends) (s .args .status) (s .args .weight) (s .args .previous) (s .args .node) (s .args .leaf)))
+fits : (s : tie.Start) → number-at s ≡ 0 → ScratchLong (s .args .c .vertices) (s .args .c .edges) (scratchLengths (scratchIn (s .args .neighbor-numbers) (s .args .list-ends) (s .args .status) (s .args .weight) (s .args .previous) (s .args .node) (s .args .leaf)))
 unfolding scratch-at engine-of
 fits s z = scratch-of _ _ _ (asked-at s z .scratch-is)
 
@@ -60,7 +60,7 @@ unfolding engine-of
 state-at s = fromLeft (graphIn (engine-of s)) (weightsIn (engine-of s))
 
 before-it : tie.Start → ScratchColumns
-before-it s = scratchIn (s .args .numbers) (s .args .list-ends) (s .args .status) (s .args .weight) (s .args .previous) (s .args .node) (s .args .leaf)
+before-it s = scratchIn (s .args .neighbor-numbers) (s .args .list-ends) (s .args .status) (s .args .weight) (s .args .previous) (s .args .node) (s .args .leaf)
 
 after-it : tie.After-search → ScratchColumns
 after-it c = let l = c .search .last .1 .1 .1 .1 .1 .1 in scratchOf (l .0) (l .1 .0) (l .1 .1 .0) (l .1 .1 .1 .0) (l .1 .1 .1 .1 .0) (l .1 .1 .1 .1 .1 .0) (l .1 .1 .1 .1 .1 .1 .0)

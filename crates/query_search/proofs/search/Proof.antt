@@ -15,7 +15,7 @@ use Rattle.query_search.proofs.search.Tie as tie
 long : (s : tie.Start) → ColumnsLong (s .args .c .vertices) (s .args .c .edges) (s .args .ends-a .now) (s .args .ends-b .now) (s .args .weights .now) (s .args .boundary .now)
 long s = columns-long-of _ _ _ _ _ _ (s .pre .0 .0)
 
-fits : (s : tie.Start) → ScratchLong (s .args .c .vertices) (s .args .c .edges) (scratchLengths (scratchIn (s .args .numbers) (s .args .list-ends) (s .args .status) (s .args .weight) (s .args .previous) (s .args .node) (s .args .leaf)))
+fits : (s : tie.Start) → ScratchLong (s .args .c .vertices) (s .args .c .edges) (scratchLengths (scratchIn (s .args .neighbor-numbers) (s .args .list-ends) (s .args .status) (s .args .weight) (s .args .previous) (s .args .node) (s .args .leaf)))
 fits s = scratch-of _ _ _ (s .pre .1 .0)
 
 slice-aggregate-search-cut : tie.Need-slice-aggregate-search-cut
@@ -71,7 +71,7 @@ search-cut-requires c κs =
     let s : tie.Start = c .before .before .before .before .before .before .before .before .before .before .before .before .before .before .before .before .before .before .before .before .before .before .before .before in
     let v = s .args .c .vertices in
     let len = length-take-le v (s .args .status .now) (fits s .status-long) in (
-      searchable v (s .args .c .edges) (s .args .ends-a .now) (s .args .ends-b .now) (s .args .weights .now) (s .args .boundary .now) (s .args .numbers .now) (s .args .list-ends .now) (s .args .status .now) (s .args .weight .now) (s .args .previous .now) (s .args .node .now) (s .args .leaf .now)
+      searchable v (s .args .c .edges) (s .args .ends-a .now) (s .args .ends-b .now) (s .args .weights .now) (s .args .boundary .now) (s .args .neighbor-numbers .now) (s .args .list-ends .now) (s .args .status .now) (s .args .weight .now) (s .args .previous .now) (s .args .node .now) (s .args .leaf .now)
           (long s) (columns-sound-of _ _ _ _ _ _ (s .pre .0 .1)) (fits s),
       (length-take-le v (s .args .boundary .now) (long s .boundary) ∙ sym len, sym len, subst (Starts (s .args .origin)) (sym len) (s .pre .1 .1)),
     )
@@ -83,7 +83,7 @@ returns c =
     let e = engineWithoutLog (s .args .c) (s .args .ends-a) (s .args .ends-b) (s .args .weights) (s .args .boundary) in
     let found = searched-as (s .args .origin) (weightsIn e) (length-take-le v (s .args .status .now) (fits s .status-long)) (c .before .before .before .before .before .before .before .before .before .before .before .before .before .before .search-cut .ensures) in (
       search-left (graphIn e) (stateFrom (s .args .origin) (graphIn e) (weightsIn e))
-          (scratchIn (s .args .numbers) (s .args .list-ends) (s .args .status) (s .args .weight) (s .args .previous) (s .args .node) (s .args .leaf))
+          (scratchIn (s .args .neighbor-numbers) (s .args .list-ends) (s .args .status) (s .args .weight) (s .args .previous) (s .args .node) (s .args .leaf))
           (c .before .before .before .before .before .before .before .before .before .before .before .before .before .before .search-cut .kept .1 .1 .1 .1 .1 .1 .1 .0 ∙ length-take-le v (s .args .list-ends .now) (fits s .ends-long))
           (c .before .before .before .before .before .before .before .before .before .before .before .before .before .before .search-cut .kept .1 .1 .1 .1 .1 .1 .1 .1 .1 .1 .1 .0 ∙ length-take-le v (s .args .node .now) (fits s .node-long)) found,
       record { few = found .ready .few; status-fits = found .ready .status-fits; weight-fits = found .ready .weight-fits; previous-fits = found .ready .previous-fits; light = found .ready .light },

@@ -1,6 +1,6 @@
 -- `query_search::search_cut` meets its contract. Assumes nothing.
 use mathlib.Core.Path.{sym, ap, _∙_, subst}
-use Prim.Native.Nat.{ℕ, zero, suc, _+_, _*_, _-_, _<_, _≤_}
+use Prim.Native.Nat.{_-_}
 use native.Mathlib.Omega.{arith}
 use lib.ListN.{length, getD}
 use Rattle.columns.proofs.Counting.{length-each}
@@ -16,7 +16,7 @@ use Rattle.query_search.proofs.search_cut.Tie as tie
 
 -- the columns are ready, whatever the first status bytes are
 ready : (c : tie.After-begin-status)
-    → let s = c .before .before .before .before .before .before .before .before .before .before .before .before .before in Searchable (length (c .begin-status .last .1 .0)) (s .args .ends-a .now) (s .args .ends-b .now) (s .args .weights .now) (s .args .numbers .now) (s .args .list-ends .now) (s .args .weight .now) (s .args .previous .now) (s .args .node .now) (s .args .leaf .now)
+    → let s = c .before .before .before .before .before .before .before .before .before .before .before .before .before in Searchable (length (c .begin-status .last .1 .0)) (s .args .ends-a .now) (s .args .ends-b .now) (s .args .weights .now) (s .args .neighbor-numbers .now) (s .args .list-ends .now) (s .args .weight .now) (s .args .previous .now) (s .args .node .now) (s .args .leaf .now)
 ready c = searchable-as (sym (c .begin-status .kept .1 .0)) (c .before .before .before .before .before .before .before .before .before .before .before .before .before .pre .0)
 
 -- the first status bytes are those of the sources
@@ -76,4 +76,4 @@ returns c =
     record { built = built-as k (record { numbers-are = f .numbers-are; ends-are = f .ends-are }); state = state; ready = ready-in state (ready-as k (r .1)) }
 
 pub search-cut-spec : {M : Type 1} → statement M
-search-cut-spec = tie.close (tie.spec begin-status-requires fill-lists-requires begin-requires (λ c κs. tt) settle-requires (λ c. c .before .before .before .before .before .before .before .before .before .before .before .before .before .before .before .before .before .before .before .before .before .before .before .before .before .before .before .before .before .before .before .before .before .before .before .before .numbers .given) (λ c. c .before .before .before .before .before .before .before .before .before .before .before .before .before .before .before .before .before .before .before .before .before .before .before .before .before .before .before .before .before .before .before .before .before .before .list-ends .given) same-length-3 (λ c. search needs) same-length-5 (λ c. search needs) (λ c. search needs) returns)
+search-cut-spec = tie.close (tie.spec begin-status-requires fill-lists-requires begin-requires (λ c κs. tt) settle-requires (λ c. c .before .before .before .before .before .before .before .before .before .before .before .before .before .before .before .before .before .before .before .before .before .before .before .before .before .before .before .before .before .before .before .before .before .before .before .before .neighbor-numbers .given) (λ c. c .before .before .before .before .before .before .before .before .before .before .before .before .before .before .before .before .before .before .before .before .before .before .before .before .before .before .before .before .before .before .before .before .before .before .list-ends .given) same-length-3 (λ c. search needs) same-length-5 (λ c. search needs) (λ c. search needs) returns)

@@ -1,6 +1,6 @@
 -- `query_settling::relax_list` meets its contract. Invariant: the state after the places before i. Assumes nothing.
 use mathlib.Core.Path.{_≡_, refl, sym, ap, _∙_}
-use Prim.Native.Nat.{ℕ, zero, suc, _+_, _*_, _-_, _%_, _<_, _≤_}
+use Prim.Native.Nat.{ℕ, _-_, _≤_}
 use native.Mathlib.Omega.{arith}
 use mathlib.Core.List.{List}
 use lib.ListN.{length, getD, take, drop}
@@ -23,7 +23,7 @@ abbrev μ-loop : tie.MeasureT-loop
 μ-loop ends-a ends-b weights numbers from to status₀ weight₀ previous₀ node₀ leaf₀ a q w i₀ status weight previous node leaf i = to - i
 
 loop-holds : tie.Need-loop-holds Inv-loop μ-loop
-loop-holds c = let s = c .before .before .before .before .before .before .before .before .before in (omega arith, s .pre .1 .ordered, refl, s .pre .0, λ n m. sym (along-none (graphOf n (s .args .ends-a .now) (s .args .ends-b .now) m) (weighs (s .args .weights .now)) (s .args .a) (s .args .q) (s .args .w) (s .args .numbers .now) (s .args .from) _), refl)
+loop-holds c = let s = c .before .before .before .before .before .before .before .before .before in (omega arith, s .pre .1 .ordered, refl, s .pre .0, λ n m. sym (along-none (graphOf n (s .args .ends-a .now) (s .args .ends-b .now) m) (weighs (s .args .weights .now)) (s .args .a) (s .args .q) (s .args .w) (s .args .neighbor-numbers .now) (s .args .from) _), refl)
 
 mul-relax-edge : tie.Need-mul-relax-edge Inv-loop μ-loop
 mul-relax-edge c = omega (arith, c .before .before .before .before .before .before .before .before .before .before .before .before .before .before .before .before .pre .1 .inside)
@@ -37,7 +37,7 @@ relax-edge-requires c κs =
     let at = c .before .before .before .before .before .before .before .loop in
     let p = s .pre .1 in
     let e = p .edge (at .i) (at .inv .0) (c .before .before .before .before .before .before .loop-test .taken) in
-    let x = getD (s .args .numbers .now) (at .i) 0 in
+    let x = getD (s .args .neighbor-numbers .now) (at .i) 0 in
     let len = at .inv .2 in
     (ready-as (sym len) (at .inv .3), ((e, omega (arith, p .same-b), omega (arith, p .same-w), p .light x e), ((omega (arith, p .in-a x e), omega (arith, p .in-b x e)), p .at-v (at .i) (at .inv .0) (c .before .before .before .before .before .before .loop-test .taken))))
 
@@ -53,8 +53,8 @@ loop-again c =
       omega arith,
       c .before .before .before .before .before .before .before .before .before .before .relax-edge .kept .1 .1 .1 .0 ∙ at .inv .2,
       ready-as (at .inv .2) (o .1),
-      (λ n m. o .0 n m ∙ ap (relaxEdge (graphOf n (s .args .ends-a .now) (s .args .ends-b .now) m) (weighs (s .args .weights .now)) (s .args .a) (s .args .q) (s .args .w) (getD (s .args .numbers .now) (at .i) 0)) (at .inv .4 n m)
-          ∙ sym (along-more (graphOf n (s .args .ends-a .now) (s .args .ends-b .now) m) (weighs (s .args .weights .now)) (s .args .a) (s .args .q) (s .args .w) (s .args .numbers .now) (s .args .from) (at .i) _ (at .inv .0) (omega (arith, s .pre .1 .inside)))),
+      (λ n m. o .0 n m ∙ ap (relaxEdge (graphOf n (s .args .ends-a .now) (s .args .ends-b .now) m) (weighs (s .args .weights .now)) (s .args .a) (s .args .q) (s .args .w) (getD (s .args .neighbor-numbers .now) (at .i) 0)) (at .inv .4 n m)
+          ∙ sym (along-more (graphOf n (s .args .ends-a .now) (s .args .ends-b .now) m) (weighs (s .args .weights .now)) (s .args .a) (s .args .q) (s .args .w) (s .args .neighbor-numbers .now) (s .args .from) (at .i) _ (at .inv .0) (omega (arith, s .pre .1 .inside)))),
       c .before .before .before .before .before .before .before .before .before .before .relax-edge .kept .1 .1 .1 .1 .1 .1 .0 ∙ at .inv .5,
     )
 
@@ -72,7 +72,7 @@ returns c =
     let at = c .before .loop in
     let s = c .before .before .before .before .before .before .before .before .before .before .before in
     let e : at .i ≡ s .args .to = omega arith in
-    ((λ n m. at .inv .4 n m ∙ ap (λ k. relaxAlong (graphOf n (s .args .ends-a .now) (s .args .ends-b .now) m) (weighs (s .args .weights .now)) (s .args .a) (s .args .q) (s .args .w) (take (k - s .args .from) (drop (s .args .from) (s .args .numbers .now))) (stateOf (s .args .status .now) (s .args .weight .now) (s .args .previous .now))) e), at .inv .3)
+    ((λ n m. at .inv .4 n m ∙ ap (λ k. relaxAlong (graphOf n (s .args .ends-a .now) (s .args .ends-b .now) m) (weighs (s .args .weights .now)) (s .args .a) (s .args .q) (s .args .w) (take (k - s .args .from) (drop (s .args .from) (s .args .neighbor-numbers .now))) (stateOf (s .args .status .now) (s .args .weight .now) (s .args .previous .now))) e), at .inv .3)
 
 pub relax-list-spec : {M : Type 1} → statement M
 relax-list-spec = tie.close (tie.spec Inv-loop μ-loop loop-holds mul-relax-edge shared-slice-read-relax-edge relax-edge-requires add-i (λ c. search needs) loop-again (λ c. c .before .loop .inv .2) same-length-2 same-length-3 (λ c. c .before .loop .inv .5) same-length-5 returns)

@@ -56,7 +56,7 @@ returns c =
     let q = computeRefusal (s .edge-num) (s .p .now) (s .half-weight .now) (s .max-half-weight) in
     record {
       answers = said-of _ _ (c .done-of .ensures ∙ ap done is);
-      writes = sym (after-refused q (halfWeights (s .max-half-weight) (take (s .edge-num) (s .p .now))) (s .half-weight .now) (λ e. c .before .if1 .taken (is ∙ e)));
+      column-after = sym (after-refused q (halfWeights (s .max-half-weight) (take (s .edge-num) (s .p .now))) (s .half-weight .now) (λ e. c .before .if1 .taken (is ∙ e)));
     }
 
 store-half-weights-requires : tie.Need-store-half-weights-requires
@@ -73,7 +73,7 @@ returns-2 c =
     let zero = sym (number (c .before .before .before .before .before)) ∙ c .before .before .before .before .if1 .left in
     record {
       answers = accepts-of zero;
-      writes = stored q (s .max-half-weight) ps _ now _ (c .before .before .store-half-weights .ensures) (c .before .before .before .before .before .before .before .before .before .before .before .largest-weight .ensures) zero;
+      column-after = stored q (s .max-half-weight) ps _ now _ (c .before .before .store-half-weights .ensures) (c .before .before .before .before .before .before .before .before .before .before .before .largest-weight .ensures) zero;
     }
 
 pub compute-weights-spec : {M : Type 1} → statement M

@@ -24,7 +24,7 @@ write-lists-requires c κs =
     let q = fillRefusal v e a b col in
     let m = fill-met v e a b col (sym (c .before .before .before .before .before .before .before .before .before .before .before .before .before .before .before .before .before .before .before .before .before .before .before .fill-refusal .ensures) ∙ c .before .before .before .before .before .before .before .before .before .before .before .before .before .before .before .before .before .before .before .before .before .before .if1 .taken) in
     let g = m .sound in
-    ((g .long-a, g .long-b, m .lengths, m .numbers), (g .few-edges, g .few-vertices, g .in-a, g .in-b))
+    ((g .long-a, g .long-b, m .listLengths, m .neighborNumbers), (g .few-edges, g .few-vertices, g .in-a, g .in-b))
 
 returns : tie.Need-returns
 returns c =
@@ -40,13 +40,13 @@ returns c =
     let w = c .before .before .before .before .write-lists .ensures in
     record {
       answers = accepts-of z;
-      i-after = c .before .before .before .before .before .before .before .before .before .before .before .before .before .before .before .before .before .before .before .before .before .before .before .before .before .fill-f64 .ensures ∙ fill-after v q (s .pos-i .now) zeroFloat z (m .i);
-      j-after = c .before .before .before .before .before .before .before .before .before .before .before .before .before .before .before .before .before .before .before .before .before .fill-f642 .ensures ∙ fill-after v q (s .pos-j .now) zeroFloat z (m .j);
-      t-after = c .before .before .before .before .before .before .before .before .before .before .before .before .before .before .before .before .before .fill-f643 .ensures ∙ fill-after v q (s .pos-t .now) zeroFloat z (m .t);
+      posI-after = c .before .before .before .before .before .before .before .before .before .before .before .before .before .before .before .before .before .before .before .before .before .before .before .before .before .fill-f64 .ensures ∙ fill-after v q (s .pos-i .now) zeroFloat z (m .posI);
+      posJ-after = c .before .before .before .before .before .before .before .before .before .before .before .before .before .before .before .before .before .before .before .before .before .fill-f642 .ensures ∙ fill-after v q (s .pos-j .now) zeroFloat z (m .posJ);
+      posT-after = c .before .before .before .before .before .before .before .before .before .before .before .before .before .before .before .before .before .fill-f643 .ensures ∙ fill-after v q (s .pos-t .now) zeroFloat z (m .posT);
       boundary-after = c .before .before .before .before .before .before .before .before .before .before .before .before .before .fill-u8 .ensures ∙ fill-after v q (s .boundary .now) 0 z (m .boundary);
       defect-after = c .before .before .before .before .before .before .before .before .before .fill-u82 .ensures ∙ fill-after v q (s .defect .now) 0 z (m .defect);
-      lengths-after = w .0 ∙ sym (after-accepted q (degrees a b e v) (s .list-lengths .now) z);
-      numbers-after = w .1 ∙ sym (after-accepted q (lists a b e v) (s .neighbor-numbers .now) z);
+      listLengths-after = w .0 ∙ sym (after-accepted q (degrees a b e v) (s .list-lengths .now) z);
+      neighborNumbers-after = w .1 ∙ sym (after-accepted q (lists a b e v) (s .neighbor-numbers .now) z);
     }
 
 returns-2 : tie.Need-returns-2
@@ -62,13 +62,13 @@ returns-2 c =
     let f : q ≡ 0 → ⊥ = λ x. c .before .if1 .left (d ∙ x) in
     record {
       answers = said-of _ _ (c .done-of .ensures ∙ ap done d);
-      i-after = sym (after-refused q (replicate v zeroFloat) (s .pos-i .now) f);
-      j-after = sym (after-refused q (replicate v zeroFloat) (s .pos-j .now) f);
-      t-after = sym (after-refused q (replicate v zeroFloat) (s .pos-t .now) f);
+      posI-after = sym (after-refused q (replicate v zeroFloat) (s .pos-i .now) f);
+      posJ-after = sym (after-refused q (replicate v zeroFloat) (s .pos-j .now) f);
+      posT-after = sym (after-refused q (replicate v zeroFloat) (s .pos-t .now) f);
       boundary-after = sym (after-refused q (replicate v 0) (s .boundary .now) f);
       defect-after = sym (after-refused q (replicate v 0) (s .defect .now) f);
-      lengths-after = sym (after-refused q (degrees a b e v) (s .list-lengths .now) f);
-      numbers-after = sym (after-refused q (lists a b e v) (s .neighbor-numbers .now) f);
+      listLengths-after = sym (after-refused q (degrees a b e v) (s .list-lengths .now) f);
+      neighborNumbers-after = sym (after-refused q (lists a b e v) (s .neighbor-numbers .now) f);
     }
 
 pub fill-vertices-spec : {M : Type 1} → statement M

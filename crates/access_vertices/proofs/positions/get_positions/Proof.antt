@@ -22,9 +22,9 @@ returns c =
     let l = positions-long v from to z in
     record {
       answers = accepts-of z;
-      i-after = c .before .before .before .before .before .before .before .before .before .before .copy-f64 .ensures ∙ copy-after v q (to .i) (from .i) z (l .0 .0) (l .1 .0);
-      j-after = c .before .before .before .before .before .before .copy-f642 .ensures ∙ copy-after v q (to .j) (from .j) z (l .0 .1) (l .1 .1);
-      t-after = c .before .before .copy-f643 .ensures ∙ copy-after v q (to .t) (from .t) z (l .0 .2) (l .1 .2);
+      posI-after = c .before .before .before .before .before .before .before .before .before .before .copy-f64 .ensures ∙ copy-after v q (to .posI) (from .posI) z (l .0 .0) (l .1 .0);
+      posJ-after = c .before .before .before .before .before .before .copy-f642 .ensures ∙ copy-after v q (to .posJ) (from .posJ) z (l .0 .1) (l .1 .1);
+      posT-after = c .before .before .copy-f643 .ensures ∙ copy-after v q (to .posT) (from .posT) z (l .0 .2) (l .1 .2);
     }
 
 returns-2 : tie.Need-returns-2
@@ -38,9 +38,9 @@ returns-2 c =
     let f : q ≡ 0 → ⊥ = λ e. c .before .if1 .left (d ∙ e) in
     record {
       answers = said-of _ _ (c .done-of .ensures ∙ ap done d);
-      i-after = sym (after-refused q (take v (from .i)) (to .i) f);
-      j-after = sym (after-refused q (take v (from .j)) (to .j) f);
-      t-after = sym (after-refused q (take v (from .t)) (to .t) f);
+      posI-after = sym (after-refused q (take v (from .posI)) (to .posI) f);
+      posJ-after = sym (after-refused q (take v (from .posJ)) (to .posJ) f);
+      posT-after = sym (after-refused q (take v (from .posT)) (to .posT) f);
     }
 
 pub get-positions-spec : {M : Type 1} → statement M

@@ -12,4 +12,4 @@ returns c =
     }
 
 pub moldingcress-fill-row-spec : {M : Type 1} → statement M
-moldingcress-fill-row-spec = tie.close (tie.spec (λ c κs. tt) (λ c κs. tt) (λ c. c .before .before .before .before .before .before .before .before .before .before .before .before .before .before .before .before .before .out .given) (λ c. c .before .before .before .before .before .before .before .before .before .before .before .before .before .before .before .before .before2 .given) (λ c. c .before .before .before .before .before .before .before .before .before .before .before .before .before .before .numbers .given) (λ c. c .before .before .before .before .before .before .before .before .before .before .before .before .list-ends .given) (λ c. c .before .before .before .before .before .before .before .before .before .before .status .given) (λ c. c .before .before .before .before .before .before .before .before .weight .given) (λ c. c .before .before .before .before .before .before .previous .given) (λ c. c .before .before .before .before .node .given) (λ c. c .before .before .leaf .given) returns)
+moldingcress-fill-row-spec = tie.close (tie.spec (λ c κs. tt) (λ c κs. tt) (λ c. c .before .before .before .before .before .before .before .before .before .before .before .before .before .before .before .before .before .out .given) (λ c. c .before .before .before .before .before .before .before .before .before .before .before .before .before .before .before .before .before2 .given) (λ c. c .before .before .before .before .before .before .before .before .before .before .before .before .before .before .neighbor-numbers .given) (λ c. c .before .before .before .before .before .before .before .before .before .before .before .before .list-ends .given) (λ c. c .before .before .before .before .before .before .before .before .before .before .status .given) (λ c. c .before .before .before .before .before .before .before .before .weight .given) (λ c. c .before .before .before .before .before .before .previous .given) (λ c. c .before .before .before .before .node .given) (λ c. c .before .before .leaf .given) returns)

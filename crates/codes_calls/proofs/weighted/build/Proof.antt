@@ -6,7 +6,7 @@ use Rattle.codes_calls.specs.CreateCode.{refusalIn}
 use Rattle.codes_calls.proofs.Outcome.{Open, opened}
 use Rattle.codes_calls.specs.NewCode.{newRefusalIn}
 use Rattle.codes_weights.specs.Steps.{weighedOf}
-use Rattle.codes_calls.proofs.WeightedOutcome.{number-is, told, created-too, refused, weigh-room, built}
+use Rattle.codes_calls.proofs.WeightedOutcome.{number-is, new-number, created-too, refused, weigh-room, built}
 use borrow.Author.Needs.{needs}
 use Rattle.codes_calls.proofs.weighted.build.Statement.{statement}
 use Rattle.codes_calls.proofs.weighted.build.Tie as tie
@@ -32,7 +32,7 @@ lent s = record {
 -- the question's number, by the columns' lengths
 q-is : (c : tie.After-new-refusal) → c .new-refusal .result ≡ newRefusalIn (c .before .before .before .before .before .before .before .before .before .before .before .before .before .before .before .before .before .args .kind) (c .before .before .before .before .before .before .before .before .before .before .before .before .before .before .before .before .before .args .d) (c .before .before .before .before .before .before .before .before .before .before .before .before .before .before .before .before .before .args .rounds) (c .before .before .before .before .before .before .before .before .before .before .before .before .before .before .before .before .before .args .probability) (c .before .before .before .before .before .before .before .before .before .before .before .before .before .before .before .before .before .args .diagonal) (c .before .before .before .before .before .before .before .before .before .before .before .before .before .before .before .before .before .args .max-half-weight) (lent (c .before .before .before .before .before .before .before .before .before .before .before .before .before .before .before .before .before))
 q-is c =
-    told (c .before .before .before .before .before .before .before .before .before .before .before .before .before .before .before .before .before .args .kind) (c .before .before .before .before .before .before .before .before .before .before .before .before .before .before .before .before .before .args .d) (c .before .before .before .before .before .before .before .before .before .before .before .before .before .before .before .before .before .args .rounds) (c .before .before .before .before .before .before .before .before .before .before .before .before .before .before .before .before .before .args .probability) (c .before .before .before .before .before .before .before .before .before .before .before .before .before .before .before .before .before .args .diagonal) (c .before .before .before .before .before .before .before .before .before .before .before .before .before .before .before .before .before .args .max-half-weight) _ _ _ _ _ _ _
+    new-number (c .before .before .before .before .before .before .before .before .before .before .before .before .before .before .before .before .before .args .kind) (c .before .before .before .before .before .before .before .before .before .before .before .before .before .before .before .before .before .args .d) (c .before .before .before .before .before .before .before .before .before .before .before .before .before .before .before .before .before .args .rounds) (c .before .before .before .before .before .before .before .before .before .before .before .before .before .before .before .before .before .args .probability) (c .before .before .before .before .before .before .before .before .before .before .before .before .before .before .before .before .before .args .diagonal) (c .before .before .before .before .before .before .before .before .before .before .before .before .before .before .before .before .before .args .max-half-weight) _ _ _ _ _ _ _
     (number-is (c .before .before .before .before .before .before .before .before .before .before .before .before .before .before .before .before .before .args .kind) (c .before .before .before .before .before .before .before .before .before .before .before .before .before .before .before .before .before .args .d) (c .before .before .before .before .before .before .before .before .before .before .before .before .before .before .before .before .before .args .rounds) (c .before .before .before .before .before .before .before .before .before .before .before .before .before .before .before .before .before .args .probability) (c .before .before .before .before .before .before .before .before .before .before .before .before .before .before .before .before .before .args .diagonal) (c .before .before .before .before .before .before .before .before .before .before .before .before .before .before .before .before .before .args .max-half-weight) _ _ _ _ _ (c .before .before .before .before .before .before .before .before .before .before .before .before .before .before .before .before .before .pre) (c .before .largest-weight .ensures) (c .new-refusal .ensures))
     (c .before .before .shortest-of2 .ensures) (c .before .before .before .shortest-of .ensures) refl
 

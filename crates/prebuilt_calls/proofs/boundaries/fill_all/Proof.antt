@@ -35,7 +35,7 @@ unfolding each
 loop-holds c = (search needs, refl, refl, refl, refl, refl, refl, refl, refl, refl, refl, refl, refl, refl, record { none = λ z. (refl, refl, refl); last = λ u q. absurd (omega arith) })
 
 fill-one-requires : tie.Need-fill-one-requires Inv-loop μ-loop
-fill-one-requires c κs = let s = c .before .before .before .before .before .before .before .before .before .before .before .before .before .before .before .before .before .before .before .before .before .before .before .before .before .before .before .before .before in let at = c .before .before .before .before .before .before .before .before .before .before .before .before .before .loop in (same-room (s .pre) (at .inv .3) (at .inv .4) (at .inv .5) (at .inv .6) (λ i. record { numbers = at .inv .7 i; ends = at .inv .8 i; status = at .inv .9 i; weight = at .inv .10 i; previous = at .inv .11 i; node = at .inv .12 i; leaf = at .inv .13 i }), c .before .before .before .before .before .before .before .before .before .before .before .if1 .taken)
+fill-one-requires c κs = let s = c .before .before .before .before .before .before .before .before .before .before .before .before .before .before .before .before .before .before .before .before .before .before .before .before .before .before .before .before .before in let at = c .before .before .before .before .before .before .before .before .before .before .before .before .before .loop in (same-room (s .pre) (at .inv .3) (at .inv .4) (at .inv .5) (at .inv .6) (λ i. record { «neighbor_numbers» = at .inv .7 i; «list_ends» = at .inv .8 i; status = at .inv .9 i; weight = at .inv .10 i; previous = at .inv .11 i; node = at .inv .12 i; leaf = at .inv .13 i }), c .before .before .before .before .before .before .before .before .before .before .before .if1 .taken)
 
 loop-again : tie.Need-loop-again Inv-loop μ-loop
 loop-again c =
@@ -54,7 +54,7 @@ returns c =
       at .inv .1 ∙ ap (λ k. sets (s .args .out-weight .now) 0 (each k (boundaryWeight (graphIn E) (weightsIn E)))) e,
       (
         at .inv .2 ∙ ap (λ k. sets (s .args .out-vertex .now) 0 (each k (boundaryVertex (graphIn E) (weightsIn E)))) e,
-        subst (λ k. TablesInside E k (s .args .least .now) (at .least) (s .args .before .now) (at .before) (scratchIn (s .args .numbers) (s .args .list-ends) (s .args .status) (s .args .weight) (s .args .previous) (s .args .node) (s .args .leaf)) (scratchOf (at .numbers) (at .list-ends) (at .status) (at .weight) (at .previous) (at .node) (at .leaf))) e (at .inv .14),
+        subst (λ k. TablesInside E k (s .args .least .now) (at .least) (s .args .before .now) (at .before) (scratchIn (s .args .neighbor-numbers) (s .args .list-ends) (s .args .status) (s .args .weight) (s .args .previous) (s .args .node) (s .args .leaf)) (scratchOf (at .neighbor-numbers) (at .list-ends) (at .status) (at .weight) (at .previous) (at .node) (at .leaf))) e (at .inv .14),
       ),
     )
 

@@ -25,7 +25,7 @@ engine-of : tie.Start → Engine
 engine-of s = engineIn (s .args .c) (s .args .ends-a) (s .args .ends-b) (s .args .weights) (s .args .boundary) (s .args .log-edges) (s .args .log-weights)
 
 scratch-at : tie.Start → Bool
-scratch-at s = scratchFits (engine-of s) (scratchIn (s .args .numbers) (s .args .list-ends) (s .args .status) (s .args .weight) (s .args .previous) (s .args .node) (s .args .leaf))
+scratch-at s = scratchFits (engine-of s) (scratchIn (s .args .neighbor-numbers) (s .args .list-ends) (s .args .status) (s .args .weight) (s .args .previous) (s .args .node) (s .args .leaf))
 
 number-at : tie.Start → ℕ
 unfolding engine-of scratch-at
@@ -35,7 +35,7 @@ number-then : (t : tie.Then1) → number-at (t .before .before .before .before .
 unfolding number-at engine-of scratch-at
 number-then t = sym (t .before .query-refusal .ensures ∙ (λ i. queryRefusal (engine-of (t .before .before .before .before .before .before .before .before .before .before .before .before .before .before .before .before .before .before .before .before .before .before .before .before .before .before .before)) ((t .before .before .both4 .ensures ∙ (λ j. t .before .before .before .before .before .at-most3 .ensures j && (t .before .before .before .both3 .ensures ∙ (λ k. t .before .before .before .before .at-most4 .ensures k && (t .before .before .before .before .before .before .both2 .ensures ∙ (λ l. t .before .before .before .before .before .before .before .before .before .at-most .ensures l && (t .before .before .before .before .before .before .before .both .ensures ∙ (λ m. t .before .before .before .before .before .before .before .before .at-most2 .ensures m && t .before .before .before .before .before .before .before .before .before .before .scratch-long .ensures m)) l)) k)) j)) i) true 0)) ∙ t .if1 .taken
 
-fillable-at : (s : tie.Start) → number-at s ≡ 0 → Fillable (engine-of s) (length (s .args .out-weight .now)) (length (s .args .out-vertex .now)) (length (s .args .least .now)) (length (s .args .before .now)) (scratchLengths (scratchIn (s .args .numbers) (s .args .list-ends) (s .args .status) (s .args .weight) (s .args .previous) (s .args .node) (s .args .leaf)))
+fillable-at : (s : tie.Start) → number-at s ≡ 0 → Fillable (engine-of s) (length (s .args .out-weight .now)) (length (s .args .out-vertex .now)) (length (s .args .least .now)) (length (s .args .before .now)) (scratchLengths (scratchIn (s .args .neighbor-numbers) (s .args .list-ends) (s .args .status) (s .args .weight) (s .args .previous) (s .args .node) (s .args .leaf)))
 unfolding number-at engine-of scratch-at
 fillable-at s z = fillable (engine-of s) _ _ _ _ _ z
 
@@ -67,9 +67,9 @@ returns-2 c = let s : tie.Start = c .before .before .before .before .before .bef
       answers = refuses-of d (c .if1 .left);
       weights-after = sym (after-refused (number-at s) (each (s .args .c .vertices) (boundaryWeight (graphIn (engine-of s)) (weightsIn (engine-of s)))) (s .args .out-weight .now) f);
       vertices-after = sym (after-refused (number-at s) (each (s .args .c .vertices) (boundaryVertex (graphIn (engine-of s)) (weightsIn (engine-of s)))) (s .args .out-vertex .now) f);
-      scratch-after = inside-kept (c .before .query-refusal .result) (engine-of s) (s .args .c .vertices - 1) (s .args .least .now) (s .args .before .now) (scratchIn (s .args .numbers) (s .args .list-ends) (s .args .status) (s .args .weight) (s .args .previous) (s .args .node) (s .args .leaf)) (c .if1 .left)
+      scratch-after = inside-kept (c .before .query-refusal .result) (engine-of s) (s .args .c .vertices - 1) (s .args .least .now) (s .args .before .now) (scratchIn (s .args .neighbor-numbers) (s .args .list-ends) (s .args .status) (s .args .weight) (s .args .previous) (s .args .node) (s .args .leaf)) (c .if1 .left)
           (ap isFree d ∙ boundaries-kept (engine-of s) _ _ _ _ _ f);
     }
 
 pub fill-boundaries-spec : {M : Type 1} → statement M
-fill-boundaries-spec = tie.close (tie.spec (λ c. search needs) (λ c κs. tt) (λ c κs. tt) (λ c κs. tt) (λ c κs. tt) (λ c κs. tt) (λ c κs. tt) (λ c κs. tt) (λ c κs. tt) (λ c κs. tt) (λ c κs. tt) fill-all-requires (λ c. c .before .before .before .before .before .before .before .before .before .before .before .before .before .before .before .before .before .before .before .out-weight .given) (λ c. c .before .before .before .before .before .before .before .before .before .before .before .before .before .before .before .before .before .before .out-vertex .given) (λ c. c .before .before .before .before .before .before .before .before .before .before .before .before .before .before .before .before .least .given) (λ c. c .before .before .before .before .before .before .before .before .before .before .before .before .before .before .before .before2 .given) (λ c. c .before .before .before .before .before .before .before .before .before .before .before .before .before .numbers .given) (λ c. c .before .before .before .before .before .before .before .before .before .before .before .list-ends .given) (λ c. c .before .before .before .before .before .before .before .before .before .status .given) (λ c. c .before .before .before .before .before .before .before .weight .given) (λ c. c .before .before .before .before .before .previous .given) (λ c. c .before .before .before .node .given) (λ c. c .before .leaf .given) returns returns-2)
+fill-boundaries-spec = tie.close (tie.spec (λ c. search needs) (λ c κs. tt) (λ c κs. tt) (λ c κs. tt) (λ c κs. tt) (λ c κs. tt) (λ c κs. tt) (λ c κs. tt) (λ c κs. tt) (λ c κs. tt) (λ c κs. tt) fill-all-requires (λ c. c .before .before .before .before .before .before .before .before .before .before .before .before .before .before .before .before .before .before .before .out-weight .given) (λ c. c .before .before .before .before .before .before .before .before .before .before .before .before .before .before .before .before .before .before .out-vertex .given) (λ c. c .before .before .before .before .before .before .before .before .before .before .before .before .before .before .before .before .least .given) (λ c. c .before .before .before .before .before .before .before .before .before .before .before .before .before .before .before .before2 .given) (λ c. c .before .before .before .before .before .before .before .before .before .before .before .before .before .neighbor-numbers .given) (λ c. c .before .before .before .before .before .before .before .before .before .before .before .list-ends .given) (λ c. c .before .before .before .before .before .before .before .before .before .status .given) (λ c. c .before .before .before .before .before .before .before .weight .given) (λ c. c .before .before .before .before .before .previous .given) (λ c. c .before .before .before .node .given) (λ c. c .before .leaf .given) returns returns-2)

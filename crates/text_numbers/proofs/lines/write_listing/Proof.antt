@@ -10,24 +10,24 @@ use Rattle.text_numbers.proofs.lines.write_listing.Statement.{statement
 use Rattle.text_numbers.proofs.lines.write_listing.Tie as tie
 
 put-vertices-requires : tie.Need-put-vertices-requires
-put-vertices-requires c κs = (omega (arith, c .before .before .before .put-graph .ensures .next, ended-few (c .before .before .before .before .before .before .before .before .before .before .args .kind ∷ c .before .before .before .before .before .before .before .before .before .before .args .d ∷ c .before .before .before .before .before .before .before .before .before .before .args .rounds ∷ c .before .before .before .before .before .before .before .before .before .before .args .vertices ∷ c .before .before .before .before .before .before .before .before .before .before .args .edges ∷ [])), c .before .before .before .before .before .before .before .before .before .before .pre .0 .0, c .before .before .before .before .before .before .before .before .before .before .pre .0 .1)
+put-vertices-requires c κs = (omega (arith, c .before .before .before .put-graph .ensures .next, ended-few (c .before .before .before .before .before .before .before .before .before .before .args .g .kind ∷ c .before .before .before .before .before .before .before .before .before .before .args .g .d ∷ c .before .before .before .before .before .before .before .before .before .before .args .g .rounds ∷ c .before .before .before .before .before .before .before .before .before .before .args .g .vertices ∷ c .before .before .before .before .before .before .before .before .before .before .args .g .edges ∷ [])), c .before .before .before .before .before .before .before .before .before .before .pre .0 .0, c .before .before .before .before .before .before .before .before .before .before .pre .0 .1)
 
 put-edges-requires : tie.Need-put-edges-requires
 put-edges-requires c κs =
     let p = c .before .before .before .before .before .before .before .before .before .before .before .before .before .before .pre .1 in
-    (omega (arith, c .before .before .before .put-vertices .ensures .next, c .before .before .before .before .before .before .before .put-graph .ensures .next, c .before .before .before .before .before .before .before .before .before .before .before .before .before .before .pre .0 .0, ended-few (c .before .before .before .before .before .before .before .before .before .before .before .before .before .before .args .kind ∷ c .before .before .before .before .before .before .before .before .before .before .before .before .before .before .args .d ∷ c .before .before .before .before .before .before .before .before .before .before .before .before .before .before .args .rounds ∷ c .before .before .before .before .before .before .before .before .before .before .before .before .before .before .args .vertices ∷ c .before .before .before .before .before .before .before .before .before .before .before .before .before .before .args .edges ∷ []), vertex-lines-few (c .before .before .before .before .before .before .before .before .before .before .before .before .before .before .args .vertices) (c .before .before .before .before .before .before .before .before .before .before .before .before .before .before .args .boundary .now)), p .0, p .1, p .2, p .3)
+    (omega (arith, c .before .before .before .put-vertices .ensures .next, c .before .before .before .before .before .before .before .put-graph .ensures .next, c .before .before .before .before .before .before .before .before .before .before .before .before .before .before .pre .0 .0, ended-few (c .before .before .before .before .before .before .before .before .before .before .before .before .before .before .args .g .kind ∷ c .before .before .before .before .before .before .before .before .before .before .before .before .before .before .args .g .d ∷ c .before .before .before .before .before .before .before .before .before .before .before .before .before .before .args .g .rounds ∷ c .before .before .before .before .before .before .before .before .before .before .before .before .before .before .args .g .vertices ∷ c .before .before .before .before .before .before .before .before .before .before .before .before .before .before .args .g .edges ∷ []), vertex-lines-few (c .before .before .before .before .before .before .before .before .before .before .before .before .before .before .args .g .vertices) (c .before .before .before .before .before .before .before .before .before .before .before .before .before .before .args .boundary .now)), p .0, p .1, p .2, p .3)
 
 put-one-requires : tie.Need-put-one-requires
-put-one-requires c κs = omega (arith, c .before .before .before .put-edges .ensures .next, c .before .before .before .before .before .before .before .put-vertices .ensures .next, c .before .before .before .before .before .before .before .before .before .before .before .put-graph .ensures .next, c .before .before .before .before .before .before .before .before .before .before .before .before .before .before .before .before .before .before .pre .0 .0, c .before .before .before .before .before .before .before .before .before .before .before .before .before .before .before .before .before .before .pre .1 .0, ended-few (c .before .before .before .before .before .before .before .before .before .before .before .before .before .before .before .before .before .before .args .kind ∷ c .before .before .before .before .before .before .before .before .before .before .before .before .before .before .before .before .before .before .args .d ∷ c .before .before .before .before .before .before .before .before .before .before .before .before .before .before .before .before .before .before .args .rounds ∷ c .before .before .before .before .before .before .before .before .before .before .before .before .before .before .before .before .before .before .args .vertices ∷ c .before .before .before .before .before .before .before .before .before .before .before .before .before .before .before .before .before .before .args .edges ∷ []), vertex-lines-few (c .before .before .before .before .before .before .before .before .before .before .before .before .before .before .before .before .before .before .args .vertices) (c .before .before .before .before .before .before .before .before .before .before .before .before .before .before .before .before .before .before .args .boundary .now), edge-lines-few (c .before .before .before .before .before .before .before .before .before .before .before .before .before .before .before .before .before .before .args .edges) (c .before .before .before .before .before .before .before .before .before .before .before .before .before .before .before .before .before .before .args .ends-a .now) (c .before .before .before .before .before .before .before .before .before .before .before .before .before .before .before .before .before .before .args .ends-b .now) (c .before .before .before .before .before .before .before .before .before .before .before .before .before .before .before .before .before .before .args .weights .now))
+put-one-requires c κs = omega (arith, c .before .before .before .put-edges .ensures .next, c .before .before .before .before .before .before .before .put-vertices .ensures .next, c .before .before .before .before .before .before .before .before .before .before .before .put-graph .ensures .next, c .before .before .before .before .before .before .before .before .before .before .before .before .before .before .before .before .before .before .pre .0 .0, c .before .before .before .before .before .before .before .before .before .before .before .before .before .before .before .before .before .before .pre .1 .0, ended-few (c .before .before .before .before .before .before .before .before .before .before .before .before .before .before .before .before .before .before .args .g .kind ∷ c .before .before .before .before .before .before .before .before .before .before .before .before .before .before .before .before .before .before .args .g .d ∷ c .before .before .before .before .before .before .before .before .before .before .before .before .before .before .before .before .before .before .args .g .rounds ∷ c .before .before .before .before .before .before .before .before .before .before .before .before .before .before .before .before .before .before .args .g .vertices ∷ c .before .before .before .before .before .before .before .before .before .before .before .before .before .before .before .before .before .before .args .g .edges ∷ []), vertex-lines-few (c .before .before .before .before .before .before .before .before .before .before .before .before .before .before .before .before .before .before .args .g .vertices) (c .before .before .before .before .before .before .before .before .before .before .before .before .before .before .before .before .before .before .args .boundary .now), edge-lines-few (c .before .before .before .before .before .before .before .before .before .before .before .before .before .before .before .before .before .before .args .g .edges) (c .before .before .before .before .before .before .before .before .before .before .before .before .before .before .before .before .before .before .args .ends-a .now) (c .before .before .before .before .before .before .before .before .before .before .before .before .before .before .before .before .before .before .args .ends-b .now) (c .before .before .before .before .before .before .before .before .before .before .before .before .before .before .before .before .before .before .args .weights .now))
 
 returns : tie.Need-returns
 unfolding listing
 returns c =
     let s = c .before .before .before .before .before .before .before .before .before .before .before .before .before .before .before .before .before .before .before .before .before .args in
-    let v : List ℕ = vertexLines (s .vertices) (s .boundary .now) in
-    let e : List ℕ = edgeLines (s .edges) (s .ends-a .now) (s .ends-b .now) (s .weights .now) in
+    let v : List ℕ = vertexLines (s .g .vertices) (s .boundary .now) in
+    let e : List ℕ = edgeLines (s .g .edges) (s .ends-a .now) (s .ends-b .now) (s .weights .now) in
     let x : List ℕ = crossingLine (s .crossing) in
-    both (graphLine (s .kind) (s .d) (s .rounds) (s .vertices) (s .edges)) (v ++ (e ++ x)) (c .before .before .before .before .before .before .before .before .before .before .before .before .before .before .put-graph .ensures)
+    both (graphLine (s .g .kind) (s .g .d) (s .g .rounds) (s .g .vertices) (s .g .edges)) (v ++ (e ++ x)) (c .before .before .before .before .before .before .before .before .before .before .before .before .before .before .put-graph .ensures)
     (both v (e ++ x) (c .before .before .before .before .before .before .before .before .before .before .put-vertices .ensures) (both e x (c .before .before .before .before .before .before .put-edges .ensures) (c .before .before .put-one .ensures)))
 
 pub write-listing-spec : {M : Type 1} → statement M

@@ -27,7 +27,7 @@ returns c =
     let is = number (c .before .before) in
     record {
       answers = said-of _ _ (c .done-of .ensures ∙ ap done is);
-      writes = sym (after-refused (setEachRefusal (s .met) (s .edge-num) (s .column .now)) (replicate (s .edge-num) (s .value)) (s .column .now) (λ e. c .before .if1 .taken (is ∙ e)));
+      column-after = sym (after-refused (setEachRefusal (s .met) (s .edge-num) (s .column .now)) (replicate (s .edge-num) (s .value)) (s .column .now) (λ e. c .before .if1 .taken (is ∙ e)));
     }
 
 returns-2 : tie.Need-returns-2
@@ -39,7 +39,7 @@ returns-2 c =
     let long : s .edge-num ≤ length now = leb-true (s .edge-num) (length now) (met (leb (s .edge-num) (length now)) 5 _ zero) in
     record {
       answers = accepts-of zero;
-      writes = c .before .before .fill-f64 .ensures ∙ sets-over now vs (omega (arith, length-replicate (s .edge-num) (s .value))) ∙ sym (after-accepted _ vs now zero);
+      column-after = c .before .before .fill-f64 .ensures ∙ sets-over now vs (omega (arith, length-replicate (s .edge-num) (s .value))) ∙ sym (after-accepted _ vs now zero);
     }
 
 pub set-each-spec : {M : Type 1} → statement M

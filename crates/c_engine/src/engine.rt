@@ -2,7 +2,7 @@ ghost use Rattle.c_reports.specs.Reports.{Reported};
 ghost use Rattle.c_reports.specs.Engine.{ReportsEngine};
 ghost use Rattle.engine_columns.specs.Open.{Opened, graphColumns};
 ghost use Rattle.engine_columns.specs.Records.{kept, counts, engineIn};
-ghost use Rattle.engine_columns.specs.Step.{Modified, loadErasures, loadWeights, reset};
+ghost use Rattle.engine_columns.specs.Calls.{Modified, loadErasures, loadWeights, reset};
 use c_reports::engine::EngineReport;
 use c_reports::engine::engine_report;
 use columns::Weight;

@@ -15,7 +15,7 @@ use Rattle.columns.proofs.Columns.{over-in, after-accepted}
 use Rattle.engine_columns.specs.declared.EngineCounts.{EngineCounts}
 use Rattle.engine_columns.specs.Records.{Engine}
 use Rattle.engine_tally.specs.Tally.{Tally, Fed, lengthsOf, tallied, isAccepted, tallyStep, tallyAfter}
-use Rattle.engine_columns.specs.Step.{Call, loadErasures, loadWeights, reset}
+use Rattle.engine_columns.specs.Calls.{Call, loadErasures, loadWeights, reset}
 use Rattle.engine_tally.proofs.Agreement.{Agrees, long-same}
 use Rattle.engine_columns.proofs.Refusals.{sound-from}
 use Rattle.engine_walks.specs.Graph.{edges, GraphInRange}

@@ -39,7 +39,7 @@ use Rattle.engine_walks.specs.Answers.{readBack, stepInto, pathIn, path, fromLe
 use Rattle.engine_walks.specs.Graph.{Graph}
 use Rattle.weights_recipe.specs.Logarithm.{edgeWeight}
 use Rattle.engine_columns.specs.Records.{Engine, engine, counts}
-use Rattle.engine_columns.specs.Step.{loadErasures, loadWeights, reset}
+use Rattle.engine_columns.specs.Calls.{loadErasures, loadWeights, reset}
 use Rattle.engine_columns.specs.Open.{GraphColumns, graphColumns}
 use Rattle.engine_tally.specs.Tally.{Tally, Fed, tallyOf, tallyAfter}
 use Rattle.query_questions.specs.Queries as Q

@@ -3,7 +3,7 @@ use mathlib.Core.Path.{_≡_}
 use mathlib.Core.Bool.{true}
 use mathlib.Core.List.{List, [], _∷_}
 use mathlib.Core.Option.{Option, some}
-use Prim.Native.Nat.{ℕ, suc, _≤_}
+use Prim.Native.Nat.{ℕ, _≤_}
 use lib.ListN.{length, replicate}
 use Rattle.columns.specs.Places.{zeroFloat}
 use Rattle.codes_writers.specs.Edges.{firsts, seconds, boundaries}
@@ -14,7 +14,7 @@ use Rattle.weights_calls.specs.Calls.{isLargestHalfWeight, halfWeights, compute
 use Rattle.columns.specs.Limits.{edgeLimit}
 use Rattle.codes_layers.specs.Accepts.{kindKnown}
 use Rattle.engine_columns.specs.Records.{Engine, engine, counts}
-use Rattle.engine_columns.specs.Step.{Call, loadErasures, loadWeights, reset}
+use Rattle.engine_columns.specs.Calls.{Call, loadErasures, loadWeights, reset}
 use Rattle.engine_columns.specs.Open.{GraphColumns, graphColumns}
 use Rattle.engine_tally.specs.Tally.{Lengths, Tally, Fed, tallyOf, tallyAfter}
 use Rattle.engine_walks.specs.Answers.{path, crossing}

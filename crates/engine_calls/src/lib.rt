@@ -1,6 +1,6 @@
 // The changes of an engine graph's weights: open, load erasures, load weights, reset.
 ghost use Rattle.engine_columns.specs.Records.{kept, engineIn};
-ghost use Rattle.engine_columns.specs.Step.{Modified, loadErasures, loadWeights, reset};
+ghost use Rattle.engine_columns.specs.Calls.{Modified, loadErasures, loadWeights, reset};
 ghost use Rattle.engine_columns.specs.Open.{Opened, graphColumns};
 use columns::Weight;
 use columns_stores::copy_u8;

@@ -1,6 +1,6 @@
 -- What the number 0 says of the columns, and a step from its parts. Assumes nothing.
-use mathlib.Core.Path.{_≡_, refl, sym, ap, _∙_}
-use mathlib.Core.Bool.{Bool, true, false, _&&_, cond}
+use mathlib.Core.Path.{_≡_, sym, ap, _∙_}
+use mathlib.Core.Bool.{Bool, true, _&&_, cond}
 use mathlib.Core.List.{List}
 use Prim.Native.Nat.{ℕ, _+_, _≤_, _<_}
 use native.Mathlib.Omega.{arith}
@@ -19,17 +19,9 @@ use Rattle.engine_columns.specs.declared.EngineAnswer.{EngineAnswer}
 use Rattle.engine_columns.specs.declared.EngineAnswer.the-variants.{Counts, Refused}
 use Rattle.engine_columns.specs.Records.{Engine, engine, counts}
 use Rattle.engine_columns.specs.Questions.{columnsLong, engineLong, columnsSound, engineSound}
-use Rattle.engine_columns.specs.Step.{Call, loadWeights, reset, engineRefusal, changed, Modified}
+use Rattle.engine_columns.specs.Calls.{Call, loadWeights, reset, engineRefusal, changed, Modified}
 use Rattle.engine_columns.specs.Open.{GraphColumns, openRefusal}
-
--- a question that did not stop the call
-pub met-of : (b : Bool) (n next : ℕ) → 0 < n → ask b n next ≡ 0 → b ≡ true
-met-of true n next h e = refl
-met-of false n next h e = absurd (omega arith)
-
-pub next-of : (b : Bool) (n next : ℕ) → 0 < n → ask b n next ≡ 0 → next ≡ 0
-next-of true n next h e = e
-next-of false n next h e = absurd (omega arith)
+use Rattle.columns.proofs.Refusals.{met, goes-on}
 
 -- ---- question 6
 
@@ -147,15 +139,15 @@ loads-of es e rest z =
     let q4 = ask (allBelow (e .counts .edges) es) 13 rest in
     let q3 = ask (eqb (e .counts .entries) 0) 12 q4 in
     let q2 = ask (engineSound e) 7 q3 in
-    let z2 : q2 ≡ 0 = next-of (engineLong (length es) e) 6 q2 (omega arith) z in
-    let z3 : q3 ≡ 0 = next-of (engineSound e) 7 q3 (omega arith) z2 in
-    let z4 : q4 ≡ 0 = next-of (eqb (e .counts .entries) 0) 12 q4 (omega arith) z3 in
+    let z2 : q2 ≡ 0 = goes-on (engineLong (length es) e) 5 q2 z in
+    let z3 : q3 ≡ 0 = goes-on (engineSound e) 6 q3 z2 in
+    let z4 : q4 ≡ 0 = goes-on (eqb (e .counts .entries) 0) 11 q4 z3 in
     record {
-      long = long-of (length es) e (met-of (engineLong (length es) e) 6 q2 (omega arith) z);
-      sound = sound-of e (met-of (engineSound e) 7 q3 (omega arith) z2);
-      empty = eqb-true _ _ (met-of (eqb (e .counts .entries) 0) 12 q4 (omega arith) z3);
-      below = met-of (allBelow (e .counts .edges) es) 13 rest (omega arith) z4;
-      last = next-of (allBelow (e .counts .edges) es) 13 rest (omega arith) z4;
+      long = long-of (length es) e (met (engineLong (length es) e) 5 q2 z);
+      sound = sound-of e (met (engineSound e) 6 q3 z2);
+      empty = eqb-true _ _ (met (eqb (e .counts .entries) 0) 11 q4 z3);
+      below = met (allBelow (e .counts .edges) es) 12 rest z4;
+      last = goes-on (allBelow (e .counts .edges) es) 12 rest z4;
     }
 
 -- each edge that an accepted load names
@@ -172,20 +164,20 @@ pub weighed-of : (es xs : List ℕ) (e : Engine) → engineRefusal (loadWeights 
 weighed-of es xs e z =
     let q = shared es e (ask (allWithin weightLimit xs) 15 0) in
     let l : Loads es e (ask (allWithin weightLimit xs) 15 0) =
-    loads-of es e (ask (allWithin weightLimit xs) 15 0) (next-of (eqb (length es) (length xs)) 6 q (omega arith) z) in
+    loads-of es e (ask (allWithin weightLimit xs) 15 0) (goes-on (eqb (length es) (length xs)) 5 q z) in
     record {
-      many = eqb-true _ _ (met-of (eqb (length es) (length xs)) 6 q (omega arith) z);
+      many = eqb-true _ _ (met (eqb (length es) (length xs)) 5 q z);
       loads = l;
-      fit = met-of (allWithin weightLimit xs) 15 0 (omega arith) (l .last);
+      fit = met (allWithin weightLimit xs) 14 0 (l .last);
     }
 
 -- what an accepted reset says, and any call that asks 6 and 7 alone
 module _ (e : Engine) (z : engineRefusal reset e ≡ 0) where
   pub reset-long : Long 0 e
-  reset-long = long-of 0 e (met-of (engineLong 0 e) 6 (ask (engineSound e) 7 0) (omega arith) z)
+  reset-long = long-of 0 e (met (engineLong 0 e) 5 (ask (engineSound e) 7 0) z)
 
   pub reset-sound : Sound e
-  reset-sound = sound-of e (met-of (engineSound e) 7 0 (omega arith) (next-of (engineLong 0 e) 6 (ask (engineSound e) 7 0) (omega arith) z))
+  reset-sound = sound-of e (met (engineSound e) 6 0 (goes-on (engineLong 0 e) 5 (ask (engineSound e) 7 0) z))
 
   pub reset-named : (i : ℕ) → i < e .counts .entries → getD (e .logEdges) i 0 < e .counts .edges
   reset-named i h = below-first (e .counts .edges) (e .counts .entries) (e .logEdges) (reset-sound .logEdges) (omega (arith, reset-long .logEdges)) i h
@@ -201,9 +193,9 @@ opens-of v e h l z =
     let f = columnsLong v e (h .endsA) (h .endsB) (h .weights) (h .boundary) in
     let t = columnsLong v e (l .endsA) (l .endsB) (l .weights) (l .boundary) in
     let s = columnsSound v e (h .endsA) (h .endsB) (h .weights) (h .boundary) in
-    let (p, q) = and-both f t (met-of (f && t) 6 (ask s 7 0) (omega arith) z) in
+    let (p, q) = and-both f t (met (f && t) 5 (ask s 7 0) z) in
     record {
       from = columns-long-of _ _ _ _ _ _ p;
       to = columns-long-of _ _ _ _ _ _ q;
-      sound = columns-sound-of _ _ _ _ _ _ (met-of s 7 0 (omega arith) (next-of (f && t) 6 (ask s 7 0) (omega arith) z));
+      sound = columns-sound-of _ _ _ _ _ _ (met s 6 0 (goes-on (f && t) 5 (ask s 7 0) z));
     }

@@ -1,5 +1,5 @@
--- Records: the engine graph. Questions: questions 6 and 7. Step: what a load or a reset asks, answers and leaves. Open: the same of open.
+-- Records: the engine graph. Questions: questions 6 and 7. Calls: what a load or a reset asks, answers and leaves. Open: the same of open.
 pub mod Records
 pub mod Questions
-pub mod Step
+pub mod Calls
 pub mod Open

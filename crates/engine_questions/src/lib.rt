@@ -1,7 +1,7 @@
 // The questions of open, the loads and reset.
 ghost use mathlib.Core.Path.{_≡_};
 ghost use Rattle.engine_columns.specs.Records.{engineIn};
-ghost use Rattle.engine_columns.specs.Step.{engineRefusal, loadErasures, loadWeights, reset};
+ghost use Rattle.engine_columns.specs.Calls.{engineRefusal, loadErasures, loadWeights, reset};
 ghost use Rattle.engine_columns.specs.Open.{openRefusal, graphColumns};
 use columns::Weight;
 use columns::questions::asked;

@@ -20,7 +20,7 @@ use Rattle.engine_columns.specs.declared.EngineAnswer.{EngineAnswer}
 use Rattle.engine_columns.specs.Records.{Engine, engine, counts, engineSaid}
 use Rattle.engine_log.specs.Load.{loaded, earlier, named, undone, erased, given}
 use Rattle.engine_columns.specs.Questions.{columnsLong, engineLong}
-use Rattle.engine_columns.specs.Step.{Call, loadErasures, loadWeights, reset, engineRefusal, changed, loadedBy, Modified}
+use Rattle.engine_columns.specs.Calls.{Call, loadErasures, loadWeights, reset, engineRefusal, changed, loadedBy, Modified}
 use Rattle.engine_columns.specs.Open.{GraphColumns, openRefusal, Opened}
 use Rattle.engine_tally.specs.Tally.{lengthsOf, Tally, tallyOf, tallyLong, tallyRefusal, withWeights, tallied, tallyStep}
 use Rattle.engine_log.proofs.Loads.{loaded-length, named-length, earlier-length, undone-length, undo-load, take-loaded, within-loaded, named-at, earlier-at}

@@ -2,7 +2,7 @@
 use mathlib.Core.Path.{_≡_, refl, sym, ap, _∙_, subst}
 use mathlib.Core.Bool.{cond}
 use mathlib.Core.List.{List, [], _∷_}
-use Prim.Native.Nat.{ℕ, zero, suc, _+_, _≤_, _<_}
+use Prim.Native.Nat.{ℕ, zero, suc, _<_}
 use native.Mathlib.Decide.{ℕ-discrete}
 use native.Mathlib.Omega.{arith}
 use borrow.Author.Tests.{eqb-true, eq-eqb, ne-eqb}
@@ -12,11 +12,11 @@ use lib.Dec.{eqb}
 use Rattle.columns.specs.Limits.{weightLimit}
 use Rattle.columns.specs.Questions.{ask, allBelow, allWithin}
 use Rattle.engine_log.specs.Load.{loaded, erased, given}
-use Rattle.engine_columns.specs.Step.{Call, loadErasures, loadWeights, reset}
+use Rattle.engine_columns.specs.Calls.{Call, loadErasures, loadWeights, reset}
 use Rattle.engine_tally.specs.Tally.{Tally, Lengths, Fed, tallyOf, tallyLong, tallyRefusal, tallied, tallyStep, tallyAfter, tallyNumbers}
 use Rattle.engine_tally.specs.Readers.{LastSet, setTo, asOpened, notNamed, lastOf, setByEntry, setByErasures, setByWeights, setByAccepted, setByCall, setByCalls, weightBy, WeighsLastNamed}
 use Rattle.engine_log.proofs.Loads.{loaded-length}
-use Rattle.engine_columns.proofs.Refusals.{met-of}
+use Rattle.columns.proofs.Refusals.{met}
 
 -- the weight after a word, from the opening weight o and the weight c before it
 abbrev from : LastSet → (o c : ℕ) → ℕ
@@ -74,8 +74,8 @@ module _ (k : ℕ) where
       → getD (tallied call t .weights) k 0 ≡ from (setByAccepted call k) (getD (t .opening) k 0) (getD (t .weights) k 0)
   tallied-law (loadErasures es) l t z h = erasures-law k (getD (t .opening) k 0) es (t .weights) (h .in-weights)
   tallied-law (loadWeights es xs) l t z h =
-      let q = met-of (eqb (length es) (length xs)) 6
-      (ask (tallyLong (length es) l (t .counts)) 6 (ask (eqb (t .counts .entries) 0) 12 (ask (allBelow (t .counts .edges) es) 13 (ask (allWithin weightLimit xs) 15 0)))) (omega arith) z in
+      let q = met (eqb (length es) (length xs)) 5
+      (ask (tallyLong (length es) l (t .counts)) 6 (ask (eqb (t .counts .entries) 0) 12 (ask (allBelow (t .counts .edges) es) 13 (ask (allWithin weightLimit xs) 15 0)))) z in
       weights-law k (getD (t .opening) k 0) es xs (t .weights) (eqb-true (length es) (length xs) q) (h .in-weights)
   tallied-law reset l t z h = refl
 

@@ -6,7 +6,7 @@ use mathlib.Core.Bool.{cond}
 use mathlib.Core.List.{List, [], _∷_}
 use lib.ListN.{length, getD}
 use lib.Dec.{eqb}
-use Rattle.engine_columns.specs.Step.{Call, loadErasures, loadWeights, reset}
+use Rattle.engine_columns.specs.Calls.{Call, loadErasures, loadWeights, reset}
 use Rattle.engine_columns.specs.Open.{GraphColumns}
 use Rattle.engine_tally.specs.Tally.{Fed, tallyOf, tallyAfter, tallyNumbers}
 

@@ -1,6 +1,6 @@
 -- The tally of document 01's "Engine": what a list of calls says by itself, from the calls' arguments and the lengths of the columns they are lent.
 -- "Engine, Tally" is the paragraph of that section that begins "Demand 3 is one claim".
-use Prim.Native.Nat.{ℕ, zero, suc, _+_}
+use Prim.Native.Nat.{ℕ, _+_}
 use mathlib.Core.Bool.{Bool, cond, _&&_}
 use mathlib.Core.List.{List, [], _∷_}
 use lib.ListN.{length, take}
@@ -11,7 +11,7 @@ use Rattle.columns_room.specs.Room.{threeLong}
 use Rattle.engine_columns.specs.declared.EngineCounts.{EngineCounts}
 use Rattle.engine_columns.specs.Records.{Engine, counts}
 use Rattle.engine_log.specs.Load.{loaded, erased, given}
-use Rattle.engine_columns.specs.Step.{Call, loadErasures, loadWeights, reset}
+use Rattle.engine_columns.specs.Calls.{Call, loadErasures, loadWeights, reset}
 use Rattle.engine_columns.specs.Open.{GraphColumns}
 
 -- Engine, Tally, sentence 5: the lengths of the columns that a call is lent.

@@ -10,7 +10,6 @@ ghost use Rattle.query_questions.specs.Queries.{graphIn, weightsIn};
 ghost use Rattle.query_questions.specs.Scratch.{scratchIn, scratchLengths};
 ghost use Rattle.prebuilt_calls.specs.Boundaries.{boundaryWeight, boundaryVertex, FilledBoundaries};
 ghost use Rattle.prebuilt_calls.specs.Steps.{Fillable, TablesInside};
-ghost use Rattle.query_questions.specs.declared.ScratchLengths.{ScratchLengths};
 use columns::Done;
 use columns::VertexIndex;
 use columns::Weight;
@@ -18,8 +17,8 @@ use columns::questions::at_most;
 use columns::questions::both;
 use engine_columns::EngineCounts;
 use prebuilt_entries::boundaries::store_boundary;
-use query_questions::query_refusal;
 use query_questions::ScratchLengths;
+use query_questions::query_refusal;
 use query_questions::scratch_long;
 use query_tables::all_edges;
 

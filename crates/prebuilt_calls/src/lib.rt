@@ -8,7 +8,6 @@ pub use nearest::get_boundary_weight;
 ghost use Rattle.engine_columns.specs.Records.{engineIn};
 ghost use Rattle.query_questions.specs.Scratch.{scratchIn};
 ghost use Rattle.prebuilt_calls.specs.Rows.{FilledRow};
-ghost use Rattle.query_questions.specs.declared.ScratchLengths.{ScratchLengths};
 use columns::Done;
 use columns::VertexIndex;
 use columns::Weight;
@@ -16,8 +15,8 @@ use columns::questions::at_most;
 use columns::questions::both;
 use engine_columns::EngineCounts;
 use prebuilt_entries::rows::write_row;
-use query_questions::query_refusal;
 use query_questions::ScratchLengths;
+use query_questions::query_refusal;
 use query_questions::scratch_long;
 use query_tables::all_edges;
 

@@ -4,7 +4,7 @@ use mathlib.Core.Logic.{_≢_}
 use mathlib.Core.Bool.{Bool, true, false, _&&_, cond}
 use mathlib.Core.List.{List}
 use mathlib.Core.Option.{Option, some, none}
-use Prim.Native.Nat.{ℕ, _+_, _<_, _≤_}
+use Prim.Native.Nat.{ℕ, _<_, _≤_}
 use native.Mathlib.Omega.{arith}
 use native.Mathlib.Decide.{decLt}
 use lib.ListN.{length, getD, List·getD-eq-default}
@@ -21,7 +21,7 @@ use Rattle.engine_columns.specs.Records.{Engine}
 use Rattle.columns_answers.specs.Said.{Answered}
 use Rattle.columns_answers.proofs.Said.{accepts-of, refuses-of}
 use Rattle.engine_columns.specs.Questions.{engineLong, engineSound}
-use Rattle.engine_columns.proofs.Refusals.{Long, long-of, Sound, sound-of, met-of, next-of}
+use Rattle.engine_columns.proofs.Refusals.{Long, long-of, Sound, sound-of}
 use Rattle.engine_walks.specs.Graph.{Graph}
 use Rattle.engine_walks.specs.Settling.{State, weightAt, firstLeast}
 use Rattle.engine_walks.specs.Answers.{taken, tableWeight, weightOf, fromLeft, leastFromLeft, nearestRight, crossing}
@@ -31,6 +31,7 @@ use Rattle.query_crossing_answer.specs.Crossing.{isJoined, weightFound, crossin
 use Rattle.query_crossing_answer.specs.Codes.{Coded, whereFound, codeOf}
 use Rattle.query_questions.specs.Scratch.{isFree}
 use Rattle.query_search.proofs.Scratch.{ask-kept}
+use Rattle.columns.proofs.Refusals.{met, goes-on}
 
 -- ---- what stands for a weight
 
@@ -80,13 +81,13 @@ pub crossing-of : (e : Engine) (scratch : Bool) (weights : ℕ) → crossingAske
 crossing-of e scratch weights z =
     let fits = leb (e .counts .vertices) weights && scratch in
     let q2 = ask (engineSound e) 7 0 in
-    let (p, q) = and-both (engineLong 0 e) fits (met-of (engineLong 0 e && fits) 6 q2 (omega arith) z) in
+    let (p, q) = and-both (engineLong 0 e) fits (met (engineLong 0 e && fits) 5 q2 z) in
     let (w, s) = and-both (leb (e .counts .vertices) weights) scratch q in
     record {
       long = long-of 0 e p;
       weights-long = leb-true _ _ w;
       scratch-is = s;
-      sound = sound-of e (met-of (engineSound e) 7 0 (omega arith) (next-of (engineLong 0 e && fits) 6 q2 (omega arith) z));
+      sound = sound-of e (met (engineSound e) 6 0 (goes-on (engineLong 0 e && fits) 5 q2 z));
     }
 
 -- ---- what a settled state says of the crossing

@@ -12,7 +12,6 @@ ghost use Rattle.engine_walks.specs.Answers.{tableWeight, crossing};
 ghost use Rattle.query_relaxing.specs.Ready.{stateOf, sumLimit};
 ghost use Rattle.query_questions.specs.Scratch.{scratchIn};
 ghost use Rattle.query_crossing_answer.specs.Crossing.{FoundCrossing};
-ghost use Rattle.query_questions.specs.declared.ScratchLengths.{ScratchLengths};
 use columns::Weight;
 use engine_columns::EngineCounts;
 use query_crossing_answer::CrossingReply;

@@ -3,14 +3,14 @@ use mathlib.Core.Path.{_≡_, refl, sym, ap, _∙_}
 use mathlib.Core.Logic.{_≢_}
 use mathlib.Core.Bool.{Bool, true, false, not, _&&_, false≢true}
 use mathlib.Core.Option.{Option, some, none}
-use Prim.Native.Nat.{ℕ, zero, suc, _+_, _*_, _<_, _≤_}
+use Prim.Native.Nat.{ℕ, zero, suc, _<_, _≤_}
 use native.Mathlib.Omega.{arith}
 use lib.Dec.{leb, ltb, eqb}
 use borrow.Author.Tests.{leb-true, ltb-true, eq-eqb}
 use Rattle.columns.specs.Questions.{ask}
 use Rattle.columns.proofs.Tests.{and-both}
 use Rattle.engine_columns.specs.Records.{Engine}
-use Rattle.engine_columns.proofs.Refusals.{Long, Sound, met-of}
+use Rattle.engine_columns.proofs.Refusals.{Long, Sound}
 use Rattle.query_questions.specs.Queries.{queryRefusal}
 use Rattle.engine_walks.specs.Answers.{FoundPath}
 use Rattle.query_paths.specs.declared.PathAnswer.the-variants.{Refused}
@@ -19,6 +19,7 @@ use Rattle.query_paths.specs.GetPath.{pathAsked, pathRefusal, PathSaid}
 use Rattle.columns_answers.proofs.Said.{refuses-of}
 use Rattle.query_search.proofs.Asked.{query-of}
 use Rattle.query_search.proofs.Scratch.{ask-kept, query-kept}
+use Rattle.columns.proofs.Refusals.{met}
 
 pub record PathAsked (e : Engine) (scratch : Bool) (a b vertices steps : ℕ) : Type 0 where
   pub long : Long 0 e
@@ -49,7 +50,7 @@ module _ (e : Engine) (scratch : Bool) (a b vertices steps : ℕ) where
         scratch-is = s;
         a-in = ltb-true _ _ i;
         b-in = ltb-true _ _ j;
-        differ = differ-of a b (met-of (not (eqb a b)) 16 0 (omega arith) (q .last));
+        differ = differ-of a b (met (not (eqb a b)) 15 0 (q .last));
       }
 
   -- the number, from the tests as the code makes them

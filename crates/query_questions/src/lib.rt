@@ -4,7 +4,6 @@ ghost use mathlib.Core.Bool.{cond};
 ghost use lib.Dec.{eqb};
 ghost use Rattle.engine_columns.specs.Records.{engineIn};
 ghost use Rattle.query_questions.specs.Queries.{scratchLong, queryRefusal};
-ghost use Rattle.query_questions.specs.declared.ScratchLengths.{ScratchLengths};
 use columns::VertexIndex;
 use columns::Weight;
 use columns::questions::asked;

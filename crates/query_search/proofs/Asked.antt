@@ -15,11 +15,12 @@ use Rattle.columns_neighbors.specs.Sound.{SoundGraph}
 use Rattle.columns_neighbors.proofs.Ends.{graph-says}
 use Rattle.engine_columns.specs.Records.{Engine}
 use Rattle.engine_columns.specs.Questions.{engineLong, engineSound}
-use Rattle.engine_columns.proofs.Refusals.{ColumnsLong, Long, long-of, ColumnsSound, Sound, sound-of, met-of, next-of}
+use Rattle.engine_columns.proofs.Refusals.{ColumnsLong, Long, long-of, ColumnsSound, Sound, sound-of}
 use Rattle.query_questions.specs.Queries.{scratchLong, queryRefusal}
 use Rattle.query_search.specs.Search.{Searchable}
 use Rattle.query_questions.specs.Scratch.{scratchOf, scratchLengths}
 use Rattle.query_questions.specs.declared.ScratchLengths.{ScratchLengths}
+use Rattle.columns.proofs.Refusals.{met, goes-on}
 
 pub record ScratchLong (v e : ℕ) (l : ScratchLengths) : Type 0 where
   pub numbers-long : 2 * e ≤ l .«neighbor_numbers»
@@ -61,15 +62,15 @@ pub query-of : (e : Engine) (fits inRange : Bool) (next : ℕ) → queryRefusal 
 query-of e fits inRange next z =
     let q3 = ask inRange 13 next in
     let q2 = ask (engineSound e) 7 q3 in
-    let (p, q) = and-both (engineLong 0 e) fits (met-of (engineLong 0 e && fits) 6 q2 (omega arith) z) in
-    let z2 = next-of (engineLong 0 e && fits) 6 q2 (omega arith) z in
-    let z3 = next-of (engineSound e) 7 q3 (omega arith) z2 in
+    let (p, q) = and-both (engineLong 0 e) fits (met (engineLong 0 e && fits) 5 q2 z) in
+    let z2 = goes-on (engineLong 0 e && fits) 5 q2 z in
+    let z3 = goes-on (engineSound e) 6 q3 z2 in
     record {
       long = long-of 0 e p;
       fits-are = q;
-      sound = sound-of e (met-of (engineSound e) 7 q3 (omega arith) z2);
-      in-range = met-of inRange 13 next (omega arith) z3;
-      last = next-of inRange 13 next (omega arith) z3;
+      sound = sound-of e (met (engineSound e) 6 q3 z2);
+      in-range = met inRange 12 next z3;
+      last = goes-on inRange 12 next z3;
     }
 
 -- columns cut to their counts

@@ -165,26 +165,8 @@ fn write_weighed(
     ensures { λ r. ⌜ Put (now (text .entry)) 0 (listingOf (code .kind) (code .d) (code .rounds) (code .probability) (code .max)) (now (text .exit)) r ⌝ }
 {
     store_weights(half_weight, e as usize, weights);
-    let reply = crossing_of(
-        code,
-        v,
-        e,
-        ends_a,
-        ends_b,
-        weights,
-        boundary,
-    );
-    write_reply(
-        reply,
-        code,
-        v,
-        e,
-        ends_a,
-        ends_b,
-        weights,
-        boundary,
-        text,
-    )
+    let reply = crossing_of(code, v, e, ends_a, ends_b, weights, boundary);
+    write_reply(reply, code, v, e, ends_a, ends_b, weights, boundary, text)
 }
 
 // The text of a built code.

@@ -27,24 +27,12 @@ fn write_made(
 {
     match made {
         Created::Refused(number) => write_refusal(text, number),
-        Created::Code(v, e) => write_built(
-            code,
-            v,
-            e,
-            ends_a,
-            ends_b,
-            half_weight,
-            boundary,
-            text,
-        ),
+        Created::Code(v, e) => write_built(code, v, e, ends_a, ends_b, half_weight, boundary, text),
     }
 }
 
 // The text for a code, over columns for 1,024 vertices.
-pub fn write_code(
-    code: CodeArguments,
-    text: &mut [u8],
-) -> usize
+pub fn write_code(code: CodeArguments, text: &mut [u8]) -> usize
     ensures { λ r. ⌜ Put (now (text .entry)) 0 (codeText (code .kind) (code .d) (code .rounds) (code .probability) (code .max)) (now (text .exit)) r ⌝ }
 {
     let mut ends_a = [0u32; 6144];
@@ -80,15 +68,7 @@ pub fn write_code(
         &mut list_lengths,
         &mut neighbor_numbers,
     );
-    write_made(
-        made,
-        code,
-        &ends_a,
-        &ends_b,
-        &half_weight,
-        &boundary,
-        text,
-    )
+    write_made(made, code, &ends_a, &ends_b, &half_weight, &boundary, text)
 }
 
 // Every code has a crossing weight, so 18 is never printed.

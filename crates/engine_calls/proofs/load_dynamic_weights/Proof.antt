@@ -1,9 +1,8 @@
 -- `engine_calls::load_dynamic_weights` meets its contract. Assumes nothing.
-use Prim.Native.Nat.{ℕ, _+_, _≤_, _<_}
 use mathlib.Core.Path.{_≡_, refl, sym, _∙_}
 use native.Mathlib.Omega.{arith}
 use Rattle.engine_columns.specs.Records.{engine}
-use Rattle.engine_columns.specs.Step.{loadWeights, engineRefusal}
+use Rattle.engine_columns.specs.Calls.{loadWeights, engineRefusal}
 use Rattle.engine_columns.proofs.Refusals.{accepted, refused, columns, named-of, Weighed, weighed-of}
 use borrow.Author.Needs.{needs}
 use Rattle.engine_calls.proofs.load_dynamic_weights.Statement.{statement}

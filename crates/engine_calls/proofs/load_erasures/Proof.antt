@@ -1,9 +1,8 @@
 -- `engine_calls::load_erasures` meets its contract. Assumes nothing.
-use Prim.Native.Nat.{ℕ, _+_, _≤_, _<_}
 use mathlib.Core.Path.{_≡_, refl, sym, _∙_}
 use native.Mathlib.Omega.{arith}
 use Rattle.engine_columns.specs.Records.{engine}
-use Rattle.engine_columns.specs.Step.{loadErasures, engineRefusal}
+use Rattle.engine_columns.specs.Calls.{loadErasures, engineRefusal}
 use Rattle.engine_columns.proofs.Refusals.{accepted, refused, columns, Loads, loads-of, named-of}
 use borrow.Author.Needs.{needs}
 use Rattle.engine_calls.proofs.load_erasures.Statement.{statement}

@@ -1,9 +1,8 @@
 -- `engine_calls::reset` meets its contract. Assumes nothing.
-use Prim.Native.Nat.{ℕ, _+_, _≤_, _<_}
 use mathlib.Core.Path.{_≡_, refl, sym, _∙_}
 use native.Mathlib.Omega.{arith}
 use Rattle.engine_columns.specs.Records.{engine}
-use Rattle.engine_columns.specs.Step.{engineRefusal, reset}
+use Rattle.engine_columns.specs.Calls.{engineRefusal, reset}
 use Rattle.engine_columns.proofs.Refusals.{accepted, refused, columns, reset-long, reset-named}
 use borrow.Author.Needs.{needs}
 use Rattle.engine_calls.proofs.reset.Statement.{statement}

@@ -61,17 +61,17 @@ getEdgeWeight g w v u = remaining (getBoundaryWeight g w v) (getBoundaryWeight g
 
 -- ---- in columns: -1 for no edge and no boundary weight, 0 for no boundary vertex
 
--- The weight of an edge in a row's column.
+-- complete_graph.rs, `get_edge_weight`: the weight of an edge in a row's column.
 abbrev pub edgeEntry : Option ℕ → ℤ
 edgeEntry none = negsuc 0
 edgeEntry (some k) = pos k
 
--- The boundary weight of a vertex in the column of boundary weights.
+-- complete_graph.rs, `get_boundary_weight`: the boundary weight of a vertex in the column of boundary weights.
 abbrev pub weightEntry : Option Peer → ℤ
 weightEntry none = negsuc 0
 weightEntry (some b) = pos (b .weight)
 
--- The boundary vertex of a vertex in the column of boundary vertices.
+-- complete_graph.rs, `get_boundary_weight`: the boundary vertex of a vertex in the column of boundary vertices.
 abbrev pub vertexEntry : Option Peer → ℕ
 vertexEntry none = 0
 vertexEntry (some b) = b .vertex

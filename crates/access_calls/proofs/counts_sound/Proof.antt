@@ -1,4 +1,4 @@
--- `access_calls::counts_sound` meets its contract. Assumes nothing.
+-- `access_calls::counts_sound` meets its contract: `both` joins the tests that the definition joins, and each callee promises its test. Assumes nothing.
 use mathlib.Core.Bool.{_&&_}
 use mathlib.Core.Path.{_∙_}
 use Rattle.access_calls.specs.Calls.{countsSound}

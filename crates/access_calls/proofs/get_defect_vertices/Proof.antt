@@ -1,4 +1,4 @@
--- `access_calls::get_defect_vertices` meets its contract. Assumes nothing.
+-- `access_calls::get_defect_vertices` meets its contract: `get_named` promises it for the test that `vertex_count_sound` promises. Assumes nothing.
 use Rattle.access_calls.proofs.Refusals.{get-tested}
 use Rattle.access_calls.proofs.get_defect_vertices.Statement.{statement}
 use Rattle.access_calls.proofs.get_defect_vertices.Tie as tie

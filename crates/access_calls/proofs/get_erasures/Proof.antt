@@ -1,4 +1,4 @@
--- `access_calls::get_erasures` meets its contract. Assumes nothing.
+-- `access_calls::get_erasures` meets its contract: `get_named` promises it for the test that `edge_count_sound` promises. Assumes nothing.
 use Rattle.access_calls.proofs.Refusals.{get-tested}
 use Rattle.access_calls.proofs.get_erasures.Statement.{statement}
 use Rattle.access_calls.proofs.get_erasures.Tie as tie

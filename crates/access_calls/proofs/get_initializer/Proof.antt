@@ -1,4 +1,4 @@
--- `access_calls::get_initializer` meets its contract. Assumes nothing.
+-- `access_calls::get_initializer` meets its contract: a refusal changes no column, and at number 0 each callee promises the column that it stores. Assumes nothing.
 use mathlib.Core.Path.{_≡_, sym, _∙_}
 use lib.ListN.{take}
 use Rattle.columns.proofs.Columns.{copy-after, after-accepted, after-refused}

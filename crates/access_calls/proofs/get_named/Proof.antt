@@ -1,4 +1,4 @@
--- `access_calls::get_named` meets its contract. Assumes nothing.
+-- `access_calls::get_named` meets its contract: a refusal changes no list, and at number 0 `list_set` promises the list and its length. Assumes nothing.
 use mathlib.Core.Path.{_≡_, sym, _∙_}
 use Rattle.columns.proofs.Columns.{after-accepted, after-refused}
 use Rattle.columns_marks.specs.Marks.{listed}

@@ -1,4 +1,4 @@
--- `access_calls::initializer_refusal` meets its contract. Assumes nothing.
+-- `access_calls::initializer_refusal` meets its contract: the questions are asked in the order defined, and each callee promises its test. Assumes nothing.
 use Rattle.columns.specs.Questions.{ask}
 use mathlib.Core.Path.{_∙_}
 use Rattle.access_calls.proofs.initializer_refusal.Statement.{statement}

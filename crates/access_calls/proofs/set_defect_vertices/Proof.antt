@@ -1,4 +1,4 @@
--- `access_calls::set_defect_vertices` meets its contract. Assumes nothing.
+-- `access_calls::set_defect_vertices` meets its contract: `set_named` promises it for the test that `vertex_count_sound` promises. Assumes nothing.
 use Rattle.access_calls.proofs.Refusals.{set-tested}
 use Rattle.access_calls.proofs.set_defect_vertices.Statement.{statement}
 use Rattle.access_calls.proofs.set_defect_vertices.Tie as tie

@@ -1,4 +1,4 @@
--- `access_calls::set_erasures` meets its contract. Assumes nothing.
+-- `access_calls::set_erasures` meets its contract: `set_named` promises it for the test that `edge_count_sound` promises. Assumes nothing.
 use Rattle.access_calls.proofs.Refusals.{set-tested}
 use Rattle.access_calls.proofs.set_erasures.Statement.{statement}
 use Rattle.access_calls.proofs.set_erasures.Tie as tie

@@ -1,4 +1,4 @@
--- `access_calls::set_syndrome` meets its contract. Assumes nothing.
+-- `access_calls::set_syndrome` meets its contract: a refusal changes no column, and at number 0 `set_marks` promises each column. Assumes nothing.
 use mathlib.Core.Path.{_≡_, sym, ap, _∙_}
 use Rattle.columns.specs.Answers.{done}
 use Rattle.columns_answers.proofs.Said.{accepts-of}

@@ -1,4 +1,4 @@
--- `access_calls::set_syndrome_refusal` meets its contract. Assumes nothing.
+-- `access_calls::set_syndrome_refusal` meets its contract: the questions are asked in the order defined, and each callee promises its test. Assumes nothing.
 use Rattle.columns.specs.Questions.{ask}
 use mathlib.Core.Bool.{_&&_}
 use mathlib.Core.Path.{_∙_}

@@ -1,4 +1,4 @@
--- `access_vertices::is_defect` meets its contract. Assumes nothing.
+-- `access_vertices::is_defect` meets its contract: `is_marked` promises it for the test that `marks_sound` promises. Assumes nothing.
 use mathlib.Core.Path.{sym}
 use Rattle.access_vertices.proofs.is_defect.Statement.{statement}
 use Rattle.access_vertices.proofs.is_defect.Tie as tie

@@ -1,4 +1,4 @@
--- `access_vertices::is_marked` meets its contract. Assumes nothing.
+-- `access_vertices::is_marked` meets its contract: the questions are asked in order, and at number 0 the vertex has a byte, which `is_set` tests. Assumes nothing.
 use mathlib.Core.Path.{_≡_, sym, ap, _∙_}
 use native.Mathlib.Omega.{arith}
 use mathlib.Core.Bool.{_&&_}

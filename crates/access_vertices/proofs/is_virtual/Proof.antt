@@ -1,4 +1,4 @@
--- `access_vertices::is_virtual` meets its contract. Assumes nothing.
+-- `access_vertices::is_virtual` meets its contract: `is_marked` promises it for the test that `boundaries_sound` promises. Assumes nothing.
 use mathlib.Core.Path.{sym}
 use Rattle.access_vertices.proofs.is_virtual.Statement.{statement}
 use Rattle.access_vertices.proofs.is_virtual.Tie as tie

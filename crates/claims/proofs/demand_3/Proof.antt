@@ -1,4 +1,4 @@
--- `claims::demand_3` meets its contract. Assumes nothing.
+-- `claims::demand_3` meets its contract, a theorem of `proofs/Proved.antt`. Assumes nothing.
 use Rattle.claims.proofs.Proved.{demand-3}
 use Rattle.claims.proofs.demand_3.Statement.{statement}
 use Rattle.claims.proofs.demand_3.Tie as tie

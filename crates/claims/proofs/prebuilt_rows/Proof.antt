@@ -1,4 +1,4 @@
--- `claims::prebuilt_rows` meets its contract. Assumes nothing.
+-- `claims::prebuilt_rows` meets its contract, a theorem of `proofs/PrebuiltScanned.antt`. Assumes nothing.
 use Rattle.claims.proofs.PrebuiltScanned.{prebuilt-rows}
 use Rattle.claims.proofs.prebuilt_rows.Statement.{statement}
 use Rattle.claims.proofs.prebuilt_rows.Tie as tie

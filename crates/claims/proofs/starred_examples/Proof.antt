@@ -1,4 +1,4 @@
--- `claims::starred_examples` meets its contract. Assumes nothing.
+-- `claims::starred_examples` meets its contract, a theorem of `proofs/Computed.antt`. Assumes nothing.
 use Rattle.claims.proofs.Computed.{starred}
 use Rattle.claims.proofs.starred_examples.Statement.{statement}
 use Rattle.claims.proofs.starred_examples.Tie as tie

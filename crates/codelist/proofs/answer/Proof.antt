@@ -1,4 +1,4 @@
--- `codelist::answer` meets its contract. Assumes nothing.
+-- `codelist::answer` meets its contract: `codelist` gives a text for every input where the column has room, and `show` promises the length of that text. Assumes nothing.
 use mathlib.Core.Path.{_≡_}
 use Prim.Native.Nat.{ℕ}
 use native.Mathlib.Omega.{arith}

@@ -1,4 +1,4 @@
--- `codelist::print` meets its contract. Assumes nothing.
+-- `codelist::print` meets its contract: the text that it is lent is the whole answer, so its length is the length of the answer. Assumes nothing.
 use mathlib.Core.Path.{ap}
 use lib.ListN.{length}
 use Rattle.codelist.proofs.print.Statement.{statement}

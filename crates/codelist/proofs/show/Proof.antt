@@ -1,4 +1,4 @@
--- `codelist::show` meets its contract. Assumes nothing.
+-- `codelist::show` meets its contract: the first n bytes of the column are the whole answer, as `print` requires, and `print` promises the length. Assumes nothing.
 use mathlib.Core.Path.{sym}
 use lib.Seq.{length-take-le}
 use borrow.Author.Needs.{needs}

@@ -1,4 +1,4 @@
--- `codes_circuit::circuit_cell` meets its contract. Assumes nothing.
+-- `codes_circuit::circuit_cell` meets its contract: the four pushes write the four parts of `circuitCell` in order, each in the room that is left. Assumes nothing.
 use mathlib.Core.Path.{sym, ap}
 use mathlib.Core.Bool.{Bool}
 use mathlib.Core.List.{[], _∷_}

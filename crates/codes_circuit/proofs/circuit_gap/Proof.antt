@@ -1,4 +1,4 @@
--- `codes_circuit::circuit_gap` meets its contract. Assumes nothing.
+-- `codes_circuit::circuit_gap` meets its contract. Invariant: the edges of the first `row` rows are written. Assumes nothing.
 use borrow.Author.Needs.{needs}
 use Prim.Native.Nat.{_+_, _-_, _*_, _≤_}
 use native.Mathlib.Omega.{arith}

@@ -1,4 +1,4 @@
--- `codes_edges::code_edges` meets its contract. Assumes nothing.
+-- `codes_edges::code_edges` meets its contract. Invariant: the edges of the first t layers and of the gaps after them are written. Assumes nothing.
 use Rattle.codes_layers.proofs.ByKind.{layer-in}
 use borrow.Author.Needs.{needs}
 use mathlib.Core.Path.{_≡_, sym, ap, _∙_}

@@ -1,4 +1,4 @@
--- `codes_edges::gap_edges` meets its contract. Assumes nothing.
+-- `codes_edges::gap_edges` meets its contract: in each case of the kind the callee writes what `gapEdges` has there, and without a gap that is nothing. Assumes nothing.
 use mathlib.Core.Path.{sym}
 use Prim.Native.Nat.{_+_}
 use native.Mathlib.Nat.{mul-comm}

@@ -1,4 +1,4 @@
--- `codes_edges::layer_edges` meets its contract. Assumes nothing.
+-- `codes_edges::layer_edges` meets its contract: in each case of the kind the callee writes what `layerEdges` has there. Assumes nothing.
 use mathlib.Core.Path.{sym}
 use Prim.Native.Nat.{_+_}
 use native.Mathlib.Nat.{mul-comm}

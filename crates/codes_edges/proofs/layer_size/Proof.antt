@@ -1,4 +1,4 @@
--- `codes_edges::layer_size` meets its contract. Assumes nothing.
+-- `codes_edges::layer_size` meets its contract: the callees promise the rows and the width, and by `requires` their product is at most 4,096. Assumes nothing.
 use mathlib.Core.Path.{_≡_}
 use Prim.Native.Nat.{_*_}
 use native.Mathlib.Omega.{arith}

@@ -1,4 +1,4 @@
--- `codes_planar::capacity_vertex` meets its contract. Assumes nothing.
+-- `codes_planar::capacity_vertex` meets its contract: the callees promise the boundary byte and the position across, of which `capacityVertex` is made. Assumes nothing.
 use mathlib.Core.Path.{ap, _∙_}
 use lib.Ieee.{Float}
 use Rattle.columns.specs.Places.{zeroFloat, position}

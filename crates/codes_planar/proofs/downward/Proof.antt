@@ -1,4 +1,4 @@
--- `codes_planar::downward` meets its contract. Assumes nothing.
+-- `codes_planar::downward` meets its contract: each arm returns what `cond` picks by its test, and neither d - 1 nor 0 is above d. Assumes nothing.
 use borrow.Author.Tests.{lt-ltb, le-ltb}
 use borrow.Author.Needs.{needs}
 use Rattle.codes_planar.proofs.downward.Statement.{statement}

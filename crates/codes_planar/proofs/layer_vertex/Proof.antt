@@ -1,4 +1,4 @@
--- `codes_planar::layer_vertex` meets its contract. Assumes nothing.
+-- `codes_planar::layer_vertex` meets its contract: the callees promise the boundary byte and the position across, of which `layerVertex` is made. Assumes nothing.
 use mathlib.Core.Path.{ap, _∙_}
 use lib.Ieee.{Float, binary64, add}
 use Rattle.columns.specs.Places.{position, half}

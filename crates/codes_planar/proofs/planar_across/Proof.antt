@@ -1,4 +1,4 @@
--- `codes_planar::planar_across` meets its contract. Assumes nothing.
+-- `codes_planar::planar_across` meets its contract: each arm returns what `planarAcross` picks where j = d is as the arm's test found it. Assumes nothing.
 use borrow.Author.Tests.{eq-eqb, ne-eqb}
 use Rattle.codes_planar.specs.Planar.{planarAcross}
 use borrow.Author.Needs.{needs}

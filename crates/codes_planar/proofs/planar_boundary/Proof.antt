@@ -1,4 +1,4 @@
--- `codes_planar::planar_boundary` meets its contract. Assumes nothing.
+-- `codes_planar::planar_boundary` meets its contract: each case of j, d or d - 1 or another, is that of `planarBoundary`. Assumes nothing.
 use borrow.Author.Tests.{eq-eqb, ne-eqb}
 use Rattle.codes_planar.specs.Planar.{planarBoundary}
 use borrow.Author.Needs.{needs}

@@ -1,4 +1,4 @@
--- `codes_planar::planar_row` meets its contract. Assumes nothing.
+-- `codes_planar::planar_row` meets its contract: `row_edges` writes the edges along the row, then `straight_edges` those to the next row. Assumes nothing.
 use mathlib.Core.Path.{sym, _∙_}
 use Prim.Native.Nat.{_-_}
 use native.Mathlib.Omega.{arith}

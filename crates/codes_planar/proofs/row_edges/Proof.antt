@@ -1,4 +1,4 @@
--- `codes_planar::row_edges` meets its contract. Assumes nothing.
+-- `codes_planar::row_edges` meets its contract. Invariant: the first i edges along the row are written. Assumes nothing.
 use borrow.Author.Needs.{needs}
 use mathlib.Core.Path.{_∙_}
 use Prim.Native.Nat.{_+_, _-_, _≤_}

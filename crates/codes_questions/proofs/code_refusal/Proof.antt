@@ -1,4 +1,4 @@
--- `codes_questions::code_refusal` meets its contract. Assumes nothing.
+-- `codes_questions::code_refusal` meets its contract: questions 2 to 5 are asked in order, and 5 matters only where d and rounds are within the limits. Assumes nothing.
 use mathlib.Core.Path.{_∙_}
 use Rattle.codes_layers.specs.Counts.{vertexNum}
 use Rattle.codes_layers.specs.Accepts.{kindKnown, distanceSound, roundsSound}

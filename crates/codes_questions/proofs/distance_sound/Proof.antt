@@ -1,4 +1,4 @@
--- `codes_questions::distance_sound` meets its contract. Assumes nothing.
+-- `codes_questions::distance_sound` meets its contract: `both` joins the three tests that `distanceSound` joins. Assumes nothing.
 use mathlib.Core.Path.{ap, _∙_}
 use mathlib.Core.Bool.{Bool, _&&_}
 use Prim.Native.Nat.{_%_}

@@ -1,4 +1,4 @@
--- `codes_questions::edge_num` meets its contract. Assumes nothing.
+-- `codes_questions::edge_num` meets its contract: a refusal has the number of `code_refusal`, and an accepted code has few edges, so the cast is exact. Assumes nothing.
 use mathlib.Core.Path.{sym, _∙_}
 use native.Mathlib.Omega.{arith}
 use Rattle.codes_layers.proofs.Accepted.{accepted, edges-few}

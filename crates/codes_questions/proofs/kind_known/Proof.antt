@@ -1,4 +1,4 @@
--- `codes_questions::kind_known` meets its contract. Assumes nothing.
+-- `codes_questions::kind_known` meets its contract: `both` joins the two tests that `kindKnown` joins. Assumes nothing.
 use Rattle.codes_layers.specs.Accepts.{kindKnown}
 use Rattle.codes_questions.proofs.kind_known.Statement.{statement}
 use Rattle.codes_questions.proofs.kind_known.Tie as tie

@@ -1,4 +1,4 @@
--- `codes_questions::rounds_sound` meets its contract. Assumes nothing.
+-- `codes_questions::rounds_sound` meets its contract: each arm returns what `roundsSound` comes to where the tests before it came out as they did. Assumes nothing.
 use Rattle.codes_questions.proofs.Clamped.{rounds-last}
 use borrow.Author.Tests.{eq-eqb, ne-eqb, le-leb, lt-leb}
 use Rattle.codes_layers.specs.Accepts.{roundsSound}

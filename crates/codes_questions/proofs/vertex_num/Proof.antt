@@ -1,4 +1,4 @@
--- `codes_questions::vertex_num` meets its contract. Assumes nothing.
+-- `codes_questions::vertex_num` meets its contract: a refusal has the number of `code_refusal`, and an accepted code has at most 4,096 vertices. Assumes nothing.
 use mathlib.Core.Path.{sym, _∙_}
 use native.Mathlib.Omega.{arith}
 use Rattle.codes_layers.proofs.Accepted.{accepted}

@@ -1,4 +1,4 @@
--- `codes_rotated::rotated_boundary` meets its contract. Assumes nothing.
+-- `codes_rotated::rotated_boundary` meets its contract: each case of the row and the place is that of `rotatedBoundary`. Assumes nothing.
 use borrow.Author.Tests.{eq-eqb, ne-eqb}
 use Rattle.codes_rotated.specs.Rotated.{rotatedBoundary}
 use borrow.Author.Needs.{needs}

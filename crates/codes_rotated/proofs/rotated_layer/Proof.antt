@@ -1,4 +1,4 @@
--- `codes_rotated::rotated_layer` meets its contract. Assumes nothing.
+-- `codes_rotated::rotated_layer` meets its contract. Invariant: the edges of the first `row` rows are written. Assumes nothing.
 use borrow.Author.Needs.{needs}
 use Prim.Native.Nat.{_+_, _-_, _≤_}
 use native.Mathlib.Nat.{mul-comm}

@@ -1,4 +1,4 @@
--- `codes_rotated::rotated_place` meets its contract. Assumes nothing.
+-- `codes_rotated::rotated_place` meets its contract: each case of i and `even` is that of `rotatedPlace`, and with i at most 4,096 none is above 4,096. Assumes nothing.
 use borrow.Author.Tests.{eq-eqb, ne-eqb}
 use Rattle.codes_rotated.specs.Rotated.{rotatedPlace}
 use borrow.Author.Needs.{needs}

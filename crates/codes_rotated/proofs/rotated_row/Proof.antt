@@ -1,4 +1,4 @@
--- `codes_rotated::rotated_row` meets its contract. Assumes nothing.
+-- `codes_rotated::rotated_row` meets its contract. Invariant: the first i edges of the row are written. Assumes nothing.
 use borrow.Author.Needs.{needs}
 use mathlib.Core.List.{[], _∷_}
 use Prim.Native.Nat.{_+_, _-_, _*_, _≤_}

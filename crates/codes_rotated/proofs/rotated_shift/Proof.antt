@@ -1,4 +1,4 @@
--- `codes_rotated::rotated_shift` meets its contract. Assumes nothing.
+-- `codes_rotated::rotated_shift` meets its contract: each arm returns what `cond` picks by its test, and neither 1 nor 0 is above 1. Assumes nothing.
 use borrow.Author.Needs.{needs}
 use borrow.Author.Tests.{eq-eqb, ne-eqb}
 use Rattle.codes_rotated.proofs.rotated_shift.Statement.{statement}

@@ -1,4 +1,4 @@
--- `codes_rotated::rotated_vertex` meets its contract. Assumes nothing.
+-- `codes_rotated::rotated_vertex` meets its contract: the callees promise the boundary byte and the shift, of which `rotatedVertex` is made. Assumes nothing.
 use mathlib.Core.Path.{ap, _∙_}
 use Prim.Native.Nat.{ℕ, _+_, _*_}
 use native.Mathlib.Omega.{arith}

@@ -1,4 +1,4 @@
--- `codes_writers::push_if` meets its contract. Assumes nothing.
+-- `codes_writers::push_if` meets its contract: where met holds `push` writes the one edge of `when`, else `when` is empty and nothing is written. Assumes nothing.
 use mathlib.Core.Path.{sym, ap}
 use mathlib.Core.Bool.{Bool}
 use native.Mathlib.Omega.{arith}

@@ -1,4 +1,4 @@
--- `codes_writers::straight_edges` meets its contract. Assumes nothing.
+-- `codes_writers::straight_edges` meets its contract. Invariant: the first i edges are written. Assumes nothing.
 use borrow.Author.Needs.{needs}
 use Prim.Native.Nat.{_+_, _-_, _≤_}
 use native.Mathlib.Omega.{arith}

@@ -1,4 +1,4 @@
--- `codes_writers::straight_rows` meets its contract. Assumes nothing.
+-- `codes_writers::straight_rows` meets its contract. Invariant: the edges of the first `row` rows are written. Assumes nothing.
 use Rattle.codes_writers.proofs.Wrote.{row-room, wrote-none, wrote-a, wrote-b, joined-fits, joined-turn, joined-end}
 use borrow.Author.Needs.{needs}
 use Prim.Native.Nat.{_+_, _-_, _*_, _≤_}

@@ -1,3 +1,4 @@
+-- `columns::done_of` meets its contract: `done` accepts at 0 and refuses with any other number, as the test does. Assumes nothing.
 use Prim.Native.Nat.{ℕ, zero, suc}
 use Rattle.columns.specs.Answers.{done}
 use Rattle.columns.specs.declared.Done.the-variants.{Refused}
@@ -5,8 +6,6 @@ use mathlib.Core.Path.{_≡_, refl}
 use borrow.Author.Needs.{needs}
 use Rattle.columns.proofs.done_of.Statement.{statement}
 use Rattle.columns.proofs.done_of.Tie as tie
-use Rattle.columns.proofs.done_of.Reads as reads
-use Rattle.columns.proofs.done_of.Lts as lts
 
 nonzero : (n : ℕ) → (n ≡ 0 → ⊥) → Refused n ≡ done n
 nonzero zero f = absurd (f refl)

@@ -1,4 +1,4 @@
--- `columns::of_bits` meets its contract. Assumes nothing.
+-- `columns::of_bits` meets its contract: apart from the sign, bits above those of infinity mean NaN, as 0.0 / 0.0 does; `from_bits` reads all others. Assumes nothing.
 use mathlib.Core.Path.{_≡_, refl, sym, _∙_, subst}
 use mathlib.Core.Bool.{Bool, not}
 use Prim.Native.Nat.{ℕ, _*_, _%_, _≤_, _<_}

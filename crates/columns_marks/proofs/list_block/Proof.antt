@@ -1,4 +1,4 @@
--- `columns_marks::list_block` meets its contract. Assumes nothing.
+-- `columns_marks::list_block` meets its contract: where the eight bytes are 0 no number is added, else `list_between` promises the numbers of the block. Assumes nothing.
 use borrow.Author.Needs.{needs}
 use mathlib.Core.Path.{sym, ap, _∙_}
 use lib.ListN.{length}

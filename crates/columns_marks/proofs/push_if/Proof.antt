@@ -1,4 +1,4 @@
--- `columns_marks::push_if` meets its contract. Assumes nothing.
+-- `columns_marks::push_if` meets its contract: each case of ok is that of `when`: one number is stored and counted, or none. Assumes nothing.
 use mathlib.Core.Path.{refl}
 use native.Mathlib.Omega.{arith}
 use borrow.Author.Needs.{needs}

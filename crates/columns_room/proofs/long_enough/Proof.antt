@@ -1,4 +1,4 @@
--- `columns_room::long_enough` meets its contract. Assumes nothing.
+-- `columns_room::long_enough` meets its contract: `both` joins the three tests that `longEnough` joins, and 2 * edges fits by the limit on edges. Assumes nothing.
 use mathlib.Core.Path.{ap, _∙_}
 use mathlib.Core.Bool.{Bool, _&&_}
 use lib.Dec.{leb}

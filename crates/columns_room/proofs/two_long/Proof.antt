@@ -1,4 +1,4 @@
--- `columns_room::two_long` meets its contract. Assumes nothing.
+-- `columns_room::two_long` meets its contract: `both` joins the tests that the definition joins, and each callee promises its test. Assumes nothing.
 use mathlib.Core.Bool.{_&&_}
 use mathlib.Core.Path.{_∙_}
 use Rattle.columns_room.specs.Room.{twoLong}

@@ -1,4 +1,4 @@
--- `engine_calls::open` meets its contract. Assumes nothing.
+-- `engine_calls::open` meets its contract: a refusal changes no column, and at number 0 the columns have room for whole copies. Assumes nothing.
 use mathlib.Core.Path.{_≡_, sym, _∙_}
 use lib.ListN.{take}
 use Rattle.columns.proofs.Columns.{copy-after, after-refused}

@@ -1,4 +1,4 @@
--- `engine_calls::reset` meets its contract. Assumes nothing.
+-- `engine_calls::reset` meets its contract: a refusal changes nothing, and at number 0 `undo_all` promises the weights. Assumes nothing.
 use mathlib.Core.Path.{_≡_, refl, sym, _∙_}
 use native.Mathlib.Omega.{arith}
 use Rattle.engine_columns.specs.Records.{engine}

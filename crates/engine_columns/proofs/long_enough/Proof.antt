@@ -1,4 +1,4 @@
--- `engine_columns::long_enough` meets its contract. Assumes nothing.
+-- `engine_columns::long_enough` meets its contract: `both` joins the tests that the definition joins, and each callee promises its test. Assumes nothing.
 use mathlib.Core.Bool.{_&&_}
 use mathlib.Core.Path.{_∙_}
 use Rattle.engine_columns.specs.Questions.{engineLong}

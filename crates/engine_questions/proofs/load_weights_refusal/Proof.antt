@@ -1,4 +1,4 @@
--- `engine_questions::load_weights_refusal` meets its contract. Assumes nothing.
+-- `engine_questions::load_weights_refusal` meets its contract: the questions are asked in the order defined, and each callee promises its test. Assumes nothing.
 use Rattle.columns.specs.Questions.{ask}
 use mathlib.Core.Path.{_∙_}
 use Rattle.engine_questions.proofs.load_weights_refusal.Statement.{statement}

@@ -1,4 +1,4 @@
--- `engine_questions::reset_refusal` meets its contract. Assumes nothing.
+-- `engine_questions::reset_refusal` meets its contract: the questions are asked in the order defined, and each callee promises its test. Assumes nothing.
 use Rattle.columns.specs.Questions.{ask}
 use mathlib.Core.Path.{_∙_}
 use Rattle.engine_questions.proofs.reset_refusal.Statement.{statement}

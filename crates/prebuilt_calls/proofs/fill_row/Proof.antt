@@ -1,4 +1,4 @@
--- `prebuilt_calls::fill_row` meets its contract. Assumes nothing.
+-- `prebuilt_calls::fill_row` meets its contract: a refusal changes no column, and at number 0 `write_row` makes the row of the table of `all_edges`. Assumes nothing.
 use mathlib.Core.Path.{_≡_, sym, ap, _∙_}
 use Prim.Native.Nat.{ℕ}
 use native.Mathlib.Omega.{arith}

@@ -1,4 +1,4 @@
--- `query_crossing_answer::nearer` meets its contract. Assumes nothing.
+-- `query_crossing_answer::nearer` meets its contract: each arm returns what `cond` picks where the tests before it came out as they did. Assumes nothing.
 use mathlib.Core.Path.{sym, ap, _∙_}
 use mathlib.Core.Bool.{cond, _&&_}
 use lib.Dec.{eqb, ltb}

@@ -1,4 +1,4 @@
--- `query_crossing_answer::reply` meets its contract. Assumes nothing.
+-- `query_crossing_answer::reply` meets its contract: each arm returns what `cond` picks where found = 2147483648 is as the arm's test found it. Assumes nothing.
 use mathlib.Core.Path.{sym, ap}
 use mathlib.Core.Bool.{cond}
 use borrow.Author.Tests.{eq-eqb, ne-eqb}

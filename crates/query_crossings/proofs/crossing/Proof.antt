@@ -1,4 +1,4 @@
--- `query_crossings::crossing` meets its contract. Assumes nothing.
+-- `query_crossings::crossing` meets its contract: 6 and 7 change no column, and else the answer is read from the state that `search` promises. Assumes nothing.
 use mathlib.Core.Path.{_≡_, sym, ap, _∙_}
 use Prim.Native.Nat.{ℕ, _≤_}
 use native.Mathlib.Omega.{arith}

@@ -1,4 +1,4 @@
--- `query_crossings::write_found` meets its contract. Assumes nothing.
+-- `query_crossings::write_found` meets its contract: where no weight was found nothing is written, else `write_weights` promises the column. Assumes nothing.
 use mathlib.Core.Path.{sym, ap, _∙_}
 use mathlib.Core.Bool.{cond}
 use lib.ListN.{length}

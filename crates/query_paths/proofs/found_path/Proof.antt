@@ -1,4 +1,4 @@
--- `query_paths::found_path` meets its contract. Assumes nothing.
+-- `query_paths::found_path` meets its contract: where b is taken its path fits and `write_path` writes it, else there is none and 17 is said. Assumes nothing.
 use mathlib.Core.Path.{_≡_, refl, sym, ap, _∙_, subst}
 use Prim.Native.Nat.{ℕ, zero, suc, _+_, _*_, _-_, _<_, _≤_}
 use native.Mathlib.Omega.{arith}

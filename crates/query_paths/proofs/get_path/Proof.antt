@@ -1,4 +1,4 @@
--- `query_paths::get_path` meets its contract. Assumes nothing.
+-- `query_paths::get_path` meets its contract: where no question fails the search settles the defined state, and its path is read. Assumes nothing.
 use mathlib.Core.Path.{_≡_, refl, sym, ap, _∙_, subst}
 use Prim.Native.Nat.{ℕ, _≤_}
 use native.Mathlib.Omega.{arith}

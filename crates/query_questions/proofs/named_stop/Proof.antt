@@ -1,4 +1,4 @@
--- `query_questions::named_stop` meets its contract. Assumes nothing.
+-- `query_questions::named_stop` meets its contract: each arm returns what `cond` picks where b is, or is not, the source. Assumes nothing.
 use mathlib.Core.Path.{sym, ap}
 use Prim.Native.Nat.{ℕ, zero, suc, _+_, _*_, _-_, _<_, _≤_}
 use mathlib.Core.Bool.{cond}

@@ -1,4 +1,4 @@
--- `query_questions::query_refusal` meets its contract. Assumes nothing.
+-- `query_questions::query_refusal` meets its contract: the callees promise the questions in the definition's order. Assumes nothing.
 use Prim.Native.Nat.{ℕ, zero, suc, _+_, _*_, _-_, _<_, _≤_}
 use Rattle.query_questions.proofs.query_refusal.Statement.{statement}
 use Rattle.query_questions.proofs.query_refusal.Tie as tie

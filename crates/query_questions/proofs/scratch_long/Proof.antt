@@ -1,4 +1,4 @@
--- `query_questions::scratch_long` meets its contract. Assumes nothing.
+-- `query_questions::scratch_long` meets its contract: each callee promises one part of the definition, and twice a u32 fits a usize. Assumes nothing.
 use mathlib.Core.Path.{_∙_}
 use Prim.Native.Nat.{ℕ, zero, suc, _+_, _*_, _-_, _<_, _≤_}
 use mathlib.Core.Bool.{_&&_}

@@ -1,3 +1,4 @@
+-- `query_queue::clear` meets its contract. Invariant: the first i nodes and the first i leaves hold NONE, and the lengths are kept. Assumes nothing.
 use borrow.Author.Needs.{needs}
 use Prim.Native.Nat.{ℕ, _≤_, _<_, _-_, _+_, _*_}
 use mathlib.Core.Path.{_≡_}

@@ -1,3 +1,4 @@
+-- `query_queue::least` meets its contract: place 1 holds the least of all leaves, since each inner place holds the lesser of its children. Assumes nothing.
 use borrow.Author.Needs.{needs}
 use Prim.Native.Nat.{ℕ}
 use mathlib.Core.Path.{sym, subst}

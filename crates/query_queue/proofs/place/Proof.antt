@@ -1,3 +1,4 @@
+-- `query_queue::place` meets its contract: a place below n is an inner one, another is the leaf of j - n. Assumes nothing.
 use borrow.Author.Needs.{needs}
 use mathlib.Core.Path.{sym}
 use Rattle.query_queue.proofs.Places.{inner-is, leaf-is}

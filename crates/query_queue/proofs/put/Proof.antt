@@ -1,3 +1,4 @@
+-- `query_queue::put` meets its contract: after the store only the parent of the leaf may not hold the lesser of its children, as `raise` requires. Assumes nothing.
 use borrow.Author.Needs.{needs}
 use native.Mathlib.Omega.{arith}
 use lib.ListN.{length-set}

@@ -1,4 +1,4 @@
--- `query_read_back::entry_at` meets its contract. Assumes nothing.
+-- `query_read_back::entry_at` meets its contract: past the end the status reads 0, which is not 2, else the test of the byte decides. Assumes nothing.
 use mathlib.Core.Path.{sym, ap, _∙_}
 use Prim.Native.Nat.{ℕ, zero, suc, _+_, _*_, _-_, _<_, _≤_}
 use native.Mathlib.Omega.{arith}

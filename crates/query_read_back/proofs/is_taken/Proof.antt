@@ -1,4 +1,4 @@
--- `query_read_back::is_taken` meets its contract. Assumes nothing.
+-- `query_read_back::is_taken` meets its contract: past the end the status reads 0, which is not 2, else the byte is tested. Assumes nothing.
 use mathlib.Core.Path.{sym, ap}
 use Prim.Native.Nat.{ℕ, zero, suc, _+_, _*_, _-_, _<_, _≤_}
 use native.Mathlib.Omega.{arith}

@@ -1,4 +1,4 @@
--- `query_read_back::load` meets its contract. Assumes nothing.
+-- `query_read_back::load` meets its contract: past the end `getD` gives 0, else the element. Assumes nothing.
 use mathlib.Core.Path.{sym}
 use Prim.Native.Nat.{ℕ, zero, suc, _+_, _*_, _-_, _<_, _≤_}
 use lib.ListN.{List·getD-eq-default}

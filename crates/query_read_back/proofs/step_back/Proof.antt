@@ -1,4 +1,4 @@
--- `query_read_back::step_back` meets its contract. Assumes nothing.
+-- `query_read_back::step_back` meets its contract: none where v is a, else what `entry_at` promises. Assumes nothing.
 use mathlib.Core.Path.{sym, ap, _∙_}
 use Prim.Native.Nat.{ℕ, zero, suc, _+_, _*_, _-_, _<_, _≤_}
 use mathlib.Core.Bool.{cond}

@@ -1,4 +1,4 @@
--- `query_read_back::step_into` meets its contract. Assumes nothing.
+-- `query_read_back::step_into` meets its contract: `load` promises both weights, and where the first is less the difference is 0. Assumes nothing.
 use mathlib.Core.Path.{ap, _∙_}
 use Prim.Native.Nat.{ℕ, zero, suc, _+_, _*_, _-_, _<_, _≤_}
 use native.Mathlib.Omega.{arith}

@@ -1,4 +1,4 @@
--- `query_relaxing::is_accepted` meets its contract. Assumes nothing.
+-- `query_relaxing::is_accepted` meets its contract: the definition has the same cases of the status, 0, 1 and any other. Assumes nothing.
 use mathlib.Core.Path.{_≡_, refl}
 use Prim.Native.Nat.{ℕ, zero, suc, _+_, _*_, _<_, _≤_}
 use mathlib.Core.Bool.{Bool, false}

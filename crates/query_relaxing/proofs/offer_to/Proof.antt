@@ -1,4 +1,4 @@
--- `query_relaxing::offer_to` meets its contract. Assumes nothing.
+-- `query_relaxing::offer_to` meets its contract: `tie_rule` and `is_accepted` decide as the definition does, and `wait` makes the change. Assumes nothing.
 use mathlib.Core.Path.{_≡_, sym, ap, _∙_}
 use Prim.Native.Nat.{ℕ, zero, suc, _+_, _*_, _<_, _≤_}
 use native.Mathlib.Omega.{arith}

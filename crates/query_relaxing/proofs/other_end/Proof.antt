@@ -1,4 +1,4 @@
--- `query_relaxing::other_end` meets its contract. Assumes nothing.
+-- `query_relaxing::other_end` meets its contract: each arm returns what `cond` picks where x is, or is not, a. Assumes nothing.
 use Prim.Native.Nat.{ℕ, zero, suc, _+_, _*_, _<_, _≤_}
 use borrow.Author.Tests.{eq-eqb, ne-eqb}
 use Rattle.query_relaxing.proofs.other_end.Statement.{statement}

@@ -1,4 +1,4 @@
--- `query_relaxing::relax_edge` meets its contract. Assumes nothing.
+-- `query_relaxing::relax_edge` meets its contract: one end of e is a, so the definition makes the same offer to the other end. Assumes nothing.
 use mathlib.Core.Path.{sym, ap, _∙_}
 use Prim.Native.Nat.{ℕ, zero, suc, _+_, _*_, _<_, _≤_}
 use native.Mathlib.Omega.{arith}

@@ -1,4 +1,4 @@
--- `query_relaxing::tie_rule` meets its contract. Assumes nothing.
+-- `query_relaxing::tie_rule` meets its contract: the definition has the same cases, by the weights, then the differences, then the previous. Assumes nothing.
 use mathlib.Core.Path.{_≡_, sym}
 use Prim.Native.Nat.{ℕ, zero, suc, _+_, _*_, _<_, _≤_}
 use native.Mathlib.Omega.{arith}

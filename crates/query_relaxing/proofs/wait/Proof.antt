@@ -1,4 +1,4 @@
--- `query_relaxing::wait` meets its contract. Assumes nothing.
+-- `query_relaxing::wait` meets its contract: the stores are the definition's change, and `put` keeps the tree with u's key, which fits since k < 2 ^ 31. Assumes nothing.
 use mathlib.Core.Path.{refl}
 use Prim.Native.Nat.{ℕ, zero, suc, _+_, _*_, _<_, _≤_}
 use native.Mathlib.Omega.{arith}

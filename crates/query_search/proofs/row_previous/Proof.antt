@@ -1,4 +1,4 @@
--- `query_search::row_previous` meets its contract. Assumes nothing.
+-- `query_search::row_previous` meets its contract: each case of the test of the status gives what `cond` picks. Assumes nothing.
 use mathlib.Core.Path.{sym, ap}
 use Prim.Native.Nat.{ℕ, zero, suc, _+_, _*_, _-_, _<_, _≤_}
 use mathlib.Core.Bool.{cond}

@@ -1,4 +1,4 @@
--- `query_search::row_weight` meets its contract. Assumes nothing.
+-- `query_search::row_weight` meets its contract: each case of the test gives what `cond` picks, and a weight below 2 ^ 31 fits an i32. Assumes nothing.
 use mathlib.Core.Path.{sym, ap}
 use Prim.Native.Nat.{ℕ, zero, suc, _+_, _*_, _-_, _<_, _≤_}
 use mathlib.Core.Bool.{cond}

@@ -1,4 +1,4 @@
--- `query_search::search_cut` meets its contract. Assumes nothing.
+-- `query_search::search_cut` meets its contract: each call leaves what the next requires, and settling starts from the definition's sources. Assumes nothing.
 use mathlib.Core.Path.{sym, ap, _∙_, subst}
 use Prim.Native.Nat.{_-_}
 use native.Mathlib.Omega.{arith}

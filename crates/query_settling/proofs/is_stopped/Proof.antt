@@ -1,4 +1,4 @@
--- `query_settling::is_stopped` meets its contract. Assumes nothing.
+-- `query_settling::is_stopped` meets its contract: the byte is tested where `stop` is a place, else both sides are false. Assumes nothing.
 use mathlib.Core.Path.{sym, ap}
 use Prim.Native.Nat.{ℕ, zero, suc, _+_, _*_, _-_, _<_, _≤_}
 use mathlib.Core.Bool.{_&&_}

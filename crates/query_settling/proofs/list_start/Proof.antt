@@ -1,4 +1,4 @@
--- `query_settling::list_start` meets its contract. Assumes nothing.
+-- `query_settling::list_start` meets its contract: list 0 starts at 0, and list v where list v - 1 ends. Assumes nothing.
 use mathlib.Core.Path.{_≡_, refl, sym, ap, _∙_}
 use Prim.Native.Nat.{ℕ, zero, suc, _+_, _*_, _-_, _%_, _<_, _≤_}
 use native.Mathlib.Omega.{arith}

@@ -1,4 +1,4 @@
--- `query_settling::turn` meets its contract. Assumes nothing.
+-- `query_settling::turn` meets its contract: no vertex waits where the least key is NONE, else it names the vertex that the definition takes. Assumes nothing.
 use mathlib.Core.Path.{_≡_, refl, sym, ap, _∙_}
 use Prim.Native.Nat.{ℕ, zero, suc, _+_, _*_, _-_, _%_, _<_, _≤_}
 use native.Mathlib.Omega.{arith}

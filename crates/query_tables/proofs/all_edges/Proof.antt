@@ -1,4 +1,4 @@
--- `query_tables::all_edges` meets its contract. Assumes nothing.
+-- `query_tables::all_edges` meets its contract: it hands on what `all_edges_with_terminate` promises where no end is named. Assumes nothing.
 use borrow.Author.Needs.{needs}
 use Rattle.query_tables.proofs.all_edges.Statement.{statement}
 use Rattle.query_tables.proofs.all_edges.Tie as tie

@@ -1,4 +1,4 @@
--- `query_tables::all_edges_with_terminate` meets its contract. Assumes nothing.
+-- `query_tables::all_edges_with_terminate` meets its contract: where no question fails the search settles the defined state, and its table is written. Assumes nothing.
 use mathlib.Core.Path.{_≡_, refl, sym, ap, _∙_, subst}
 use Prim.Native.Nat.{ℕ, _≤_}
 use native.Mathlib.Omega.{arith}

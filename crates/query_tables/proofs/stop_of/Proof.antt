@@ -1,4 +1,4 @@
--- `query_tables::stop_of` meets its contract. Assumes nothing.
+-- `query_tables::stop_of` meets its contract: each case of the end, and `named_stop` promises the second. Assumes nothing.
 use Prim.Native.Nat.{ℕ, zero, suc, _+_, _*_, _-_, _<_, _≤_}
 use borrow.Author.Needs.{needs}
 use Rattle.query_tables.proofs.stop_of.Statement.{statement}

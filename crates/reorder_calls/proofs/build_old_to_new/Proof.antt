@@ -1,4 +1,4 @@
--- `reorder_calls::build_old_to_new` meets its contract. Assumes nothing.
+-- `reorder_calls::build_old_to_new` meets its contract: where no question fails `place_numbers` stores the numbers, else nothing is changed. Assumes nothing.
 use mathlib.Core.Path.{sym, _∙_}
 use Rattle.reorder_calls.proofs.Accepting.{build-met, built-refused, built-accepted}
 use borrow.Author.Needs.{needs}

@@ -1,4 +1,4 @@
--- `reorder_calls::build_refusal` meets its contract. Assumes nothing.
+-- `reorder_calls::build_refusal` meets its contract: the first test that fails gives its number, else `order_questions` promises it. Assumes nothing.
 use mathlib.Core.Path.{sym, _∙_}
 use native.Mathlib.Omega.{arith}
 use Rattle.reorder_calls.proofs.Accepting.{build-6, build-11, build-on}

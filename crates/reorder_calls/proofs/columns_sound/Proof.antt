@@ -1,4 +1,4 @@
--- `reorder_calls::columns_sound` meets its contract. Assumes nothing.
+-- `reorder_calls::columns_sound` meets its contract: each callee promises one part of the definition, and `both` joins them. Assumes nothing.
 use mathlib.Core.Bool.{_&&_}
 use mathlib.Core.Path.{_∙_}
 use Rattle.reorder_calls.specs.Columns.{reorderSound}

@@ -1,4 +1,4 @@
--- `reorder_calls::reorder_questions` meets its contract. Assumes nothing.
+-- `reorder_calls::reorder_questions` meets its contract: the first test that fails gives its number, else `vertex_order_questions` promises it. Assumes nothing.
 use borrow.Author.Tests.{not-true, not-false}
 use Rattle.reorder_orders.proofs.Asking.{stops, passes}
 use Rattle.reorder_calls.proofs.reorder_questions.Statement.{statement}

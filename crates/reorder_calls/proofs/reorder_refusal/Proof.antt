@@ -1,4 +1,4 @@
--- `reorder_calls::reorder_refusal` meets its contract. Assumes nothing.
+-- `reorder_calls::reorder_refusal` meets its contract: the callees promise the questions in order, and sound columns have at most 4,096 vertices. Assumes nothing.
 use mathlib.Core.Path.{refl, sym, _∙_}
 use Rattle.columns.proofs.Refusals.{asks}
 use Rattle.reorder_calls.specs.Columns.{reorderRefusal}

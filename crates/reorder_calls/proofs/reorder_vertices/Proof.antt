@@ -1,4 +1,4 @@
--- `reorder_calls::reorder_vertices` meets its contract. Assumes nothing.
+-- `reorder_calls::reorder_vertices` meets its contract: where no question fails each column becomes what its callee promises, else nothing is changed. Assumes nothing.
 use mathlib.Core.Path.{_≡_, sym, ap, _∙_}
 use Prim.Native.Nat.{ℕ}
 use native.Mathlib.Omega.{arith}
@@ -9,8 +9,6 @@ use Rattle.reorder_calls.proofs.Accepting.{ReorderMet, reorder-met, reo
 use borrow.Author.Needs.{needs}
 use Rattle.reorder_calls.proofs.reorder_vertices.Statement.{statement}
 use Rattle.reorder_calls.proofs.reorder_vertices.Tie as tie
-use Rattle.reorder_columns.proofs.move_u32.Reads as move-u32-reads
-use Rattle.reorder_columns.proofs.move_u8.Reads as move-u8-reads
 
 returns : tie.Need-returns
 returns c =

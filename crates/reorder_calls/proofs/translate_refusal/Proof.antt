@@ -1,4 +1,4 @@
--- `reorder_calls::translate_refusal` meets its contract. Assumes nothing.
+-- `reorder_calls::translate_refusal` meets its contract: the first test that fails gives its number, else `order_questions` promises it. Assumes nothing.
 use mathlib.Core.Path.{sym, _∙_}
 use native.Mathlib.Omega.{arith}
 use Rattle.columns.specs.Questions.{allBelow}

@@ -1,4 +1,4 @@
--- `reorder_calls::translated_defect_to_reordered` meets its contract. Assumes nothing.
+-- `reorder_calls::translated_defect_to_reordered` meets its contract: where no question fails `translate` stores the numbers, else nothing is changed. Assumes nothing.
 use mathlib.Core.Path.{sym, _∙_}
 use Rattle.reorder_calls.proofs.Accepting.{TranslateMet, translate-met, translated-refused, translated-accepted}
 use borrow.Author.Needs.{needs}

@@ -1,4 +1,4 @@
--- `reorder_calls::vertex_order_questions` meets its contract. Assumes nothing.
+-- `reorder_calls::vertex_order_questions` meets its contract: another length gives 11, else `order_questions` promises the number. Assumes nothing.
 use mathlib.Core.Path.{sym, ap, _∙_}
 use Prim.Native.Nat.{ℕ}
 use native.Mathlib.Omega.{arith}

@@ -11,11 +11,6 @@ use Rattle.columns.specs.declared.VisualizePosition.{VisualizePosition}
 use Rattle.reorder_orders.proofs.Gathering.{gather-more, gather-end}
 use Rattle.reorder_columns.proofs.gather_positions.Statement.{statement}
 use Rattle.reorder_columns.proofs.gather_positions.Tie as tie
-use Rattle.reorder_columns.proofs.gather_positions.Reads as reads
-use Rattle.reorder_columns.proofs.gather_positions.Lts as lts
-use Rattle.columns.proofs.VisualizePosition.load.Reads as load-reads
-use Rattle.columns.proofs.VisualizePosition.store.Reads as store-reads
-use Rattle.columns.proofs.wide.Reads as wide-reads
 
 abbrev Inv-loop : tie.InvT-loop
 Inv-loop list from-i from-j from-t is₀ js₀ ts₀ k₀ is js ts k = (k ≤ length list) × (is ≡ sets is₀ 0 (map (λ u. getD from-i u zeroFloat) (take k list))) × (js ≡ sets js₀ 0 (map (λ u. getD from-j u zeroFloat) (take k list))) × (ts ≡ sets ts₀ 0 (map (λ u. getD from-t u zeroFloat) (take k list)))

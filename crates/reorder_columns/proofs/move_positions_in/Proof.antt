@@ -1,4 +1,4 @@
--- `reorder_columns::move_positions_in` meets its contract. Assumes nothing.
+-- `reorder_columns::move_positions_in` meets its contract: each column is gathered from a copy, which holds the same at each place that the order names. Assumes nothing.
 use mathlib.Core.Path.{ap, _∙_}
 use mathlib.Core.List.{List}
 use lib.Ieee.{Float}
@@ -8,10 +8,6 @@ use Rattle.reorder_columns.proofs.Copies.{moved-copy}
 use borrow.Author.Needs.{needs}
 use Rattle.reorder_columns.proofs.move_positions_in.Statement.{statement}
 use Rattle.reorder_columns.proofs.move_positions_in.Tie as tie
-use Rattle.reorder_columns.proofs.move_positions_in.Reads as reads
-use Rattle.reorder_columns.proofs.move_positions_in.Lts as lts
-use Rattle.columns_stores.proofs.copy_f64.Reads as copy-f64-reads
-use Rattle.reorder_columns.proofs.gather_positions.Reads as gather-positions-reads
 
 returns : tie.Need-returns
 returns c =

@@ -1,4 +1,4 @@
--- `reorder_columns::move_u32_in` meets its contract. Assumes nothing.
+-- `reorder_columns::move_u32_in` meets its contract: the column is gathered from a copy, which holds the same at each place that the order names. Assumes nothing.
 use mathlib.Core.Path.{ap, _∙_}
 use mathlib.Core.List.{List}
 use Prim.Native.Nat.{ℕ, _≤_, _<_}
@@ -9,10 +9,6 @@ use Rattle.reorder_orders.proofs.Permutation.{order-below}
 use Rattle.reorder_columns.proofs.Copies.{length-copied, moved-copy}
 use Rattle.reorder_columns.proofs.move_u32_in.Statement.{statement}
 use Rattle.reorder_columns.proofs.move_u32_in.Tie as tie
-use Rattle.reorder_columns.proofs.move_u32_in.Reads as reads
-use Rattle.reorder_columns.proofs.move_u32_in.Lts as lts
-use Rattle.columns_stores.proofs.copy_u32.Reads as copy-u32-reads
-use Rattle.reorder_orders.proofs.gather_u32.Reads as gather-u32-reads
 
 gather-u32-requires : tie.Need-gather-u32-requires
 gather-u32-requires c κs =

@@ -1,4 +1,4 @@
--- `reorder_columns::move_u8_in` meets its contract. Assumes nothing.
+-- `reorder_columns::move_u8_in` meets its contract: the column is gathered from a copy, which holds the same at each place that the order names. Assumes nothing.
 use mathlib.Core.Path.{ap, _∙_}
 use mathlib.Core.List.{List}
 use Prim.Native.Nat.{ℕ, _≤_, _<_}
@@ -9,10 +9,6 @@ use Rattle.reorder_orders.proofs.Permutation.{order-below}
 use Rattle.reorder_columns.proofs.Copies.{length-copied, moved-copy}
 use Rattle.reorder_columns.proofs.move_u8_in.Statement.{statement}
 use Rattle.reorder_columns.proofs.move_u8_in.Tie as tie
-use Rattle.reorder_columns.proofs.move_u8_in.Reads as reads
-use Rattle.reorder_columns.proofs.move_u8_in.Lts as lts
-use Rattle.columns_stores.proofs.copy_u8.Reads as copy-u8-reads
-use Rattle.reorder_columns.proofs.gather_u8.Reads as gather-u8-reads
 
 gather-u8-requires : tie.Need-gather-u8-requires
 gather-u8-requires c κs =

@@ -11,9 +11,6 @@ use Rattle.reorder_orders.specs.Order.{noneTwice}
 use Rattle.reorder_orders.proofs.Gathering.{unseen, Seen, seen-none, seen-twice, seen-once, seen-more}
 use Rattle.reorder_orders.proofs.fresh_in.Statement.{statement}
 use Rattle.reorder_orders.proofs.fresh_in.Tie as tie
-use Rattle.reorder_orders.proofs.fresh_in.Reads as reads
-use Rattle.reorder_orders.proofs.fresh_in.Lts as lts
-use Rattle.columns.proofs.wide.Reads as wide-reads
 
 abbrev Inv-loop : tie.InvT-loop
 Inv-loop order seen₀ i₀ seen i = (i ≤ length order) × (length seen ≡ length seen₀) × Seen order i seen × (every i (λ k. unseen order k (getD order k 0)) ≡ true)

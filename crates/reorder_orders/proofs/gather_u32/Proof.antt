@@ -9,9 +9,6 @@ use lib.Seq.{sets}
 use Rattle.reorder_orders.proofs.Gathering.{gather-more, gather-end}
 use Rattle.reorder_orders.proofs.gather_u32.Statement.{statement}
 use Rattle.reorder_orders.proofs.gather_u32.Tie as tie
-use Rattle.reorder_orders.proofs.gather_u32.Reads as reads
-use Rattle.reorder_orders.proofs.gather_u32.Lts as lts
-use Rattle.columns.proofs.wide.Reads as wide-reads
 
 abbrev Inv-loop : tie.InvT-loop
 Inv-loop list from to₀ i₀ to i = (i ≤ length list) × (to ≡ sets to₀ 0 (map (λ u. getD from u 0) (take i list))) × (length to ≡ length to₀)

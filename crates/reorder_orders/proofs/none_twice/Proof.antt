@@ -1,4 +1,4 @@
--- `reorder_orders::none_twice` meets its contract. Assumes nothing.
+-- `reorder_orders::none_twice` meets its contract: the array holds 0 alone and has a place for each number. Assumes nothing.
 use Prim.Native.Nat.{ℕ}
 use native.Mathlib.Omega.{arith}
 use lib.ListN.{length-replicate}
@@ -6,9 +6,6 @@ use Rattle.columns_pairs.proofs.PairTests.{zeros-at}
 use borrow.Author.Needs.{needs}
 use Rattle.reorder_orders.proofs.none_twice.Statement.{statement}
 use Rattle.reorder_orders.proofs.none_twice.Tie as tie
-use Rattle.reorder_orders.proofs.none_twice.Reads as reads
-use Rattle.reorder_orders.proofs.none_twice.Lts as lts
-use Rattle.reorder_orders.proofs.fresh_in.Reads as fresh-in-reads
 
 fresh-in-requires : tie.Need-fresh-in-requires
 fresh-in-requires c κs = ((λ i h. omega (arith, c .before .before .pre i h, length-replicate {A = ℕ} 4096 0)), zeros-at 4096)

@@ -1,4 +1,4 @@
--- `reorder_orders::order_questions` meets its contract. Assumes nothing.
+-- `reorder_orders::order_questions` meets its contract: a number out of range gives 13, else `none_twice` and `asked` promise the number. Assumes nothing.
 use mathlib.Core.Path.{refl, _∙_}
 use native.Mathlib.Omega.{arith}
 use borrow.Author.Tests.{not-true, not-false}
@@ -10,10 +10,6 @@ use Rattle.columns.proofs.Refusals.{asks}
 use Rattle.reorder_orders.proofs.Asking.{stops, passes}
 use Rattle.reorder_orders.proofs.order_questions.Statement.{statement}
 use Rattle.reorder_orders.proofs.order_questions.Tie as tie
-use Rattle.reorder_orders.proofs.order_questions.Reads as reads
-use Rattle.reorder_orders.proofs.order_questions.Lts as lts
-use Rattle.columns.proofs.questions.asked.Reads as asked-reads
-use Rattle.reorder_orders.proofs.none_twice.Reads as none-twice-reads
 
 returns : tie.Need-returns
 returns c = stops (c .before .before .args .in-range) 13 _ (not-true _ (c .if1 .taken))

@@ -9,9 +9,6 @@ use Rattle.reorder_orders.proofs.Permutation.{order-below}
 use Rattle.reorder_orders.proofs.Gathering.{Placed, placed-none, placed-more, placed-end}
 use Rattle.reorder_orders.proofs.place_numbers.Statement.{statement}
 use Rattle.reorder_orders.proofs.place_numbers.Tie as tie
-use Rattle.reorder_orders.proofs.place_numbers.Reads as reads
-use Rattle.reorder_orders.proofs.place_numbers.Lts as lts
-use Rattle.columns.proofs.wide.Reads as wide-reads
 
 abbrev Inv-loop : tie.InvT-loop
 Inv-loop order new-numbers₀ i₀ new-numbers i = (i ≤ length order) × ((o : IsOrder order) → Placed order o i new-numbers₀ new-numbers) × (length new-numbers ≡ length new-numbers₀)

@@ -9,9 +9,6 @@ use lib.Seq.{sets}
 use Rattle.reorder_orders.proofs.Gathering.{rename-more, rename-end, rename-reads}
 use Rattle.reorder_orders.proofs.rename_by.Statement.{statement}
 use Rattle.reorder_orders.proofs.rename_by.Tie as tie
-use Rattle.reorder_orders.proofs.rename_by.Reads as reads
-use Rattle.reorder_orders.proofs.rename_by.Lts as lts
-use Rattle.columns.proofs.wide.Reads as wide-reads
 
 abbrev Inv-loop : tie.InvT-loop
 Inv-loop new-numbers ends₀ n i₀ ends i = (i ≤ n) × (ends ≡ sets ends₀ 0 (map (λ u. getD new-numbers u 0) (take i (take n ends₀)))) × (length ends ≡ length ends₀)

@@ -1,4 +1,4 @@
--- `reorder_orders::rename_in` meets its contract. Assumes nothing.
+-- `reorder_orders::rename_in` meets its contract: `place_numbers` stores the new number of each vertex, and each end reads its own from there. Assumes nothing.
 use mathlib.Core.Path.{ap, _∙_}
 use mathlib.Core.List.{List}
 use Prim.Native.Nat.{ℕ, _≤_, _<_}
@@ -11,10 +11,6 @@ use Rattle.reorder_orders.proofs.Gathering.{renamed-by, length-oldToNew
 use borrow.Author.Needs.{needs}
 use Rattle.reorder_orders.proofs.rename_in.Statement.{statement}
 use Rattle.reorder_orders.proofs.rename_in.Tie as tie
-use Rattle.reorder_orders.proofs.rename_in.Reads as reads
-use Rattle.reorder_orders.proofs.rename_in.Lts as lts
-use Rattle.reorder_orders.proofs.place_numbers.Reads as place-numbers-reads
-use Rattle.reorder_orders.proofs.rename_by.Reads as rename-by-reads
 
 rename-by-requires : tie.Need-rename-by-requires
 rename-by-requires c κs =

@@ -1,4 +1,4 @@
--- `reorder_orders::translate_in` meets its contract. Assumes nothing.
+-- `reorder_orders::translate_in` meets its contract: `place_numbers` stores the new number of each vertex, and the listed ones are read from there. Assumes nothing.
 use mathlib.Core.Path.{ap, _∙_}
 use mathlib.Core.List.{List}
 use Prim.Native.Nat.{ℕ, _≤_, _<_}
@@ -11,10 +11,6 @@ use Rattle.reorder_orders.proofs.Gathering.{renamed-by, length-oldToNew
 use borrow.Author.Needs.{needs}
 use Rattle.reorder_orders.proofs.translate_in.Statement.{statement}
 use Rattle.reorder_orders.proofs.translate_in.Tie as tie
-use Rattle.reorder_orders.proofs.translate_in.Reads as reads
-use Rattle.reorder_orders.proofs.translate_in.Lts as lts
-use Rattle.reorder_orders.proofs.gather_u32.Reads as gather-u32-reads
-use Rattle.reorder_orders.proofs.place_numbers.Reads as place-numbers-reads
 
 gather-u32-requires : tie.Need-gather-u32-requires
 gather-u32-requires c κs =

@@ -1,4 +1,4 @@
--- `sampling_calls::collect_defects` meets its contract. Assumes nothing.
+-- `sampling_calls::collect_defects` meets its contract: flips of bytes that were 0 set those of the syndrome, and `list_set` lists them. Assumes nothing.
 use mathlib.Core.Path.{ap, _∙_}
 use mathlib.Core.List.{List}
 use Prim.Native.Nat.{ℕ}

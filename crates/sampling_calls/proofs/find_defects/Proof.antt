@@ -1,4 +1,4 @@
--- `sampling_calls::find_defects` meets its contract. Assumes nothing.
+-- `sampling_calls::find_defects` meets its contract: the array holds 0 alone and has a place for each vertex, as `collect_defects` requires. Assumes nothing.
 use Rattle.columns_pairs.proofs.PairTests.{zeros-at, zeros-room}
 use native.Mathlib.Omega.{arith}
 use borrow.Author.Needs.{needs}

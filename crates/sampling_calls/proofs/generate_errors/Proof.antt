@@ -1,4 +1,4 @@
--- `sampling_calls::generate_errors` meets its contract. Assumes nothing.
+-- `sampling_calls::generate_errors` meets its contract: where no question fails the listed edges flip their ends, and both lists are written. Assumes nothing.
 use mathlib.Core.Path.{_≡_, sym, ap, _∙_}
 use native.Mathlib.Omega.{arith}
 use lib.ListN.{length, take}

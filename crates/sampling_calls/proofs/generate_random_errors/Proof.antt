@@ -1,4 +1,4 @@
--- `sampling_calls::generate_random_errors` meets its contract. Assumes nothing.
+-- `sampling_calls::generate_random_errors` meets its contract: where no question fails `sample_edges` draws from the seed, and both lists are written. Assumes nothing.
 use mathlib.Core.Path.{_≡_, sym, ap, _∙_}
 use native.Mathlib.Omega.{arith}
 use lib.ListN.{length}
@@ -13,8 +13,6 @@ use Rattle.sampling_calls.proofs.Draws.{SamplingMet, sampling-met, samp
 use borrow.Author.Needs.{needs}
 use Rattle.sampling_calls.proofs.generate_random_errors.Statement.{statement}
 use Rattle.sampling_calls.proofs.generate_random_errors.Tie as tie
-use Rattle.columns_stores.proofs.fill_u8.Reads as fill-u8-reads
-use Rattle.sampling_generator.proofs.DeterministicRng.seed_from_u64.Reads as seed-from-u64-reads
 
 sample-edges-requires : tie.Need-sample-edges-requires
 sample-edges-requires c κs =

@@ -1,4 +1,4 @@
--- `sampling_calls::syndrome_of` meets its contract. Assumes nothing.
+-- `sampling_calls::syndrome_of` meets its contract: where no question fails `find_defects` lists the syndrome, else nothing is changed. Assumes nothing.
 use mathlib.Core.Path.{sym, _∙_}
 use Rattle.columns_room.specs.Graph.{CodeGraph, codeGraph}
 use Rattle.sampling_calls.proofs.Accepting.{SyndromeMet, syndrome-met, syndrome-refused, syndrome-accepted}

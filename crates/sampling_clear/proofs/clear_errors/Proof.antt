@@ -1,14 +1,9 @@
--- `sampling_clear::clear_errors` meets its contract. Assumes nothing.
+-- `sampling_clear::clear_errors` meets its contract: where no question fails the two fills store the bytes, else nothing is changed. Assumes nothing.
 use mathlib.Core.Path.{sym, _∙_}
 use Rattle.sampling_clear.proofs.Clearing.{clear-refused, clear-accepted}
 use borrow.Author.Needs.{needs}
 use Rattle.sampling_clear.proofs.clear_errors.Statement.{statement}
 use Rattle.sampling_clear.proofs.clear_errors.Tie as tie
-use Rattle.sampling_clear.proofs.clear_errors.Reads as reads
-use Rattle.sampling_clear.proofs.clear_errors.Lts as lts
-use Rattle.columns.proofs.done_of.Reads as done-of-reads
-use Rattle.columns_stores.proofs.fill_u8.Reads as fill-u8-reads
-use Rattle.sampling_clear.proofs.clear_refusal.Reads as clear-refusal-reads
 
 returns : tie.Need-returns
 returns c =

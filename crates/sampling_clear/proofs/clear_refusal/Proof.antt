@@ -1,16 +1,9 @@
--- `sampling_clear::clear_refusal` meets its contract. Assumes nothing.
+-- `sampling_clear::clear_refusal` meets its contract: the callees promise the questions in the definition's order. Assumes nothing.
 use Rattle.columns.specs.Questions.{ask}
 use mathlib.Core.Bool.{_&&_}
 use mathlib.Core.Path.{_∙_}
 use Rattle.sampling_clear.proofs.clear_refusal.Statement.{statement}
 use Rattle.sampling_clear.proofs.clear_refusal.Tie as tie
-use Rattle.sampling_clear.proofs.clear_refusal.Reads as reads
-use Rattle.sampling_clear.proofs.clear_refusal.Lts as lts
-use Rattle.columns.proofs.questions.asked.Reads as asked-reads
-use Rattle.columns.proofs.questions.at_most.Reads as at-most-reads
-use Rattle.columns.proofs.questions.both.Reads as both-reads
-use Rattle.columns.proofs.questions.edge_count_sound.Reads as edge-count-sound-reads
-use Rattle.columns.proofs.questions.vertex_count_sound.Reads as vertex-count-sound-reads
 
 returns : tie.Need-returns
 returns c = c .asked2 .ensures ∙ (λ i. ask ((c .before .before .before .both .ensures ∙ (λ i. (c .before .before .before .before .before .before .before .at-most .ensures) i && (c .before .before .before .before .before .before .at-most2 .ensures) i)) i) 6 ((c .before .asked .ensures ∙ (λ i. ask ((c .before .before .both2 .ensures ∙ (λ i. (c .before .before .before .before .before .vertex-count-sound .ensures) i && (c .before .before .before .before .edge-count-sound .ensures) i)) i) 7 0)) i))

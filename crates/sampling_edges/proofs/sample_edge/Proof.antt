@@ -1,14 +1,10 @@
--- `sampling_edges::sample_edge` meets its contract. Assumes nothing.
+-- `sampling_edges::sample_edge` meets its contract: `next_f64` promises both draws, and the second starts from the state that the first leaves. Assumes nothing.
 use mathlib.Core.Path.{ap, _∙_}
 use lib.Ieee.{Float, lt}
 use Rattle.sampling_generator.specs.declared.DeterministicRng.{DeterministicRng}
 use Rattle.sampling_generator.specs.Random.{wordOf, nextOf, drawOf}
 use Rattle.sampling_edges.proofs.sample_edge.Statement.{statement}
 use Rattle.sampling_edges.proofs.sample_edge.Tie as tie
-use Rattle.sampling_edges.proofs.sample_edge.Reads as reads
-use Rattle.sampling_edges.proofs.sample_edge.Lts as lts
-use Rattle.sampling_generator.proofs.DeterministicRng.next_f64.Reads as next-f64-reads
-use Rattle.sampling_edges.proofs.error_probability.Reads as error-probability-reads
 
 returns : tie.Need-returns
 returns c =

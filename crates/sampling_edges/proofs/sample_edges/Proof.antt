@@ -9,11 +9,6 @@ use Rattle.sampling_flips.proofs.Flipping.{fits-on, length-flipEach}
 use Rattle.sampling_edges.proofs.Sampling.{sampled-none, sampled-more}
 use Rattle.sampling_edges.proofs.sample_edges.Statement.{statement}
 use Rattle.sampling_edges.proofs.sample_edges.Tie as tie
-use Rattle.sampling_edges.proofs.sample_edges.Reads as reads
-use Rattle.sampling_edges.proofs.sample_edges.Lts as lts
-use Rattle.sampling_flips.proofs.flip_edge_if.Reads as flip-edge-if-reads
-use Rattle.sampling_edges.proofs.erasure_byte.Reads as erasure-byte-reads
-use Rattle.sampling_edges.proofs.sample_edge.Reads as sample-edge-reads
 
 abbrev Inv-loop : tie.InvT-loop
 Inv-loop vertex-num edge-num ends-a ends-b p pe boundary defect₀ erasure₀ next₀ i₀ defect erasure next i = (i ≤ edge-num) × Sampled next₀ ends-a ends-b boundary p pe defect₀ erasure₀ i next defect erasure × (length defect ≡ length defect₀) × (length erasure ≡ length erasure₀)

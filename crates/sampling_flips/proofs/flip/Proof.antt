@@ -1,12 +1,10 @@
--- `sampling_flips::flip` meets its contract. Assumes nothing.
+-- `sampling_flips::flip` meets its contract: a virtual vertex keeps its byte, at an inner one 0 becomes 1 and any other byte 0. Assumes nothing.
 use mathlib.Core.Path.{sym}
 use Prim.Native.Nat.{ℕ, zero, suc, _-_}
 use native.Mathlib.Omega.{arith}
 use Rattle.sampling_flips.proofs.Flipping.{flipped-virtual, flipped-inner}
 use Rattle.sampling_flips.proofs.flip.Statement.{statement}
 use Rattle.sampling_flips.proofs.flip.Tie as tie
-use Rattle.sampling_flips.proofs.flip.Reads as reads
-use Rattle.sampling_flips.proofs.flip.Lts as lts
 
 returns : tie.Need-returns
 returns c = sym (flipped-virtual (c .before .args .boundary) (c .before .args .defect) (c .if1 .taken))

@@ -10,9 +10,6 @@ use Rattle.sampling_flips.specs.Flip.{flipEach}
 use Rattle.sampling_flips.proofs.Flipping.{length-flipEach, flipEach-more, fits-on}
 use Rattle.sampling_flips.proofs.flip_all.Statement.{statement}
 use Rattle.sampling_flips.proofs.flip_all.Tie as tie
-use Rattle.sampling_flips.proofs.flip_all.Reads as reads
-use Rattle.sampling_flips.proofs.flip_all.Lts as lts
-use Rattle.sampling_flips.proofs.flip_edge.Reads as flip-edge-reads
 
 abbrev Inv-loop : tie.InvT-loop
 Inv-loop vertex-num edge-num ends-a ends-b boundary list defect₀ i₀ defect i = (i ≤ length list) × (defect ≡ flipEach ends-a ends-b boundary (take i list) defect₀)

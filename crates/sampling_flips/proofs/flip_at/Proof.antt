@@ -1,4 +1,4 @@
--- `sampling_flips::flip_at` meets its contract. Assumes nothing.
+-- `sampling_flips::flip_at` meets its contract: `flip` promises the byte that is stored at v. Assumes nothing.
 use mathlib.Core.Path.{ap}
 use Prim.Native.Nat.{ℕ}
 use lib.ListN.{set}
@@ -6,9 +6,6 @@ use Rattle.sampling_flips.specs.Flip.{flipAt}
 use borrow.Author.Needs.{needs}
 use Rattle.sampling_flips.proofs.flip_at.Statement.{statement}
 use Rattle.sampling_flips.proofs.flip_at.Tie as tie
-use Rattle.sampling_flips.proofs.flip_at.Reads as reads
-use Rattle.sampling_flips.proofs.flip_at.Lts as lts
-use Rattle.sampling_flips.proofs.flip.Reads as flip-reads
 
 returns : tie.Need-returns
 unfolding flipAt

@@ -1,4 +1,4 @@
--- `sampling_flips::flip_edge` meets its contract. Assumes nothing.
+-- `sampling_flips::flip_edge` meets its contract: the two ends, both of them vertices, are flipped in the definition's order. Assumes nothing.
 use mathlib.Core.Path.{ap, _∙_}
 use Prim.Native.Nat.{ℕ, _≤_, _<_}
 use native.Mathlib.Omega.{arith}
@@ -8,9 +8,6 @@ use Rattle.sampling_flips.proofs.Flipping.{length-flipAt}
 use borrow.Author.Needs.{needs}
 use Rattle.sampling_flips.proofs.flip_edge.Statement.{statement}
 use Rattle.sampling_flips.proofs.flip_edge.Tie as tie
-use Rattle.sampling_flips.proofs.flip_edge.Reads as reads
-use Rattle.sampling_flips.proofs.flip_edge.Lts as lts
-use Rattle.sampling_flips.proofs.flip_at.Reads as flip-at-reads
 
 flip-at-requires : tie.Need-flip-at-requires
 flip-at-requires c κs =

@@ -1,11 +1,8 @@
--- `sampling_flips::flip_edge_if` meets its contract. Assumes nothing.
+-- `sampling_flips::flip_edge_if` meets its contract: with an error `flip_edge` promises the flips, without one nothing is flipped. Assumes nothing.
 use Rattle.sampling_flips.specs.Flip.{flipEach}
 use borrow.Author.Needs.{needs}
 use Rattle.sampling_flips.proofs.flip_edge_if.Statement.{statement}
 use Rattle.sampling_flips.proofs.flip_edge_if.Tie as tie
-use Rattle.sampling_flips.proofs.flip_edge_if.Reads as reads
-use Rattle.sampling_flips.proofs.flip_edge_if.Lts as lts
-use Rattle.sampling_flips.proofs.flip_edge.Reads as flip-edge-reads
 
 returns : tie.Need-returns
 unfolding flipEach

@@ -1,3 +1,4 @@
+-- `sampling_generator::mul_halves` meets its contract: what the sum leaves out of the full product is a multiple of 2 ^ 64. Assumes nothing.
 use borrow.Author.Needs.{needs}
 use Prim.Native.Nat.{_*_, _^_, _<_}
 use mathlib.Core.Path.{_∙_}

@@ -1,4 +1,4 @@
--- `sampling_generator::mul_shifted` meets its contract. Assumes nothing.
+-- `sampling_generator::mul_shifted` meets its contract: x + x * 2 ^ k is x * (2 ^ k + 1), also modulo 2 ^ 64. Assumes nothing.
 use borrow.Author.Needs.{needs}
 use mathlib.Core.Path.{_∙_}
 use Rattle.sampling_generator.proofs.Words.{shifted-sum}

@@ -1,4 +1,4 @@
--- `sampling_generator::wrapping_mul` meets its contract. Assumes nothing.
+-- `sampling_generator::wrapping_mul` meets its contract: 5 is 2 ^ 2 + 1, 9 is 2 ^ 3 + 1, and for any other factor `mul_halves` promises it. Assumes nothing.
 use mathlib.Core.Path.{sym, ap, _∙_}
 use Prim.Native.Nat.{ℕ, _*_, _%_, _^_}
 use borrow.Author.Needs.{needs}

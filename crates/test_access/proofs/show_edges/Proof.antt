@@ -1,4 +1,4 @@
--- `test_access::show_edges` meets its contract. Assumes nothing.
+-- `test_access::show_edges` meets its contract: the slices lie in their arrays since n and m are at most 4, and the calls' `requires` hold. Assumes nothing.
 use native.Mathlib.Omega.{arith}
 use lib.ListN.{length-take}
 use borrow.Author.Needs.{needs}

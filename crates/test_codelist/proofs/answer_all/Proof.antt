@@ -1,4 +1,4 @@
--- `test_codelist::answer_all` meets its contract. Assumes nothing.
+-- `test_codelist::answer_all` meets its contract. Invariant: `at` is at most the length of the list, and the text keeps its length. Assumes nothing.
 use mathlib.Core.Path.{_≡_, refl}
 use Prim.Native.Nat.{_-_, _≤_}
 use native.Mathlib.Omega.{arith}

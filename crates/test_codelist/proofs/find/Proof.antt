@@ -1,4 +1,4 @@
--- `test_codelist::find` meets its contract. Assumes nothing.
+-- `test_codelist::find` meets its contract. Invariant: i is from `from` to the length of the text. Assumes nothing.
 use Prim.Native.Nat.{_-_, _≤_}
 use native.Mathlib.Omega.{arith}
 use lib.ListN.{length}

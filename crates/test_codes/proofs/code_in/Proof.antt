@@ -1,4 +1,4 @@
--- `test_codes::code_in` meets its contract. Assumes nothing.
+-- `test_codes::code_in` meets its contract: the slices lie in their arrays by what it requires, and the calls keep the lengths. Assumes nothing.
 use mathlib.Core.Path.{_≡_}
 use mathlib.Core.List.{List, _++_}
 use Prim.Native.Nat.{ℕ, _≤_}

@@ -1,4 +1,4 @@
--- `test_codes::numbers` meets its contract. Assumes nothing.
+-- `test_codes::numbers` meets its contract. Invariant: i is at most m, which is at most the length of the column. Assumes nothing.
 use borrow.Author.Needs.{needs}
 use Prim.Native.Nat.{_-_, _≤_}
 use Rattle.test_codes.proofs.numbers.Statement.{statement}

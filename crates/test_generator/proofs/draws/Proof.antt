@@ -1,3 +1,4 @@
+-- `test_generator::draws` meets its contract. Invariant: i is at most n. Assumes nothing.
 use borrow.Author.Needs.{needs}
 use Prim.Native.Nat.{_≤_, _<_, _-_, _+_}
 use Rattle.test_generator.proofs.draws.Statement.{statement}

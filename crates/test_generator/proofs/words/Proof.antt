@@ -1,3 +1,4 @@
+-- `test_generator::words` meets its contract. Invariant: i is at most n. Assumes nothing.
 use borrow.Author.Needs.{needs}
 use Prim.Native.Nat.{_≤_, _<_, _-_, _+_}
 use Rattle.test_generator.proofs.words.Statement.{statement}

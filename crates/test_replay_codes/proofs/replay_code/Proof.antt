@@ -1,4 +1,4 @@
--- `test_replay_codes::replay_code` meets its contract. Assumes nothing.
+-- `test_replay_codes::replay_code` meets its contract: each slice is as long as its array, since the calls keep the lengths. Assumes nothing.
 use mathlib.Core.Path.{sym}
 use Prim.Native.Nat.{ℕ}
 use lib.Ieee.{Float, binary64, ofBits}

@@ -1,4 +1,4 @@
--- `test_sampling::positions_and_lists` meets its contract. Assumes nothing.
+-- `test_sampling::positions_and_lists` meets its contract: each slice is as long as its array, since the call keeps the lengths. Assumes nothing.
 use mathlib.Core.Path.{refl, sym}
 use Rattle.test_sampling.proofs.positions_and_lists.Statement.{statement}
 use Rattle.test_sampling.proofs.positions_and_lists.Tie as tie

@@ -1,4 +1,4 @@
--- `text_answer::codelist` meets its contract. Assumes nothing.
+-- `text_answer::codelist` meets its contract: a text that is too short gives 6, else the callees promise the text, whose length fits a u32. Assumes nothing.
 use native.Mathlib.Omega.{arith}
 use Prim.Native.Nat.{ℕ, _≤_}
 use Rattle.text_answer.proofs.Sizes.{text-few}

@@ -1,4 +1,4 @@
--- `text_answer::write_answer` meets its contract. Assumes nothing.
+-- `text_answer::write_answer` meets its contract: each case of the line is what `write_refusal` or `write_code` promises. Assumes nothing.
 use Rattle.text_answer.proofs.Texts.{damaged-line, sound-line}
 use borrow.Author.Needs.{needs}
 use Rattle.text_answer.proofs.write_answer.Statement.{statement}

@@ -1,4 +1,4 @@
--- `text_input::long_inputs_alike` meets its contract. Assumes nothing.
+-- `text_input::long_inputs_alike` meets its contract, a theorem of `proofs/Lines.antt`. Assumes nothing.
 use Rattle.text_input.proofs.Lines.{long-inputs-alike}
 use Rattle.text_input.proofs.long_inputs_alike.Statement.{statement}
 use Rattle.text_input.proofs.long_inputs_alike.Tie as tie

@@ -1,4 +1,4 @@
--- `text_input::read_line` meets its contract. Assumes nothing.
+-- `text_input::read_line` meets its contract: a line of more than 57 bytes is not well-formed, else `read_short` promises it. Assumes nothing.
 use Rattle.text_input.proofs.Lines.{too-long}
 use borrow.Author.Needs.{needs}
 use Rattle.text_input.proofs.read_line.Statement.{statement}

@@ -1,4 +1,4 @@
--- `text_input::read_short` meets its contract. Assumes nothing.
+-- `text_input::read_short` meets its contract: the tests together are `wellFormed`, and where they pass each field is read as defined. Assumes nothing.
 use mathlib.Core.Path.{_≡_, sym, ap, _∙_}
 use mathlib.Core.Bool.{Bool, true, _&&_}
 use native.Mathlib.Omega.{arith}

@@ -1,4 +1,4 @@
--- `text_listing::write_code` meets its contract. Assumes nothing.
+-- `text_listing::write_code` meets its contract: in arrays of these lengths `new` answers as the definition of the text does, and `write_made` puts it. Assumes nothing.
 use mathlib.Core.Path.{sym, _∙_}
 use Prim.Native.Nat.{ℕ}
 use lib.Ieee.{Float, binary64, ofBits}

@@ -1,4 +1,4 @@
--- `text_listing::write_made` meets its contract. Assumes nothing.
+-- `text_listing::write_made` meets its contract: each case of the answer is what `write_refusal` or `write_built` promises. Assumes nothing.
 use Rattle.text_listing.proofs.Texts.{refused-made, built-made, holds-made}
 use mathlib.Core.Path.{_≡_}
 use Prim.Native.Nat.{ℕ}

@@ -1,4 +1,4 @@
--- `text_numbers::digit` meets its contract. Assumes nothing.
+-- `text_numbers::digit` meets its contract: `power_of_ten` promises the power, which is not 0, and 48 plus a digit fits a u8. Assumes nothing.
 use mathlib.Core.Path.{ap}
 use Prim.Native.Nat.{ℕ, _+_, _-_, _*_, _/_, _%_, _^_, _≤_, _<_}
 use native.Mathlib.Omega.{arith}

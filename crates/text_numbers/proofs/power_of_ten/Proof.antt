@@ -1,4 +1,4 @@
--- `text_numbers::power_of_ten` meets its contract. Assumes nothing.
+-- `text_numbers::power_of_ten` meets its contract. Invariant: `power` is 10 ^ i, and i is at most k, so that the product fits a u32. Assumes nothing.
 use mathlib.Core.Path.{_≡_, refl, sym, ap, _∙_}
 use Prim.Native.Nat.{ℕ, _+_, _-_, _*_, _^_, _≤_, _<_}
 use native.Mathlib.Nat.{pow-suc, pow-le-pow-right, zero-lt-suc}

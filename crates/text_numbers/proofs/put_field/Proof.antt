@@ -1,4 +1,4 @@
--- `text_numbers::put_field` meets its contract. Assumes nothing.
+-- `text_numbers::put_field` meets its contract: the number is put where the comma ends, and has at most 10 digits. Assumes nothing.
 use mathlib.Core.List.{[], _∷_}
 use Prim.Native.Nat.{ℕ, _+_, _-_, _*_, _≤_, _<_}
 use native.Mathlib.Omega.{arith}

@@ -1,4 +1,4 @@
--- `text_numbers::size` meets its contract. Assumes nothing.
+-- `text_numbers::size` meets its contract. Invariant: `sizeIn 9 n` is `sizeIn k n`, and k is at most 9. Assumes nothing.
 use mathlib.Core.Path.{_≡_, refl, sym, _∙_}
 use Prim.Native.Nat.{ℕ, _+_, _-_, _*_, _/_, _%_, _^_, _≤_, _<_}
 use native.Mathlib.Omega.{arith}

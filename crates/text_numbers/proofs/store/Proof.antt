@@ -1,4 +1,4 @@
--- `text_numbers::store` meets its contract. Assumes nothing.
+-- `text_numbers::store` meets its contract: the byte is stored where there is a place, and past the end `set` changes nothing either. Assumes nothing.
 use mathlib.Core.Path.{sym}
 use lib.Seq.{set-out}
 use borrow.Author.Needs.{needs}

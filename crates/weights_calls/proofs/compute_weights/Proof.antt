@@ -1,4 +1,4 @@
--- `weights_calls::compute_weights` meets its contract. Assumes nothing.
+-- `weights_calls::compute_weights` meets its contract: the callees promise the questions in order; where all are met the half weights are stored. Assumes nothing.
 use mathlib.Core.Path.{_≡_, refl, sym, ap, _∙_}
 use mathlib.Core.Bool.{_&&_}
 use mathlib.Core.List.{List, map}

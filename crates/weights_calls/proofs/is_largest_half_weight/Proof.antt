@@ -1,4 +1,4 @@
--- `weights_calls::is_largest_half_weight` meets its contract. Assumes nothing.
+-- `weights_calls::is_largest_half_weight` meets its contract: `both` promises whether both comparisons hold. Assumes nothing.
 use Rattle.weights_calls.proofs.is_largest_half_weight.Statement.{statement}
 use Rattle.weights_calls.proofs.is_largest_half_weight.Tie as tie
 

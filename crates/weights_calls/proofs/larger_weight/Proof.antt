@@ -1,4 +1,4 @@
--- `weights_calls::larger_weight` meets its contract. Assumes nothing.
+-- `weights_calls::larger_weight` meets its contract: each arm returns what `cond` picks where w > m is as the arm's test found it. Assumes nothing.
 use mathlib.Core.Path.{sym, ap}
 use mathlib.Core.Bool.{Bool, cond}
 use Rattle.weights_calls.proofs.larger_weight.Statement.{statement}

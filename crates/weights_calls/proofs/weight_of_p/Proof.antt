@@ -1,4 +1,4 @@
--- `weights_calls::weight_of_p` meets its contract. Assumes nothing.
+-- `weights_calls::weight_of_p` meets its contract: `edge_weight` promises the weight of a probability, and what is none gives 9. Assumes nothing.
 use mathlib.Core.Path.{sym, ap, _∙_}
 use mathlib.Core.Bool.{Bool}
 use native.Mathlib.Omega.{arith}

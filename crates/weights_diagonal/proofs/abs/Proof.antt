@@ -1,4 +1,4 @@
--- `weights_diagonal::abs` meets its contract. Assumes nothing.
+-- `weights_diagonal::abs` meets its contract: x < 0 changes its sign, x equal to 0 gives 0 without a sign, any other x has no sign. Assumes nothing.
 use mathlib.Core.Path.{_≡_, refl, sym, ap, _∙_, subst}
 use mathlib.Core.Bool.{Bool, true, false, _&&_, _||_, Bool·beq, true≢false, false≢true}
 use lib.Ieee.{Float, nan, inf, fin, binary64, lt, eq, neg, ofBits}

@@ -1,4 +1,4 @@
--- `weights_diagonal::edge_probability` meets its contract. Assumes nothing.
+-- `weights_diagonal::edge_probability` meets its contract: `replaced_probability` promises it of what `is_diagonal` promises. Assumes nothing.
 use mathlib.Core.Path.{ap, _∙_}
 use mathlib.Core.Bool.{Bool}
 use Rattle.weights_diagonal.specs.Diagonal.{replaced}

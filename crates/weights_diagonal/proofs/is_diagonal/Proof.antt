@@ -1,4 +1,4 @@
--- `weights_diagonal::is_diagonal` meets its contract. Assumes nothing.
+-- `weights_diagonal::is_diagonal` meets its contract: `manhattan_distance` promises the distance that is compared with 1. Assumes nothing.
 use mathlib.Core.Path.{ap}
 use lib.Ieee.{Float, lt}
 use Rattle.columns.specs.Places.{one}

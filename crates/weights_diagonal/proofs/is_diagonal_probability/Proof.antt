@@ -1,4 +1,4 @@
--- `weights_diagonal::is_diagonal_probability` meets its contract. Assumes nothing.
+-- `weights_diagonal::is_diagonal_probability` meets its contract: each case of the diagonal probability, and `is_probability` promises the second. Assumes nothing.
 use borrow.Author.Needs.{needs}
 use Rattle.weights_diagonal.proofs.is_diagonal_probability.Statement.{statement}
 use Rattle.weights_diagonal.proofs.is_diagonal_probability.Tie as tie

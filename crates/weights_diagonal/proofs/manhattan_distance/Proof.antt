@@ -1,4 +1,4 @@
--- `weights_diagonal::manhattan_distance` meets its contract. Assumes nothing.
+-- `weights_diagonal::manhattan_distance` meets its contract: `abs` promises each of the three, and they are added from the left. Assumes nothing.
 use Rattle.weights_diagonal.specs.Diagonal.{manhattanDistance}
 use Rattle.weights_diagonal.proofs.manhattan_distance.Statement.{statement}
 use Rattle.weights_diagonal.proofs.manhattan_distance.Tie as tie

@@ -1,4 +1,4 @@
--- `weights_diagonal::replaced_probability` meets its contract. Assumes nothing.
+-- `weights_diagonal::replaced_probability` meets its contract: each case of whether the edge is diagonal and the probability given is the definition's. Assumes nothing.
 use mathlib.Core.Path.{_≡_, refl, sym, ap}
 use mathlib.Core.Bool.{Bool, false, cond}
 use lib.Ieee.{Float}

@@ -1,4 +1,4 @@
--- `weights_questions::is_probability` meets its contract. Assumes nothing.
+-- `weights_questions::is_probability` meets its contract: each callee promises one part of the definition, and `either` joins them. Assumes nothing.
 use mathlib.Core.Path.{ap, _∙_}
 use mathlib.Core.Bool.{Bool, _||_}
 use Rattle.weights_recipe.specs.Probabilities.{isPlusZero, isProbability}

@@ -1,4 +1,4 @@
--- `weights_questions::zero_or_one` meets its contract. Assumes nothing.
+-- `weights_questions::zero_or_one` meets its contract: what equals 0 is no NaN, and what does not is no plus zero, as 1 is none. Assumes nothing.
 use mathlib.Core.Path.{refl, sym, _∙_, subst}
 use lib.Ieee.{binary64, fits}
 use lib.Dec.{T}

@@ -1,4 +1,4 @@
--- `access_calls::fill::fill_vertices` meets its contract. Assumes nothing.
+-- `access_calls::fill::fill_vertices` meets its contract: a refusal changes no column, and at number 0 each callee promises the column that it fills. Assumes nothing.
 use mathlib.Core.Path.{_≡_, sym, ap, _∙_}
 use lib.ListN.{replicate}
 use Rattle.columns.specs.Answers.{done}

@@ -1,4 +1,4 @@
--- `access_calls::fill::write_lists` meets its contract. Assumes nothing.
+-- `access_calls::fill::write_lists` meets its contract: `fill_lists` promises it, and an array of 4,096 places has room for n list ends. Assumes nothing.
 use Rattle.columns_pairs.proofs.PairTests.{zeros-room}
 use borrow.Author.Needs.{needs}
 use Rattle.access_calls.proofs.fill.write_lists.Statement.{statement}

@@ -1,4 +1,4 @@
--- `access_vertices::positions::get_positions` meets its contract. Assumes nothing.
+-- `access_vertices::positions::get_positions` meets its contract: a refusal changes no column, and at number 0 the columns have room for whole copies. Assumes nothing.
 use mathlib.Core.Path.{_≡_, sym, ap, _∙_}
 use lib.ListN.{take}
 use Rattle.columns.specs.Answers.{done}

@@ -1,4 +1,4 @@
--- `c_codes::weighted::diagonal_from` meets its contract. Assumes nothing.
+-- `c_codes::weighted::diagonal_from` meets its contract: each arm returns what `diagonalFrom` has for the byte: none at 0, else the probability given. Assumes nothing.
 use Prim.Native.Nat.{ℕ}
 use mathlib.Core.Path.{sym, ap}
 use Rattle.c_codes.specs.Arguments.{diagonalFrom}

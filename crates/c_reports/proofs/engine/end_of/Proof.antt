@@ -1,4 +1,4 @@
--- `c_reports::engine::end_of` meets its contract. Assumes nothing.
+-- `c_reports::engine::end_of` meets its contract: each arm returns what `givenEnd` has for the byte: none at 0, else the vertex given. Assumes nothing.
 use Prim.Native.Nat.{ℕ}
 use mathlib.Core.Path.{sym, ap}
 use Rattle.c_reports.specs.Engine.{givenEnd}

@@ -1,4 +1,4 @@
--- `c_sampling::ordering::moldingcress_reorder_vertices` meets its contract. Assumes nothing.
+-- `c_sampling::ordering::moldingcress_reorder_vertices` meets its contract: it hands on what `reorder_calls` promises. Assumes nothing.
 use borrow.Author.Needs.{needs}
 use Rattle.c_sampling.proofs.ordering.moldingcress_reorder_vertices.Statement.{statement}
 use Rattle.c_sampling.proofs.ordering.moldingcress_reorder_vertices.Tie as tie

@@ -1,4 +1,4 @@
--- `codes_calls::create::create_code` meets its contract. Assumes nothing.
+-- `codes_calls::create::create_code` meets its contract: `create_in` promises it, and the array that it is lent has 4,096 places. Assumes nothing.
 use borrow.Author.Needs.{needs}
 use Rattle.codes_calls.proofs.create.create_code.Statement.{statement}
 use Rattle.codes_calls.proofs.create.create_code.Tie as tie

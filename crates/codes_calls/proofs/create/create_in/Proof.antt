@@ -1,4 +1,4 @@
--- `codes_calls::create::create_in` meets its contract. Assumes nothing.
+-- `codes_calls::create::create_in` meets its contract: a refusal changes no column, and at number 0 the code fits and the callees fill the columns. Assumes nothing.
 use mathlib.Core.Path.{_≡_, refl, sym, _∙_}
 use native.Mathlib.Omega.{arith}
 use Rattle.codes_layers.proofs.Accepted.{edges-few}

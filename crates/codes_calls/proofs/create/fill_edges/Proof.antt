@@ -1,4 +1,4 @@
--- `codes_calls::create::fill_edges` meets its contract. Assumes nothing.
+-- `codes_calls::create::fill_edges` meets its contract: `code_edges` writes `edgeNum` edges, and there is room for that many zeros. Assumes nothing.
 use mathlib.Core.Path.{_≡_}
 use native.Mathlib.Omega.{arith}
 use Rattle.columns.specs.Places.{zeroFloat}

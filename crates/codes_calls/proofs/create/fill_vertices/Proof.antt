@@ -1,4 +1,4 @@
--- `codes_calls::create::fill_vertices` meets its contract. Assumes nothing.
+-- `codes_calls::create::fill_vertices` meets its contract: `code_vertices` writes `vertexNum` vertices, and there is room for that many zeros. Assumes nothing.
 use mathlib.Core.Path.{_≡_}
 use native.Mathlib.Omega.{arith}
 use Rattle.codes_writers.specs.declared.CodeVertex.{CodeVertex}

@@ -1,4 +1,4 @@
--- `codes_calls::create::refusal_of` meets its contract. Assumes nothing.
+-- `codes_calls::create::refusal_of` meets its contract: question 6 matters only where d and rounds are within the limits, where the counts are exact. Assumes nothing.
 use mathlib.Core.Path.{_∙_}
 use native.Mathlib.Omega.{arith}
 use Rattle.codes_calls.proofs.Filled.{question-6}

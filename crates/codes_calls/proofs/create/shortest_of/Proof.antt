@@ -1,4 +1,4 @@
--- `codes_calls::create::shortest_of` meets its contract. Assumes nothing.
+-- `codes_calls::create::shortest_of` meets its contract: `lesser` promises the lesser of two lengths, nested as `min` is in `shortest`. Assumes nothing.
 use mathlib.Core.Path.{ap, _∙_}
 use Prim.Native.Nat.{min}
 use Rattle.codes_calls.proofs.create.shortest_of.Statement.{statement}

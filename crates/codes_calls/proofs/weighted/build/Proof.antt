@@ -1,4 +1,4 @@
--- `codes_calls::weighted::build` meets its contract. Assumes nothing.
+-- `codes_calls::weighted::build` meets its contract: a refusal changes no column, and at number 0 `create_code` builds what `weigh_edges` weighs. Assumes nothing.
 use mathlib.Core.Path.{_≡_, refl, sym, ap, _∙_}
 use lib.Ieee.{Float}
 use Rattle.codes_calls.specs.Columns.{CodeColumns}

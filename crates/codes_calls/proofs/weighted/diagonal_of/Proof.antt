@@ -1,4 +1,4 @@
--- `codes_calls::weighted::diagonal_of` meets its contract. Assumes nothing.
+-- `codes_calls::weighted::diagonal_of` meets its contract: each arm returns what `cond` picks where kind = 4 is as the arm's test found it. Assumes nothing.
 use mathlib.Core.Path.{sym, ap, _∙_}
 use mathlib.Core.Bool.{Bool, cond}
 use borrow.Author.Tests.{eq-eqb, ne-eqb}

@@ -1,4 +1,4 @@
--- `codes_calls::weighted::edge_count` meets its contract. Assumes nothing.
+-- `codes_calls::weighted::edge_count` meets its contract: a code that can be built has distance and rounds within the limits that `edge_num` requires. Assumes nothing.
 use native.Mathlib.Omega.{arith}
 use Rattle.codes_layers.proofs.Accepted.{accepted}
 use borrow.Author.Needs.{needs}

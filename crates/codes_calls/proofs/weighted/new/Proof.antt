@@ -1,4 +1,4 @@
--- `codes_calls::weighted::new` meets its contract. Assumes nothing.
+-- `codes_calls::weighted::new` meets its contract: `build` promises it for the diagonal that `diagonal_of` promises, which is none unless kind is 4. Assumes nothing.
 use mathlib.Core.Path.{sym, subst}
 use Rattle.codes_calls.specs.WeightedSteps.{DiagonalKind}
 use Rattle.codes_calls.proofs.WeightedOutcome.{diagonal-kind, with-diagonal}

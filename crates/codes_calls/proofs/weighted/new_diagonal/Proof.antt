@@ -1,4 +1,4 @@
--- `codes_calls::weighted::new_diagonal` meets its contract. Assumes nothing.
+-- `codes_calls::weighted::new_diagonal` meets its contract: `build` promises it, and with kind 4 it takes any diagonal probability. Assumes nothing.
 use mathlib.Core.Path.{refl}
 use mathlib.Core.Logic.{inl}
 use borrow.Author.Needs.{needs}

@@ -1,4 +1,4 @@
--- `codes_calls::weighted::new_refusal` meets its contract. Assumes nothing.
+-- `codes_calls::weighted::new_refusal` meets its contract: `weights_refusal` promises it for the number that `refusal_of` promises. Assumes nothing.
 use mathlib.Core.Path.{ap, _∙_}
 use mathlib.Core.Bool.{_&&_}
 use Prim.Native.Nat.{ℕ}

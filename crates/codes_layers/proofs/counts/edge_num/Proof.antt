@@ -1,4 +1,4 @@
--- `codes_layers::counts::edge_num` meets its contract. Assumes nothing.
+-- `codes_layers::counts::edge_num` meets its contract: the callees promise the counts of a layer and a gap, whose bounds times 4,096 fit. Assumes nothing.
 use Prim.Native.Nat.{_+_, _-_, _*_}
 use native.Mathlib.Omega.{arith}
 use Rattle.codes_layers.proofs.ByKind.{few}

@@ -1,4 +1,4 @@
--- `codes_layers::counts::layer_vertex_num` meets its contract. Assumes nothing.
+-- `codes_layers::counts::layer_vertex_num` meets its contract: each case of the kind is that of `layerVertexNum`, which fits since d is at most 4,095. Assumes nothing.
 use Prim.Native.Nat.{_+_, _-_, _/_}
 use native.Mathlib.Omega.{arith}
 use borrow.Author.Tests.{eq-eqb, ne-eqb, le-leb, lt-leb}

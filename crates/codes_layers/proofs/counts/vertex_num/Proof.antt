@@ -1,4 +1,4 @@
--- `codes_layers::counts::vertex_num` meets its contract. Assumes nothing.
+-- `codes_layers::counts::vertex_num` meets its contract: the callee promises the count of a layer, and 4,096 times its bound fits. Assumes nothing.
 use mathlib.Core.Path.{ap}
 use Prim.Native.Nat.{ℕ, _+_, _-_, _*_}
 use native.Mathlib.Omega.{arith}

@@ -1,4 +1,4 @@
--- `codes_layers::vertices::layer_vertices` meets its contract. Assumes nothing.
+-- `codes_layers::vertices::layer_vertices` meets its contract. Invariant: the vertices of the first `row` rows of the layer are written. Assumes nothing.
 use borrow.Author.Needs.{needs}
 use Prim.Native.Nat.{_-_, _≤_}
 use native.Mathlib.Omega.{arith}

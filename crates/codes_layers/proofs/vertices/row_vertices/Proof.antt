@@ -1,4 +1,4 @@
--- `codes_layers::vertices::row_vertices` meets its contract. Assumes nothing.
+-- `codes_layers::vertices::row_vertices` meets its contract. Invariant: the first i vertices of the row are written. Assumes nothing.
 use borrow.Author.Needs.{needs}
 use mathlib.Core.List.{[], _∷_}
 use Prim.Native.Nat.{_-_, _≤_}

@@ -1,4 +1,4 @@
--- `codes_layers::vertices::rows_of` meets its contract. Assumes nothing.
+-- `codes_layers::vertices::rows_of` meets its contract: each case of the kind is that of `rows`. Assumes nothing.
 use borrow.Author.Tests.{eq-eqb, ne-eqb, le-leb, lt-leb}
 use Rattle.codes_layers.specs.Codes.{rows}
 use borrow.Author.Needs.{needs}

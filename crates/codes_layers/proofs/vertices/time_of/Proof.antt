@@ -1,4 +1,4 @@
--- `codes_layers::vertices::time_of` meets its contract. Assumes nothing.
+-- `codes_layers::vertices::time_of` meets its contract: each arm returns what `cond` picks where kind = 6 is as the arm's test found it. Assumes nothing.
 use borrow.Author.Tests.{eq-eqb, ne-eqb}
 use Rattle.codes_layers.proofs.vertices.time_of.Statement.{statement}
 use Rattle.codes_layers.proofs.vertices.time_of.Tie as tie

@@ -1,4 +1,4 @@
--- `codes_layers::vertices::vertex_of` meets its contract. Assumes nothing.
+-- `codes_layers::vertices::vertex_of` meets its contract: each case of the kind is that of `vertexOf`, and the callee there promises the vertex. Assumes nothing.
 use mathlib.Core.Path.{ap, _∙_}
 use lib.Ieee.{Float}
 use borrow.Author.Tests.{le-leb, lt-leb}

@@ -1,4 +1,4 @@
--- `codes_layers::vertices::width_of` meets its contract. Assumes nothing.
+-- `codes_layers::vertices::width_of` meets its contract: each case of the kind is that of `width`, and with d at most 4,095 none is above 4,096. Assumes nothing.
 use borrow.Author.Tests.{le-leb, lt-leb}
 use Rattle.codes_layers.specs.Codes.{width}
 use borrow.Author.Needs.{needs}

@@ -1,4 +1,4 @@
--- `codes_weights::questions::largest_weight` meets its contract. Assumes nothing.
+-- `codes_weights::questions::largest_weight` meets its contract: the callees promise the weights, and each arm returns what `largestOf` picks. Assumes nothing.
 use mathlib.Core.Path.{sym, ap, _∙_}
 use mathlib.Core.Bool.{Bool, cond}
 use lib.Ieee.{Float}

@@ -1,4 +1,4 @@
--- `codes_weights::questions::number_of` meets its contract. Assumes nothing.
+-- `codes_weights::questions::number_of` meets its contract: where q is 0 questions 8 to 10 are asked in order, and any other q is handed on. Assumes nothing.
 use mathlib.Core.Path.{sym, ap, _∙_}
 use mathlib.Core.Bool.{Bool, cond}
 use Prim.Native.Nat.{ℕ}

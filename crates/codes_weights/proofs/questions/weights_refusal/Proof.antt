@@ -1,4 +1,4 @@
--- `codes_weights::questions::weights_refusal` meets its contract. Assumes nothing.
+-- `codes_weights::questions::weights_refusal` meets its contract: `number_of` promises it for the tests of questions 8 to 10 that the callees promise. Assumes nothing.
 use mathlib.Core.Path.{_∙_}
 use mathlib.Core.Bool.{_&&_}
 use Rattle.codes_weights.specs.Steps.{weightsRefusal}

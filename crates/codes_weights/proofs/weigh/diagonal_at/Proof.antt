@@ -1,4 +1,4 @@
--- `codes_weights::weigh::diagonal_at` meets its contract. Assumes nothing.
+-- `codes_weights::weigh::diagonal_at` meets its contract: `load` promises the positions of the two ends, and `is_diagonal` promises their test. Assumes nothing.
 use mathlib.Core.Path.{ap, _∙_}
 use Prim.Native.Nat.{ℕ}
 use Rattle.columns.specs.Places.{positionAt}

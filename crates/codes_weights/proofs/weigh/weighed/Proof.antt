@@ -1,4 +1,4 @@
--- `codes_weights::weigh::weighed` meets its contract. Assumes nothing.
+-- `codes_weights::weigh::weighed` meets its contract: `half_weight` promises the half weight for the weight that `edge_weight` promises. Assumes nothing.
 use mathlib.Core.Path.{ap, _∙_}
 use lib.Ieee.{Float}
 use Rattle.weights_recipe.specs.Rounding.{halfWeight}

@@ -1,4 +1,4 @@
--- `columns::VisualizePosition::load` meets its contract. Assumes nothing.
+-- `columns::VisualizePosition::load` meets its contract: `load_f64` promises each of the three coordinates. Assumes nothing.
 use Rattle.columns.proofs.VisualizePosition.load.Statement.{statement}
 use Rattle.columns.proofs.VisualizePosition.load.Tie as tie
 use Rattle.columns.specs.Places.{position}

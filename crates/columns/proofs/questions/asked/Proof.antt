@@ -1,4 +1,4 @@
--- `columns::questions::asked` meets its contract. Assumes nothing.
+-- `columns::questions::asked` meets its contract: each arm returns what `ask` picks where met is as the arm's test found it. Assumes nothing.
 use mathlib.Core.Path.{ap, sym}
 use Rattle.columns.specs.Questions.{ask}
 use Rattle.columns.proofs.questions.asked.Statement.{statement}

@@ -1,4 +1,4 @@
--- `columns::questions::boundaries_sound` meets its contract. Assumes nothing.
+-- `columns::questions::boundaries_sound` meets its contract: it hands on what `bytes_within` promises. Assumes nothing.
 use Rattle.columns.proofs.questions.boundaries_sound.Statement.{statement}
 use Rattle.columns.proofs.questions.boundaries_sound.Tie as tie
 

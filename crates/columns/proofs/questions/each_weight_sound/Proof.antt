@@ -1,4 +1,4 @@
--- `columns::questions::each_weight_sound` meets its contract. Assumes nothing.
+-- `columns::questions::each_weight_sound` meets its contract: `weights_within` promises it for a prefix, which here is the whole list. Assumes nothing.
 use mathlib.Core.Path.{ap, _∙_}
 use lib.Seq.{take-length}
 use Rattle.columns.specs.Questions.{allWithin}

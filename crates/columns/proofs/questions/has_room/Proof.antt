@@ -1,4 +1,4 @@
--- `columns::questions::has_room` meets its contract. Assumes nothing.
+-- `columns::questions::has_room` meets its contract: used + more is at most length exactly where used is and more is at most the rest. Assumes nothing.
 use mathlib.Core.Path.{_≡_, sym, _∙_}
 use Prim.Native.Nat.{ℕ, _+_, _-_, _≤_}
 use native.Mathlib.Decide.{decLe}

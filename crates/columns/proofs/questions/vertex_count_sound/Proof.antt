@@ -1,4 +1,4 @@
--- `columns::questions::vertex_count_sound` meets its contract. Assumes nothing.
+-- `columns::questions::vertex_count_sound` meets its contract: `both` joins the two tests that `vertexCountSound` joins. Assumes nothing.
 use Rattle.columns.proofs.questions.vertex_count_sound.Statement.{statement}
 use Rattle.columns.proofs.questions.vertex_count_sound.Tie as tie
 

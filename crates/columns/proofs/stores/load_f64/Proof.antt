@@ -1,4 +1,4 @@
--- `columns::stores::load_f64` meets its contract. Assumes nothing.
+-- `columns::stores::load_f64` meets its contract: a place below the length is read, and at any other `getD` gives its default, 0.0. Assumes nothing.
 use mathlib.Core.Path.{sym}
 use lib.ListN.{List·getD-eq-default}
 use lib.Ieee.{nan}

@@ -1,4 +1,4 @@
--- `columns::stores::store_f64` meets its contract. Assumes nothing.
+-- `columns::stores::store_f64` meets its contract: a place below the length is set, and at any other `set` changes nothing. Assumes nothing.
 use mathlib.Core.Path.{sym}
 use lib.Seq.{set-out}
 use borrow.Author.Needs.{needs}

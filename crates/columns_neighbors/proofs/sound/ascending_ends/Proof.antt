@@ -1,4 +1,4 @@
--- `columns_neighbors::sound::ascending_ends` meets its contract. Assumes nothing.
+-- `columns_neighbors::sound::ascending_ends` meets its contract: true is returned only where the ends are in range and ascend, so the graph is sound. Assumes nothing.
 use Prim.Native.Nat.{_≤_}
 use mathlib.Core.Path.{sym, _∙_}
 use mathlib.Core.Bool.{true≢false}

@@ -1,4 +1,4 @@
--- `prebuilt_calls::boundaries::fill_boundaries` meets its contract. Assumes nothing.
+-- `prebuilt_calls::boundaries::fill_boundaries` meets its contract: a refusal changes no column, and at number 0 `fill_all` promises the columns. Assumes nothing.
 use mathlib.Core.Path.{_≡_, sym, ap, _∙_}
 use Prim.Native.Nat.{ℕ, _-_}
 use native.Mathlib.Omega.{arith}

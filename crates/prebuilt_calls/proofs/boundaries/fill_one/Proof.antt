@@ -1,4 +1,4 @@
--- `prebuilt_calls::boundaries::fill_one` meets its contract. Assumes nothing.
+-- `prebuilt_calls::boundaries::fill_one` meets its contract: the columns fit, so `all_edges` accepts, and `store_boundary` reads its table. Assumes nothing.
 use mathlib.Core.Path.{_≡_, sym, _∙_}
 use Prim.Native.Nat.{ℕ}
 use native.Mathlib.Omega.{arith}

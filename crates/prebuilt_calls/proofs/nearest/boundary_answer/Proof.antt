@@ -1,4 +1,4 @@
--- `prebuilt_calls::nearest::boundary_answer` meets its contract. Assumes nothing.
+-- `prebuilt_calls::nearest::boundary_answer` meets its contract: a virtual vertex has none, and any other has what `nearest_place` promises, if any. Assumes nothing.
 use mathlib.Core.Path.{sym, ap, _∙_}
 use Prim.Native.Nat.{ℕ, zero, suc, _+_, _*_, _-_, _<_, _≤_}
 use native.Mathlib.Omega.{arith}

@@ -1,4 +1,4 @@
--- `prebuilt_calls::nearest::get_boundary_weight` meets its contract. Assumes nothing.
+-- `prebuilt_calls::nearest::get_boundary_weight` meets its contract: a refusal of `all_edges` is handed on, else `boundary_answer` reads its table. Assumes nothing.
 use mathlib.Core.Path.{_≡_, sym, _∙_, ap}
 use Prim.Native.Nat.{ℕ}
 use native.Mathlib.Omega.{arith}

@@ -1,4 +1,4 @@
--- `prebuilt_entries::boundaries::boundary_place` meets its contract. Assumes nothing.
+-- `prebuilt_entries::boundaries::boundary_place` meets its contract: a virtual vertex has no place, and for any other `nearest_place` promises it. Assumes nothing.
 use Rattle.prebuilt_entries.proofs.Places.{at-virtual, at-inner}
 use borrow.Author.Needs.{needs}
 use Rattle.prebuilt_entries.proofs.boundaries.boundary_place.Statement.{statement}

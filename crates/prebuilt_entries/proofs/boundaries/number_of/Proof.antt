@@ -1,4 +1,4 @@
--- `prebuilt_entries::boundaries::number_of` meets its contract. Assumes nothing.
+-- `prebuilt_entries::boundaries::number_of` meets its contract: each arm returns what `cond` picks where place < n is as the arm's test found it. Assumes nothing.
 use mathlib.Core.Path.{sym, ap}
 use mathlib.Core.Bool.{cond}
 use native.Mathlib.Omega.{arith}

@@ -1,4 +1,4 @@
--- `prebuilt_entries::boundaries::store_boundary` meets its contract. Assumes nothing.
+-- `prebuilt_entries::boundaries::store_boundary` meets its contract: `boundary_place` promises the place, the others its weight and its number. Assumes nothing.
 use mathlib.Core.Path.{ap, _∙_}
 use lib.ListN.{set}
 use mir.Syntax.{w32}

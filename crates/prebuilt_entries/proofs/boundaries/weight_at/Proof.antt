@@ -1,4 +1,4 @@
--- `prebuilt_entries::boundaries::weight_at` meets its contract. Assumes nothing.
+-- `prebuilt_entries::boundaries::weight_at` meets its contract: a place below the length is read, and at any other `weightIn` gives its default, -1. Assumes nothing.
 use mathlib.Core.Path.{sym, _∙_}
 use native.Mathlib.Omega.{arith}
 use lib.ListN.{getD, List·getD-eq-default}

@@ -1,4 +1,4 @@
--- `prebuilt_entries::nearest::amount_at` meets its contract. Assumes nothing.
+-- `prebuilt_entries::nearest::amount_at` meets its contract: below the length `amount_of` promises it, and past it the weight is -1, of amount 0. Assumes nothing.
 use mathlib.Core.Path.{sym, ap, _∙_}
 use Prim.Native.Nat.{ℕ, zero, suc, _+_, _*_, _-_, _<_, _≤_}
 use native.Mathlib.Omega.{arith}

@@ -1,4 +1,4 @@
--- `prebuilt_entries::nearest::amount_of` meets its contract. Assumes nothing.
+-- `prebuilt_entries::nearest::amount_of` meets its contract: rank 0 is that of a number below 0, of amount 0, and any other amount is the rank less 1. Assumes nothing.
 use mathlib.Core.Path.{sym, ap, _∙_}
 use Prim.Native.Nat.{ℕ, zero, suc, _+_, _*_, _-_, _<_, _≤_}
 use mir.Syntax.{w32}

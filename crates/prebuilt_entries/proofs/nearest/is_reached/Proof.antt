@@ -1,4 +1,4 @@
--- `prebuilt_entries::nearest::is_reached` meets its contract. Assumes nothing.
+-- `prebuilt_entries::nearest::is_reached` meets its contract: a weight is reached where its rank is not 0, and past the length the weight is -1. Assumes nothing.
 use mathlib.Core.Path.{sym, ap, _∙_}
 use Prim.Native.Nat.{ℕ, zero, suc, _+_, _*_, _-_, _<_, _≤_}
 use native.Mathlib.Omega.{arith}

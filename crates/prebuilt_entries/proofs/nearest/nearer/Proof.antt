@@ -1,4 +1,4 @@
--- `prebuilt_entries::nearest::nearer` meets its contract. Assumes nothing.
+-- `prebuilt_entries::nearest::nearer` meets its contract: each case keeps best or takes u as `nearestIn` does from u to u + 1. Assumes nothing.
 use mathlib.Core.Path.{_≡_, sym, ap, _∙_}
 use mathlib.Core.Logic.{inl, inr}
 use Prim.Native.Nat.{ℕ, zero, suc, _+_, _*_, _-_, _<_, _≤_}

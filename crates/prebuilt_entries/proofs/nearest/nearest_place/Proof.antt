@@ -1,4 +1,4 @@
--- `prebuilt_entries::nearest::nearest_place` meets its contract. Assumes nothing.
+-- `prebuilt_entries::nearest::nearest_place` meets its contract. Invariant: best is the nearest place of the first u, or the length for none. Assumes nothing.
 use mathlib.Core.Path.{_≡_, refl, ap, _∙_}
 use Prim.Native.Nat.{ℕ, zero, suc, _+_, _*_, _-_, _<_, _≤_}
 use native.Mathlib.Omega.{arith}

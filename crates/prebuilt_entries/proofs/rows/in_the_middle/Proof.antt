@@ -1,4 +1,4 @@
--- `prebuilt_entries::rows::in_the_middle` meets its contract. Assumes nothing.
+-- `prebuilt_entries::rows::in_the_middle` meets its contract: a rank is 0 for no weight, else the weight plus 1, so ranks compare as weights do. Assumes nothing.
 use mathlib.Core.Path.{sym, ap, _∙_}
 use Prim.Native.Nat.{ℕ, zero, suc, _+_, _*_, _-_, _<_, _≤_}
 use Rattle.prebuilt_entries.specs.Entries.{rank}

@@ -1,4 +1,4 @@
--- `prebuilt_entries::rows::is_hidden` meets its contract. Assumes nothing.
+-- `prebuilt_entries::rows::is_hidden` meets its contract: each arm returns what `||` gives where the tests before it came out as they did. Assumes nothing.
 use mathlib.Core.Path.{sym, ap}
 use Prim.Native.Nat.{ℕ, zero, suc, _+_, _*_, _-_, _<_, _≤_}
 use mathlib.Core.Bool.{not, _||_}

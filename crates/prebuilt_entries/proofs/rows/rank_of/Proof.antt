@@ -1,4 +1,4 @@
--- `prebuilt_entries::rows::rank_of` meets its contract. Assumes nothing.
+-- `prebuilt_entries::rows::rank_of` meets its contract: below 0 the rank is 0, and any other i32 is below 2 ^ 31, so that the sum fits. Assumes nothing.
 use mathlib.Core.Path.{sym, ap, _∙_, subst}
 use Prim.Native.Nat.{ℕ, zero, suc, _+_, _*_, _-_, _<_, _≤_}
 use native.Mathlib.Omega.{arith}

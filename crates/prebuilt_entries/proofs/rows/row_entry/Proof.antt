@@ -1,4 +1,4 @@
--- `prebuilt_entries::rows::row_entry` meets its contract. Assumes nothing.
+-- `prebuilt_entries::rows::row_entry` meets its contract: each arm returns what `entryBy` picks by hidden and by the test that `in_the_middle` promises. Assumes nothing.
 use mathlib.Core.Path.{_≡_, sym, ap, _∙_}
 use Prim.Native.Nat.{ℕ, zero, suc, _+_, _*_, _-_, _<_, _≤_}
 use mathlib.Core.Bool.{cond}

@@ -1,4 +1,4 @@
--- `prebuilt_entries::rows::write_row` meets its contract. Assumes nothing.
+-- `prebuilt_entries::rows::write_row` meets its contract. Invariant: the first u entries are those of the row, and the others are as they were. Assumes nothing.
 use mathlib.Core.Path.{_≡_, refl, ap, _∙_, subst}
 use Prim.Native.Nat.{ℕ, zero, suc, _+_, _*_, _-_, _<_, _≤_}
 use native.Mathlib.Omega.{arith}

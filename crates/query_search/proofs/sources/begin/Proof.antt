@@ -1,4 +1,4 @@
--- `query_search::sources::begin` meets its contract. Assumes nothing.
+-- `query_search::sources::begin` meets its contract: the callees promise weight 0, each vertex as its own previous, and the keys of the sources. Assumes nothing.
 use mathlib.Core.Path.{_≡_, sym, ap, _∙_}
 use native.Mathlib.Omega.{arith}
 use lib.ListN.{length, replicate, length-replicate}

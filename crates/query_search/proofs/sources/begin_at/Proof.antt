@@ -1,4 +1,4 @@
--- `query_search::sources::begin_at` meets its contract. Assumes nothing.
+-- `query_search::sources::begin_at` meets its contract: after the fill each byte is 0, and where a is no place the definition stores nothing either. Assumes nothing.
 use mathlib.Core.Path.{sym, ap, _∙_}
 use Prim.Native.Nat.{ℕ, zero, suc, _+_, _*_, _-_, _<_, _≤_}
 use native.Mathlib.Omega.{arith}

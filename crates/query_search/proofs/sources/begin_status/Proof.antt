@@ -1,4 +1,4 @@
--- `query_search::sources::begin_status` meets its contract. Assumes nothing.
+-- `query_search::sources::begin_status` meets its contract: each case of the origin is what its callee promises. Assumes nothing.
 use borrow.Author.Needs.{needs}
 use Rattle.query_search.proofs.sources.begin_status.Statement.{statement}
 use Rattle.query_search.proofs.sources.begin_status.Tie as tie

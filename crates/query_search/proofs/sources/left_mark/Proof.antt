@@ -1,4 +1,4 @@
--- `query_search::sources::left_mark` meets its contract. Assumes nothing.
+-- `query_search::sources::left_mark` meets its contract: each arm returns what `delta` is where the byte is, or is not, 1. Assumes nothing.
 use mathlib.Core.Path.{sym, ap}
 use Prim.Native.Nat.{ℕ, zero, suc, _+_, _*_, _-_, _<_, _≤_}
 use borrow.Author.Tests.{eq-eqb, ne-eqb}

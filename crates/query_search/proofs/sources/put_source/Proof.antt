@@ -1,4 +1,4 @@
--- `query_search::sources::put_source` meets its contract. Assumes nothing.
+-- `query_search::sources::put_source` meets its contract: where v waits `put` stores its key, else nothing changes. Assumes nothing.
 use mathlib.Core.Path.{refl, sym, ap, _∙_}
 use Prim.Native.Nat.{ℕ, zero, suc, _+_, _*_, _-_, _<_, _≤_}
 use native.Mathlib.Omega.{arith}

@@ -1,4 +1,4 @@
--- `reorder_calls::lists::move_lists_in` meets its contract. Assumes nothing.
+-- `reorder_calls::lists::move_lists_in` meets its contract: the lists are gathered from a copy of all that the lists hold. Assumes nothing.
 use mathlib.Core.Path.{ap, _∙_}
 use mathlib.Core.List.{List}
 use Prim.Native.Nat.{ℕ, _≤_}
@@ -11,7 +11,6 @@ use Rattle.reorder_calls.proofs.Moving.{lists-copy}
 use borrow.Author.Needs.{needs}
 use Rattle.reorder_calls.proofs.lists.move_lists_in.Statement.{statement}
 use Rattle.reorder_calls.proofs.lists.move_lists_in.Tie as tie
-use Rattle.columns_stores.proofs.copy_u32.Reads as copy-u32-reads
 
 gather-lists-requires : tie.Need-gather-lists-requires
 gather-lists-requires c κs =

@@ -1,4 +1,4 @@
--- `sampling_calls::questions::syndrome_long` meets its contract. Assumes nothing.
+-- `sampling_calls::questions::syndrome_long` meets its contract: each callee promises one part of the definition, and `both` joins them. Assumes nothing.
 use mathlib.Core.Bool.{_&&_}
 use mathlib.Core.Path.{_∙_}
 use Rattle.sampling_calls.specs.Records.{syndromeLong}

@@ -1,4 +1,4 @@
--- `sampling_calls::questions::syndrome_refusal` meets its contract. Assumes nothing.
+-- `sampling_calls::questions::syndrome_refusal` meets its contract: the callees promise the questions in the definition's order. Assumes nothing.
 use Rattle.columns.specs.Questions.{ask}
 use mathlib.Core.Bool.{_&&_}
 use mathlib.Core.Path.{_∙_}

@@ -1,3 +1,4 @@
+-- `sampling_generator::DeterministicRng::next_f64` meets its contract: `next_u64` promises the word and the next state, and the draw is the word's. Assumes nothing.
 use Prim.Native.Nat.{ℕ, _/_}
 use mathlib.Core.Path.{ap, _∙_}
 use lib.IntN.{pos}

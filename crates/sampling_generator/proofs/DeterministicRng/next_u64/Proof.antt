@@ -1,3 +1,4 @@
+-- `sampling_generator::DeterministicRng::next_u64` meets its contract: the callees promise the word, and the state words are made as defined. Assumes nothing.
 use mathlib.Core.Path.{ap, _∙_}
 use Prim.Native.Nat.{ℕ}
 use lib.Bits.{bitXor}

@@ -1,3 +1,4 @@
+-- `sampling_generator::DeterministicRng::split_mix_next` meets its contract: `wrapping_add_u64` promises the sum modulo 2 ^ 64. Assumes nothing.
 use Rattle.sampling_generator.specs.Random.{splitMixNext}
 use Rattle.sampling_generator.proofs.DeterministicRng.split_mix_next.Statement.{statement}
 use Rattle.sampling_generator.proofs.DeterministicRng.split_mix_next.Tie as tie

@@ -1,3 +1,4 @@
+-- `sampling_generator::DeterministicRng::split_mix_word` meets its contract: `shift_xor` and `wrapping_mul` promise each step of the definition. Assumes nothing.
 use borrow.Author.Needs.{needs}
 use Rattle.sampling_generator.specs.Random.{splitMixWord}
 use Rattle.sampling_generator.proofs.DeterministicRng.split_mix_word.Statement.{statement}

@@ -1,4 +1,4 @@
--- `sanity_calls::sanity::or_else` meets its contract. Assumes nothing.
+-- `sanity_calls::sanity::or_else` meets its contract: each case of what `is_sound` promises of `found` is the definition's. Assumes nothing.
 use mathlib.Core.Path.{sym, _∙_}
 use Rattle.sanity_verdicts.proofs.Scans.{sound-of, or-sound, or-found}
 use Rattle.sanity_calls.proofs.sanity.or_else.Statement.{statement}

@@ -1,4 +1,4 @@
--- `sanity_calls::sanity::sanity_check` meets its contract. Assumes nothing.
+-- `sanity_calls::sanity::sanity_check` meets its contract: columns that are too short give 6, else `verdict_of` promises the verdict. Assumes nothing.
 use mathlib.Core.Path.{_≡_, sym, ap, _∙_}
 use mathlib.Core.Bool.{Bool, true, false, cond}
 use borrow.Author.Tests.{not-true, not-false}

@@ -1,4 +1,4 @@
--- `sanity_calls::sanity::sanity_long` meets its contract. Assumes nothing.
+-- `sanity_calls::sanity::sanity_long` meets its contract: each callee promises one part of the definition, and `both` joins them. Assumes nothing.
 use mathlib.Core.Bool.{_&&_}
 use mathlib.Core.Path.{_∙_}
 use Rattle.sanity_verdicts.specs.Sanity.{sanityLong}

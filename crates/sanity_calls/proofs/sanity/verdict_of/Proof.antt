@@ -1,4 +1,4 @@
--- `sanity_calls::sanity::verdict_of` meets its contract. Assumes nothing.
+-- `sanity_calls::sanity::verdict_of` meets its contract: no vertices or no edges give Empty, else the callees promise the first finding. Assumes nothing.
 use mathlib.Core.Path.{_∙_}
 use Rattle.sanity_verdicts.specs.Sanity.{orElse}
 use Rattle.sanity_calls.proofs.Verdicts.{no-vertices, no-edge, scanned}

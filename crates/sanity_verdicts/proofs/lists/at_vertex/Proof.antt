@@ -1,4 +1,4 @@
--- `sanity_verdicts::lists::at_vertex` meets its contract. Assumes nothing.
+-- `sanity_verdicts::lists::at_vertex` meets its contract: an empty list is the finding, else `twice_in` promises it. Assumes nothing.
 use mathlib.Core.Path.{_∙_}
 use Rattle.sanity_verdicts.proofs.Stamping.{no-edges, some-edges, below-more}
 use borrow.Author.Needs.{needs}

@@ -1,4 +1,4 @@
--- `sanity_verdicts::lists::is_seen` meets its contract. Assumes nothing.
+-- `sanity_verdicts::lists::is_seen` meets its contract: below 32,768 the stamp of x decides, else `stands_before` promises it. Assumes nothing.
 use native.Mathlib.Omega.{arith}
 use Rattle.sanity_verdicts.proofs.Stamping.{seen-stamp}
 use borrow.Author.Needs.{needs}

@@ -1,4 +1,4 @@
--- `sanity_verdicts::lists::stamp_next` meets its contract. Assumes nothing.
+-- `sanity_verdicts::lists::stamp_next` meets its contract: x is stamped where it is below 32,768, and no other number has a stamp. Assumes nothing.
 use Rattle.sanity_verdicts.proofs.Stamping.{stamp-one, stamp-none}
 use borrow.Author.Needs.{needs}
 use Rattle.sanity_verdicts.proofs.lists.stamp_next.Statement.{statement}

@@ -1,4 +1,4 @@
--- `sanity_verdicts::lists::vertices_checked` meets its contract. Assumes nothing.
+-- `sanity_verdicts::lists::vertices_checked` meets its contract: the array holds 0 alone, so that no stamp is above 0. Assumes nothing.
 use Prim.Native.Nat.{ℕ}
 use native.Mathlib.Omega.{arith}
 use lib.ListN.{length-replicate}

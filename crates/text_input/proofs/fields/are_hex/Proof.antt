@@ -1,4 +1,4 @@
--- `text_input::fields::are_hex` meets its contract. Assumes nothing.
+-- `text_input::fields::are_hex` meets its contract. Invariant: the first i bytes from `at` on are hexadecimal digits. Assumes nothing.
 use mathlib.Core.Path.{_≡_, refl, sym, ap, _∙_}
 use mathlib.Core.Bool.{true}
 use mathlib.Core.List.{List, [], _∷_}

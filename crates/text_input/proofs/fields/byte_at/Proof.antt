@@ -1,4 +1,4 @@
--- `text_input::fields::byte_at` meets its contract. Assumes nothing.
+-- `text_input::fields::byte_at` meets its contract: past the end `getD` gives 0, else the byte. Assumes nothing.
 use mathlib.Core.Path.{sym}
 use Prim.Native.Nat.{ℕ, _+_, _-_, _*_, _≤_, _<_}
 use lib.ListN.{List·getD-eq-default}

@@ -1,4 +1,4 @@
--- `text_input::fields::decimal_sound` meets its contract. Assumes nothing.
+-- `text_input::fields::decimal_sound` meets its contract: each callee promises one part of the definition, and byte k from `at` on is byte at + k. Assumes nothing.
 use mathlib.Core.Path.{_≡_, sym, ap, _∙_}
 use mathlib.Core.Bool.{not, _&&_, _||_}
 use mathlib.Core.List.{List}

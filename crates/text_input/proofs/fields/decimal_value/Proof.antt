@@ -1,4 +1,4 @@
--- `text_input::fields::decimal_value` meets its contract. Assumes nothing.
+-- `text_input::fields::decimal_value` meets its contract. Invariant: v is what the first i digits write, and at most 9 digits fit a u32. Assumes nothing.
 use mathlib.Core.Path.{_≡_, sym, ap, _∙_}
 use Prim.Native.Nat.{ℕ, _+_, _-_, _*_, _≤_, _<_}
 use native.Mathlib.Omega.{arith}

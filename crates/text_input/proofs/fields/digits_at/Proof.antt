@@ -1,4 +1,4 @@
--- `text_input::fields::digits_at` meets its contract. Assumes nothing.
+-- `text_input::fields::digits_at` meets its contract. Invariant: the digits from `at` on are n more than those from at + n on. Assumes nothing.
 use mathlib.Core.Path.{_≡_, sym, _∙_}
 use Prim.Native.Nat.{ℕ, _+_, _-_, _*_, _≤_, _<_}
 use native.Mathlib.Omega.{arith}

@@ -1,4 +1,4 @@
--- `text_input::fields::hex_digit_of` meets its contract. Assumes nothing.
+-- `text_input::fields::hex_digit_of` meets its contract: up to 57 and from 87 on it is the difference, and between them b - 87 is cut at 0. Assumes nothing.
 use mathlib.Core.Path.{_≡_, sym, ap, _∙_}
 use mathlib.Core.Bool.{Bool, cond}
 use Prim.Native.Nat.{ℕ, _+_, _-_, _*_, _≤_, _<_}

@@ -1,4 +1,4 @@
--- `text_input::fields::hex_sound` meets its contract. Assumes nothing.
+-- `text_input::fields::hex_sound` meets its contract: fewer than 16 bytes fail the first test, else the callees promise the other two. Assumes nothing.
 use mathlib.Core.Path.{sym, ap, _∙_}
 use mathlib.Core.Bool.{Bool, _&&_}
 use mathlib.Core.List.{List}

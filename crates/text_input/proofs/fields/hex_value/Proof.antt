@@ -1,4 +1,4 @@
--- `text_input::fields::hex_value` meets its contract. Assumes nothing.
+-- `text_input::fields::hex_value` meets its contract. Invariant: v is what the first i digits write, and 16 digits fit a u64. Assumes nothing.
 use mathlib.Core.Path.{_≡_, sym, ap, _∙_}
 use Prim.Native.Nat.{ℕ, _+_, _-_, _*_, _≤_, _<_}
 use native.Mathlib.Omega.{arith}

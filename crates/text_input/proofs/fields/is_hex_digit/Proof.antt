@@ -1,4 +1,4 @@
--- `text_input::fields::is_hex_digit` meets its contract. Assumes nothing.
+-- `text_input::fields::is_hex_digit` meets its contract: each callee promises one part of the definition, and `either` joins them. Assumes nothing.
 use mathlib.Core.Path.{_∙_}
 use mathlib.Core.Bool.{_||_}
 use Prim.Native.Nat.{ℕ, _+_, _-_, _*_, _≤_, _<_}

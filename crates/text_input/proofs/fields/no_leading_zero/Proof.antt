@@ -1,4 +1,4 @@
--- `text_input::fields::no_leading_zero` meets its contract. Assumes nothing.
+-- `text_input::fields::no_leading_zero` meets its contract: each case of the test of n gives what the disjunction does. Assumes nothing.
 use mathlib.Core.Path.{sym, ap}
 use mathlib.Core.Bool.{Bool, not, _||_}
 use Prim.Native.Nat.{ℕ, _+_, _-_, _*_, _≤_, _<_}

@@ -1,4 +1,4 @@
--- `text_listing::built::crossing_in` meets its contract. Assumes nothing.
+-- `text_listing::built::crossing_in` meets its contract: the columns pass questions 6 and 7, so that the reply of `crossing` is that of the code. Assumes nothing.
 use Rattle.text_listing.proofs.Crossed.{replied}
 use borrow.Author.Needs.{needs}
 use Rattle.text_listing.proofs.built.crossing_in.Statement.{statement}

@@ -1,5 +1,4 @@
--- `text_listing::built::crossing_of` meets its contract. Assumes nothing.
-
+-- `text_listing::built::crossing_of` meets its contract: the arrays are as long as `crossing_in` requires. Assumes nothing.
 use mathlib.Core.Path.{refl}
 use borrow.Author.Needs.{needs}
 use Rattle.text_listing.proofs.built.crossing_of.Statement.{statement}

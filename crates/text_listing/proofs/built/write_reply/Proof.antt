@@ -1,4 +1,4 @@
--- `text_listing::built::write_reply` meets its contract. Assumes nothing.
+-- `text_listing::built::write_reply` meets its contract: each case of the reply is what `write_refusal` or `write_listing` promises. Assumes nothing.
 use Rattle.text_listing.proofs.Texts.{refused-reply, crossed-reply}
 use borrow.Author.Needs.{needs}
 use Rattle.text_listing.proofs.built.write_reply.Statement.{statement}

@@ -1,4 +1,4 @@
--- `text_listing::built::write_weighed` meets its contract. Assumes nothing.
+-- `text_listing::built::write_weighed` meets its contract: `store_weights` stores the weights of the code, so that the reply is about the code. Assumes nothing.
 use native.Mathlib.Omega.{arith}
 use Prim.Native.Nat.{ℕ, _≤_}
 use Rattle.text_listing.proofs.Holds.{h-few, h-long, holds-weights}

@@ -1,4 +1,4 @@
--- `text_numbers::lines::put_edges` meets its contract. Assumes nothing.
+-- `text_numbers::lines::put_edges` meets its contract. Invariant: the lines of the first e edges are put, and the text keeps its length. Assumes nothing.
 use mathlib.Core.Path.{_≡_, refl, ap, _∙_}
 use Prim.Native.Nat.{ℕ, _+_, _-_, _*_, _≤_, _<_}
 use native.Mathlib.Omega.{arith}

@@ -1,4 +1,4 @@
--- `text_numbers::lines::put_graph` meets its contract. Assumes nothing.
+-- `text_numbers::lines::put_graph` meets its contract: each part is put where the one before it ends, and joined they are the line. Assumes nothing.
 use mathlib.Core.List.{[], _∷_}
 use Prim.Native.Nat.{ℕ, _+_, _-_, _*_, _≤_, _<_}
 use native.Mathlib.Omega.{arith}

@@ -1,4 +1,4 @@
--- `text_numbers::lines::write_listing` meets its contract. Assumes nothing.
+-- `text_numbers::lines::write_listing` meets its contract: each part is put where the one before it ends, and joined they are the listing. Assumes nothing.
 use mathlib.Core.List.{List, [], _∷_, _++_}
 use Prim.Native.Nat.{ℕ, _+_, _≤_}
 use native.Mathlib.Omega.{arith}

@@ -1,4 +1,4 @@
--- `weights_calls::known::half_weight_of` meets its contract. Assumes nothing.
+-- `weights_calls::known::half_weight_of` meets its contract: `half_weight` promises it of the weight that `edge_weight` promises. Assumes nothing.
 use mathlib.Core.Path.{ap, _∙_}
 use lib.Ieee.{Float}
 use Rattle.weights_recipe.specs.Rounding.{halfWeight}

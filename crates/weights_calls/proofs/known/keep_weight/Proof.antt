@@ -1,4 +1,4 @@
--- `weights_calls::known::keep_weight` meets its contract. Assumes nothing.
+-- `weights_calls::known::keep_weight` meets its contract: each place written gets a probability and its weight, so the table stays right. Assumes nothing.
 use native.Mathlib.Omega.{arith}
 use lib.ListN.{length, getD, length-set}
 use lib.Ieee.{nan}

@@ -1,4 +1,4 @@
--- `weights_calls::known::known_half_weight` meets its contract. Assumes nothing.
+-- `weights_calls::known::known_half_weight` meets its contract: a place found has p's half weight since the table is right, else the callee promises it. Assumes nothing.
 use mathlib.Core.Path.{_≡_, _∙_, ap}
 use native.Mathlib.Omega.{arith}
 use lib.ListN.{length}

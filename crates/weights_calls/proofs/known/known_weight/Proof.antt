@@ -1,4 +1,4 @@
--- `weights_calls::known::known_weight` meets its contract. Assumes nothing.
+-- `weights_calls::known::known_weight` meets its contract: a place found has p's weight since the table is right, else `keep_weight` promises it. Assumes nothing.
 use mathlib.Core.Path.{_≡_, _∙_}
 use native.Mathlib.Omega.{arith}
 use lib.ListN.{length}

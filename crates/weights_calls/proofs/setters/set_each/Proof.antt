@@ -1,4 +1,4 @@
--- `weights_calls::setters::set_each` meets its contract. Assumes nothing.
+-- `weights_calls::setters::set_each` meets its contract: where no question fails `fill_f64` stores the value, else nothing is changed. Assumes nothing.
 use mathlib.Core.Path.{_≡_, sym, ap, _∙_}
 use native.Mathlib.Omega.{arith}
 use Prim.Native.Nat.{_≤_}

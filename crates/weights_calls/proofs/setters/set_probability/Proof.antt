@@ -1,4 +1,4 @@
--- `weights_calls::setters::set_probability` meets its contract. Assumes nothing.
+-- `weights_calls::setters::set_probability` meets its contract: it hands on what `set_each` promises, with question 9 as the test promises. Assumes nothing.
 use Rattle.weights_calls.proofs.Tested.{tested}
 use Rattle.weights_calls.proofs.setters.set_probability.Statement.{statement}
 use Rattle.weights_calls.proofs.setters.set_probability.Tie as tie

@@ -1,4 +1,4 @@
--- `weights_recipe::rounding::half_weight` meets its contract. Assumes nothing.
+-- `weights_recipe::rounding::half_weight` meets its contract: `greatest_reached` promises a number of at most max, and 0 becomes 1. Assumes nothing.
 use mathlib.Core.Path.{_≡_, refl, _∙_, ap}
 use Prim.Native.Nat.{ℕ, zero, suc, _≤_}
 use native.Mathlib.Omega.{arith}

@@ -1,4 +1,4 @@
--- `weights_recipe::rounding::is_reached` meets its contract. Assumes nothing.
+-- `weights_recipe::rounding::is_reached` meets its contract: the test is that of the definition, and n goes into an f64 since it is at most 2 ^ 53. Assumes nothing.
 use mathlib.Core.Path.{refl}
 use native.Mathlib.Omega.{arith}
 use Rattle.weights_recipe.specs.Rounding.{reaches}

@@ -1,4 +1,4 @@
--- `weights_recipe::rounding::near` meets its contract. Assumes nothing.
+-- `weights_recipe::rounding::near` meets its contract: each arm returns at most max, and the tests bound x as the conversion requires. Assumes nothing.
 use mathlib.Core.Path.{sym, subst}
 use lib.Dec.{T}
 use lib.Ieee.{ofBits, neg}

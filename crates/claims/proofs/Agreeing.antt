@@ -23,7 +23,6 @@ use Rattle.engine_walks.specs.Answers.{crossing, leastFromLeft, weightIn}
 use Rattle.query_crossing_answer.specs.declared.CrossingReply.{CrossingReply}
 use Rattle.query_crossing_answer.specs.declared.CrossingReply.the-variants.{Crossed}
 use Rattle.query_questions.specs.Queries as Q
-use Rattle.query_questions.specs.Queries.{scratchLong}
 use Rattle.query_crossing_answer.specs.Crossing as C
 use Rattle.query_crossing_answer.specs.Crossing.{isJoined, weightFound, replyNumber, crossingSaid}
 use Rattle.query_crossing_answer.proofs.Cases.{crossed-case}
@@ -31,10 +30,11 @@ use Rattle.query_crossings.proofs.Crossings.{left-length}
 use Rattle.query_search.proofs.Ranges.{in-range}
 use Rattle.claims.specs.Listed.{OwnLengths, tallyGraph, tallyWeights, crossingLong, before18, tallyCrossingRefusal}
 use Rattle.columns_answers.specs.Said.{Answered}
+use Rattle.query_questions.specs.Scratch.{scratchLong}
 
 -- whether scratch is long enough, from its lengths
 abbrev fits : Engine → OwnLengths → Bool
-fits e o = scratchLong (e .counts .vertices) (e .counts .edges) (o .scratch)
+fits e o = scratchLong (e .counts) (o .scratch)
 
 -- what a crossing answers and leaves in the weight column, from the lengths of its columns
 pub record CrossingBy (e : Engine) (o : OwnLengths) (r : CrossingReply) (column₀ column : List ℤ) : Type 0 where
@@ -73,7 +73,7 @@ module _ (t : Tally) (e : Engine) (a : Agrees t e) where
 
   number-same : (o : OwnLengths) → C.crossingRefusal e (fits e o) (o .weights) ≡ tallyCrossingRefusal (lengthsOf e) o t
   number-same o =
-      (λ i. ask (long-same 0 e (t .counts) (a .counts-are) i && (leb (a .counts-are i .vertices) (o .weights) && scratchLong (a .counts-are i .vertices) (a .counts-are i .edges) (o .scratch))) 6
+      (λ i. ask (long-same 0 e (t .counts) (a .counts-are) i && (leb (a .counts-are i .vertices) (o .weights) && scratchLong (a .counts-are i) (o .scratch))) 6
       (ask (sound-from e (a .sound) i) 7 (ask (isJoined (crossing (graph-same i) (weights-same i))) 18 0)))
 
   module _ (o : OwnLengths) (r : CrossingReply) (column₀ column : List ℤ) (step : CrossingBy e o r column₀ column) where

@@ -64,7 +64,7 @@ module _ (e : Engine) (r : CrossingReply) (weights₀ weights : List ℤ) (scrat
           column = λ z. absurd (omega (arith, z, n));
         }
     passed (some W) c f =
-        let met-all : crossingRefusal e (scratchFits e scratch₀) (length weights₀) ≡ 0 = λ i. ask (p i) 6 (ask (q i) 7 (ask (isJoined (c i)) 18 0)) in
+        let met-all : crossingRefusal e (scratchFits (e .counts) scratch₀) (length weights₀) ≡ 0 = λ i. ask (p i) 6 (ask (q i) 7 (ask (isJoined (c i)) 18 0)) in
         let n : replyNumber r ≡ 0 = step .answers .number-is ∙ met-all in
         let there : LeftJoinsRight g = (let (x, y, s, l, k, t, z) = f .walk .a-walk in (x, y, l, k, (s, t))) in
         let left : weights ≡ over (leastFromLeft g w) weights₀ =

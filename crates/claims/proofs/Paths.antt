@@ -58,7 +58,7 @@ module _ (e : Engine) (a b : ℕ) (r : Reply) (columns₀ columns : PathColumns)
   by-case (suc n) o d p h =
       let q : foundSaid r .number ≡ suc n = replies (suc n) o d p in
       record {
-        not-reached = ((λ z. absurd (before-17 e (scratchFits e scratch₀) a b (length (columns₀ .vertices)) (length (columns₀ .steps)) (d ∙ sym q ∙ z))), λ z. absurd (unmet d (z .0)));
+        not-reached = ((λ z. absurd (before-17 e (scratchFits (e .counts) scratch₀) a b (length (columns₀ .vertices)) (length (columns₀ .steps)) (d ∙ sym q ∙ z))), λ z. absurd (unmet d (z .0)));
         reached = ((λ z. absurd (omega (arith, z, q))), λ z. absurd (unmet d (z .0)));
         least = λ z. absurd (omega (arith, z, q));
       }

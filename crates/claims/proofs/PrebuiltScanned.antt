@@ -41,7 +41,7 @@ module _ {A : Type 0} where
 module _ (e : Engine) (weights₀ weights : List ℤ) (vertices₀ vertices : List ℕ) (least₀ least : List ℤ) (before₀ before : List ℕ) (scratch₀ scratch : ScratchColumns)
     (s : ours.FilledBoundaries e Accepted weights₀ weights vertices₀ vertices least₀ least before₀ before scratch₀ scratch) where
   abbrev refusal : ℕ
-  refusal = ours.boundariesRefusal e (scratchFits e scratch₀) (length weights₀) (length vertices₀) (length least₀) (length before₀)
+  refusal = ours.boundariesRefusal e (scratchFits (e .counts) scratch₀) (length weights₀) (length vertices₀) (length least₀) (length before₀)
 
   met : refusal ≡ 0
   met = zero-of (s .answers)
@@ -65,7 +65,7 @@ vertex-of e weights vertices (called.BoundariesFilled.filled κs a s l) v h = ve
 module _ (e : Engine) (v : ℕ) (near out₀ out : List ℤ) (before₀ before : List ℕ) (scratch₀ scratch : ScratchColumns) (s : FilledRow e v near Accepted out₀ out before₀ before scratch₀ scratch)
     (b : (v : ℕ) → v < e .counts .vertices → weightIn near v ≡ weightEntry (getBoundaryWeight (graphIn e) (weightsIn e) v)) where
   abbrev number : ℕ
-  number = rowRefusal e (scratchFits e scratch₀) v (length near) (length out₀) (length before₀)
+  number = rowRefusal e (scratchFits (e .counts) scratch₀) v (length near) (length out₀) (length before₀)
 
   none-asked : number ≡ 0
   none-asked = zero-of (s .answers)
@@ -74,7 +74,7 @@ module _ (e : Engine) (v : ℕ) (near out₀ out : List ℤ) (before₀ before :
   row-at u h =
       let g = graphIn e in
       let w = weightsIn e in
-      let q = row-asked e (scratchFits e scratch₀) v (length near) (length out₀) (length before₀) none-asked in
+      let q = row-asked e (scratchFits (e .counts) scratch₀) v (length near) (length out₀) (length before₀) none-asked in
       let own = b v (q .v-in) in
       let other = b u h in
       at-place number (e .counts .vertices) (rowEntry (g .boundary) near v (table g w v none .weights)) out₀ out (negsuc 0) none-asked (s .out-after) u h
@@ -99,14 +99,14 @@ least-in g w v u k (inr r) e = absurd (let q : _≡_ {A = ℕ} 0 1 = (let s = r 
 
 module _ (e : Engine) (v : ℕ) (near out₀ out : List ℤ) (before₀ before : List ℕ) (scratch₀ scratch : ScratchColumns) (s : FilledRow e v near Accepted out₀ out before₀ before scratch₀ scratch) where
   abbrev question : ℕ
-  question = rowRefusal e (scratchFits e scratch₀) v (length near) (length out₀) (length before₀)
+  question = rowRefusal e (scratchFits (e .counts) scratch₀) v (length near) (length out₀) (length before₀)
 
   least-at : (u k : ℕ) → u < e .counts .vertices → weightIn out u ≡ pos k → LeastWeight (graphIn e) (weightsIn e) (λ x. x ≡ v) u k
   least-at u k h p =
       let g = graphIn e in
       let w = weightsIn e in
       let z : question ≡ 0 = zero-of (s .answers) in
-      let q = row-asked e (scratchFits e scratch₀) v (length near) (length out₀) (length before₀) z in
+      let q = row-asked e (scratchFits (e .counts) scratch₀) v (length near) (length out₀) (length before₀) z in
       let x = at-place question (e .counts .vertices) (rowEntry (g .boundary) near v (table g w v none .weights)) out₀ out (negsuc 0) z (s .out-after) u h in
       let y = kept (virtual g v || (virtual g u || eqb u v)) (inTheMiddle (weightIn near v) (weightIn near u) (weightIn (table g w v none .weights) u)) (weightIn (table g w v none .weights) u) k (sym x ∙ p) in
       least-in g w v u k (table-is-least g w v none (in-range e (q .long) (q .sound)) (q .v-in) .rows u h) y

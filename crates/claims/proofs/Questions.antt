@@ -46,11 +46,11 @@ end-from (At b) n h = lt-ltb (b .0) n h
 
 module _ (e : Engine) (source : ℕ) (o : End) (columns : TableColumns) (scratch : ScratchColumns) where
   abbrev pub tableNumber : ℕ
-  tableNumber = tableRefusal e (scratchFits e scratch) source o (length (columns .weights)) (length (columns .previous))
+  tableNumber = tableRefusal e (scratchFits (e .counts) scratch) source o (length (columns .weights)) (length (columns .previous))
 
   pub table-met : tableNumber ≡ 0 → TableMet e source (endIn o) columns scratch
   table-met z =
-      let a = table-of e (scratchFits e scratch) source o (length (columns .weights)) (length (columns .previous)) z in
+      let a = table-of e (scratchFits (e .counts) scratch) source o (length (columns .weights)) (length (columns .previous)) z in
       record {
         six-and-seven = record {
           graph-long = long-from 0 e (a .long);
@@ -72,11 +72,11 @@ module _ (e : Engine) (source : ℕ) (o : End) (columns : TableColumns) (scratch
 
 module _ (e : Engine) (a b : ℕ) (columns : PathColumns) (scratch : ScratchColumns) where
   abbrev pub pathNumber : ℕ
-  pathNumber = pathAsked e (scratchFits e scratch) a b (length (columns .vertices)) (length (columns .steps))
+  pathNumber = pathAsked e (scratchFits (e .counts) scratch) a b (length (columns .vertices)) (length (columns .steps))
 
   pub path-met : pathNumber ≡ 0 → PathMet e a b columns scratch
   path-met z =
-      let q = path-asked e (scratchFits e scratch) a b (length (columns .vertices)) (length (columns .steps)) z in
+      let q = path-asked e (scratchFits (e .counts) scratch) a b (length (columns .vertices)) (length (columns .steps)) z in
       record {
         six-and-seven = record {
           graph-long = long-from 0 e (q .long);
@@ -100,11 +100,11 @@ module _ (e : Engine) (a b : ℕ) (columns : PathColumns) (scratch : ScratchColu
 module _ (e : Engine) (weights : List ℤ) (scratch : ScratchColumns) where
   -- 6 as one test
   abbrev pub longAll : Bool
-  longAll = engineLong 0 e && (leb (e .counts .vertices) (length weights) && scratchFits e scratch)
+  longAll = engineLong 0 e && (leb (e .counts .vertices) (length weights) && scratchFits (e .counts) scratch)
 
   pub crossing-met : longAll ≡ true → engineSound e ≡ true → CrossingMet e weights scratch
   crossing-met p q =
-      let a = crossing-of e (scratchFits e scratch) (length weights) (λ i. ask (p i) 6 (ask (q i) 7 0)) in
+      let a = crossing-of e (scratchFits (e .counts) scratch) (length weights) (λ i. ask (p i) 6 (ask (q i) 7 0)) in
       record { graph-long = long-from 0 e (a .long); written-long = (a .weights-long, tt); scratch-long = a .scratch-is; graph-sound = q }
 
   pub crossing-long : CrossingMet e weights scratch → longAll ≡ true

@@ -9,9 +9,8 @@ use Rattle.engine_columns.specs.declared.EngineCounts.{EngineCounts}
 use Rattle.engine_tally.specs.Tally.{Lengths, Tally, Fed, tallyLong, tallyRefusal, tallyStep, tallyAfter}
 use Rattle.engine_walks.specs.Graph.{Graph}
 use Rattle.engine_walks.specs.Answers.{crossing}
-use Rattle.query_questions.specs.Queries.{scratchLong}
 use Rattle.query_crossing_answer.specs.Crossing.{isJoined}
-use Rattle.query_questions.specs.declared.ScratchLengths.{ScratchLengths}
+use Rattle.query_questions.specs.Scratch.{ScratchLengths, scratchLong}
 
 -- Engine, Tally, sentence 5: the lengths of the columns that only a crossing is lent: the weight column and scratch.
 pub record OwnLengths : Type 0 where
@@ -36,7 +35,7 @@ abbrev pub crossingLong : Lengths → OwnLengths → EngineCounts → Bool
 crossingLong k o c =
     tallyLong 0 k c
     && (leb (c .vertices) (o .weights)
-    && scratchLong (c .vertices) (c .edges) (o .scratch))
+    && scratchLong c (o .scratch))
 
 -- Engine, Tally, sentence 7: the question of a crossing before 18: 7 is always met.
 abbrev pub before18 : Lengths → OwnLengths → Tally → ℕ

@@ -21,7 +21,7 @@ use Rattle.claims.specs.QueriesCalled.{PathColumns}
 pub record Met (e : Engine) (written : List ℕ) (scratch : ScratchColumns) : Type 0 where
   pub graph-long : engineLong 0 e ≡ true
   pub written-long : All (λ n. e .counts .vertices ≤ n) written
-  pub scratch-long : scratchFits e scratch ≡ true
+  pub scratch-long : scratchFits (e .counts) scratch ≡ true
   pub graph-sound : engineSound e ≡ true
 
 -- Questions at the door, 13, of an end that is named.

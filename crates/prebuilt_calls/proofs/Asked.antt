@@ -10,18 +10,17 @@ use Rattle.columns.proofs.Tests.{and-both}
 use Rattle.engine_columns.specs.Records.{Engine}
 use Rattle.engine_columns.proofs.Refusals.{long-from, sound-from}
 use Rattle.query_tables.specs.declared.End.the-variants.{None}
-use Rattle.query_questions.specs.Queries.{scratchLong}
 use Rattle.query_tables.specs.Tables.{tableRefusal}
-use Rattle.query_questions.specs.Scratch.{isFree}
+use Rattle.query_questions.specs.Scratch.{isFree, scratchLong, ScratchLengths}
 use Rattle.query_search.proofs.Asked.{query-of}
 use Rattle.query_search.proofs.Scratch.{query-kept}
 use Rattle.prebuilt_calls.specs.Steps.{Fillable}
 use Rattle.prebuilt_calls.specs.Boundaries.{boundariesRefusal}
-use Rattle.query_questions.specs.declared.ScratchLengths.{ScratchLengths}
+use Rattle.query_questions.specs.Scratch.{ScratchLengths}
 
 module _ (e : Engine) (weights vertices least before : ℕ) (l : ScratchLengths) where
   abbrev scratch : Bool
-  scratch = scratchLong (e .counts .vertices) (e .counts .edges) l
+  scratch = scratchLong (e .counts) l
 
   -- a search from v is accepted
   pub search-accepted : Fillable e weights vertices least before l → (v : ℕ) → v < e .counts .vertices
@@ -63,5 +62,5 @@ same-room {e} r ew ev el eb es = record {
   vertices-fit = omega (arith, r .vertices-fit);
   least-fits = omega (arith, r .least-fits);
   before-fits = omega (arith, r .before-fits);
-  scratch-fits = ap (scratchLong (e .counts .vertices) (e .counts .edges)) es ∙ r .scratch-fits;
+  scratch-fits = ap (scratchLong (e .counts)) es ∙ r .scratch-fits;
 }

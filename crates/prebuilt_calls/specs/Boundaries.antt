@@ -44,11 +44,11 @@ boundariesRefusal e scratch weights vertices least before =
 -- what the table from the last vertex leaves.
 pub record FilledBoundaries (e : Engine) (answer : Done) (weights₀ weights : List ℤ) (vertices₀ vertices : List ℕ) (least₀ least : List ℤ) (before₀ before : List ℕ)
     (scratch₀ scratch : ScratchColumns) : Type 0 where
-  pub answers : Answered (doneSaid answer) (boundariesRefusal e (scratchFits e scratch₀) (length weights₀) (length vertices₀) (length least₀) (length before₀)) tt tt
+  pub answers : Answered (doneSaid answer) (boundariesRefusal e (scratchFits (e .counts) scratch₀) (length weights₀) (length vertices₀) (length least₀) (length before₀)) tt tt
   pub weights-after : weights
-      ≡ after (boundariesRefusal e (scratchFits e scratch₀) (length weights₀) (length vertices₀) (length least₀) (length before₀))
+      ≡ after (boundariesRefusal e (scratchFits (e .counts) scratch₀) (length weights₀) (length vertices₀) (length least₀) (length before₀))
       (each (e .counts .vertices) (boundaryWeight (graphIn e) (weightsIn e))) weights₀
   pub vertices-after : vertices
-      ≡ after (boundariesRefusal e (scratchFits e scratch₀) (length weights₀) (length vertices₀) (length least₀) (length before₀))
+      ≡ after (boundariesRefusal e (scratchFits (e .counts) scratch₀) (length weights₀) (length vertices₀) (length least₀) (length before₀))
       (each (e .counts .vertices) (boundaryVertex (graphIn e) (weightsIn e))) vertices₀
   pub scratch-after : TableInside (doneSaid answer .number) e (e .counts .vertices - 1) least₀ least before₀ before scratch₀ scratch

@@ -31,7 +31,7 @@ rowRefusal e scratch v nearest out before =
 -- complete_graph.rs, `PrebuiltCompleteGraph`: the answer of `fill_row`, and the row's column. Engine, Table: the column of previous vertices, which serves as
 -- scratch, and scratch hold what the table from v with no end leaves. A refused call leaves them as they were.
 pub record FilledRow (e : Engine) (v : ℕ) (nearest : List ℤ) (answer : Done) (out₀ out : List ℤ) (before₀ before : List ℕ) (scratch₀ scratch : ScratchColumns) : Type 0 where
-  pub answers : Answered (doneSaid answer) (rowRefusal e (scratchFits e scratch₀) v (length nearest) (length out₀) (length before₀)) tt tt
-  pub out-after : out ≡ after (rowRefusal e (scratchFits e scratch₀) v (length nearest) (length out₀) (length before₀)) (row (graphIn e) (weightsIn e) nearest v) out₀
+  pub answers : Answered (doneSaid answer) (rowRefusal e (scratchFits (e .counts) scratch₀) v (length nearest) (length out₀) (length before₀)) tt tt
+  pub out-after : out ≡ after (rowRefusal e (scratchFits (e .counts) scratch₀) v (length nearest) (length out₀) (length before₀)) (row (graphIn e) (weightsIn e) nearest v) out₀
   pub before-after : before ≡ after (doneSaid answer .number) (table (graphIn e) (weightsIn e) v none .previous) before₀
   pub scratch-after : ScratchAfter (doneSaid answer .number) (graphIn e) (settled (graphIn e) (weightsIn e) (only v) none) scratch₀ scratch

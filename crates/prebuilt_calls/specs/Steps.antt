@@ -6,8 +6,7 @@ use mathlib.Core.List.{List}
 use lib.IntN.{ℤ}
 use Rattle.engine_columns.specs.Records.{Engine}
 use Rattle.engine_columns.specs.Questions.{engineLong, engineSound}
-use Rattle.query_questions.specs.Queries.{scratchLong}
-use Rattle.query_questions.specs.declared.ScratchLengths.{ScratchLengths}
+use Rattle.query_questions.specs.Scratch.{ScratchLengths, scratchLong}
 use Rattle.query_questions.specs.Scratch.{ScratchColumns}
 use Rattle.query_tables.specs.Tables.{TableInside}
 
@@ -19,7 +18,7 @@ pub record Fillable (e : Engine) (weights vertices least before : ℕ) (scratch 
   pub vertices-fit : e .counts .vertices ≤ vertices
   pub least-fits : e .counts .vertices ≤ least
   pub before-fits : e .counts .vertices ≤ before
-  pub scratch-fits : scratchLong (e .counts .vertices) (e .counts .edges) scratch ≡ true
+  pub scratch-fits : scratchLong (e .counts) scratch ≡ true
 
 -- Engine, Table: after the tables from the vertices below n, one after another: what the last one leaves, and where there is none the columns as they were.
 pub record TablesInside (e : Engine) (n : ℕ) (least₀ least : List ℤ) (before₀ before : List ℕ) (scratch₀ scratch : ScratchColumns) : Type 0 where

@@ -17,9 +17,8 @@ use columns::questions::at_most;
 use columns::questions::both;
 use engine_columns::EngineCounts;
 use prebuilt_entries::boundaries::store_boundary;
-use query_questions::ScratchLengths;
 use query_questions::query_refusal;
-use query_questions::scratch_long;
+use query_questions::scratch_fits;
 use query_tables::all_edges;
 
 // The weight and the number of the nearest virtual vertex of v, by a search from v. The columns from `least` on are scratch.
@@ -166,22 +165,19 @@ pub fn fill_boundaries(
         (scratchIn («neighbor_numbers» .exit) («list_ends» .exit) (status .exit) (weight .exit) (previous .exit) (node .exit) (leaf .exit)) ⌝ }
 {
     let v = c.vertices as usize;
-    let scratch = scratch_long(
-        c.vertices,
-        c.edges,
-        ScratchLengths {
-            neighbor_numbers: neighbor_numbers.len(),
-            list_ends: list_ends.len(),
-            status: status.len(),
-            weight: weight.len(),
-            previous: previous.len(),
-            node: node.len(),
-            leaf: leaf.len(),
-        },
+    let room = scratch_fits(
+        c,
+        neighbor_numbers,
+        list_ends,
+        status,
+        weight,
+        previous,
+        node,
+        leaf,
     );
     let search = both(
         at_most(v, least.len()),
-        both(at_most(v, before.len()), scratch),
+        both(at_most(v, before.len()), room),
     );
     let fits = both(
         at_most(v, out_weight.len()),

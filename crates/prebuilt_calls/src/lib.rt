@@ -15,9 +15,8 @@ use columns::questions::at_most;
 use columns::questions::both;
 use engine_columns::EngineCounts;
 use prebuilt_entries::rows::write_row;
-use query_questions::ScratchLengths;
 use query_questions::query_refusal;
-use query_questions::scratch_long;
+use query_questions::scratch_fits;
 use query_tables::all_edges;
 
 // The row of a vertex: for each vertex the least weight to it, -1 where there is no edge. `nearest` holds each vertex's least weight to a virtual one,
@@ -48,25 +47,19 @@ pub fn fill_row(
         (scratchIn («neighbor_numbers» .exit) («list_ends» .exit) (status .exit) (weight .exit) (previous .exit) (node .exit) (leaf .exit)) ⌝ }
 {
     let v = c.vertices as usize;
-    let scratch = scratch_long(
-        c.vertices,
-        c.edges,
-        ScratchLengths {
-            neighbor_numbers: neighbor_numbers.len(),
-            list_ends: list_ends.len(),
-            status: status.len(),
-            weight: weight.len(),
-            previous: previous.len(),
-            node: node.len(),
-            leaf: leaf.len(),
-        },
+    let room = scratch_fits(
+        c,
+        neighbor_numbers,
+        list_ends,
+        status,
+        weight,
+        previous,
+        node,
+        leaf,
     );
     let fits = both(
         at_most(v, nearest.len()),
-        both(
-            at_most(v, out.len()),
-            both(at_most(v, before.len()), scratch),
-        ),
+        both(at_most(v, out.len()), both(at_most(v, before.len()), room)),
     );
     let no = query_refusal(
         c,

@@ -52,6 +52,6 @@ crossingRefusal e scratch weights = crossingAsked e scratch weights (ask (isJoin
 -- Engine, Crossing: the answer of `crossing`, the weight column (sentence 2), and scratch (last sentence): after success and after 18 it holds what the search
 -- from the left leaves; a call that 6 or 7 refuses leaves it as it was.
 pub record FoundCrossing (e : Engine) (answer : CrossingReply) (weights₀ weights : List ℤ) (scratch₀ scratch : ScratchColumns) : Type 0 where
-  pub answers : Answered (crossingSaid answer) (crossingRefusal e (scratchFits e scratch₀) (length weights₀)) (weightFound (crossing (graphIn e) (weightsIn e))) 0
-  pub weights-after : weights ≡ after (crossingRefusal e (scratchFits e scratch₀) (length weights₀)) (leastFromLeft (graphIn e) (weightsIn e)) weights₀
+  pub answers : Answered (crossingSaid answer) (crossingRefusal e (scratchFits (e .counts) scratch₀) (length weights₀)) (weightFound (crossing (graphIn e) (weightsIn e))) 0
+  pub weights-after : weights ≡ after (crossingRefusal e (scratchFits (e .counts) scratch₀) (length weights₀)) (leastFromLeft (graphIn e) (weightsIn e)) weights₀
   pub scratch-after : ScratchAfter (replyNumber answer) (graphIn e) (fromLeft (graphIn e) (weightsIn e)) scratch₀ scratch

@@ -19,8 +19,7 @@ use query_crossing_answer::NO_WEIGHT;
 use query_crossing_answer::crossing_asked;
 use query_crossing_answer::nearest_right;
 use query_crossing_answer::reply;
-use query_questions::ScratchLengths;
-use query_questions::scratch_long;
+use query_questions::scratch_fits;
 use query_search::Origin;
 use query_search::search;
 use query_search::write_weights;
@@ -60,18 +59,15 @@ pub fn crossing(
         (scratchIn («neighbor_numbers» .exit) («list_ends» .exit) (status .exit) (weight .exit) (previous .exit) (node .exit) (leaf .exit)) ⌝ }
 {
     let v = c.vertices as usize;
-    let scratch = scratch_long(
-        c.vertices,
-        c.edges,
-        ScratchLengths {
-            neighbor_numbers: neighbor_numbers.len(),
-            list_ends: list_ends.len(),
-            status: status.len(),
-            weight: weight.len(),
-            previous: previous.len(),
-            node: node.len(),
-            leaf: leaf.len(),
-        },
+    let room = scratch_fits(
+        c,
+        neighbor_numbers,
+        list_ends,
+        status,
+        weight,
+        previous,
+        node,
+        leaf,
     );
     let no = crossing_asked(
         c,
@@ -82,7 +78,7 @@ pub fn crossing(
         log_edges,
         log_weights,
         out_weight.len(),
-        scratch,
+        room,
     );
     if no == 0 {
         search(

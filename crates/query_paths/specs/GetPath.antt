@@ -68,8 +68,8 @@ stepsAfter (some p) column = over (p .steps) column
 -- Engine, Path: the answer of `get_path`, both columns, and scratch (Crossing, last sentence): after success and after 17 it holds what the search from a with the
 -- end b leaves; a call that an earlier question refuses leaves it as it was.
 pub record GotPath (e : Engine) (a b : ℕ) (answer : PathAnswer) (vertices₀ vertices steps₀ steps : List ℕ) (scratch₀ scratch : ScratchColumns) : Type 0 where
-  pub answers : PathSaid (pathAsked e (scratchFits e scratch₀) a b (length vertices₀) (length steps₀)) (path (graphIn e) (weightsIn e) a b) answer
+  pub answers : PathSaid (pathAsked e (scratchFits (e .counts) scratch₀) a b (length vertices₀) (length steps₀)) (path (graphIn e) (weightsIn e) a b) answer
   pub vertices-after : vertices
-      ≡ cond (eqb (pathAsked e (scratchFits e scratch₀) a b (length vertices₀) (length steps₀)) 0) (verticesAfter (path (graphIn e) (weightsIn e) a b) vertices₀) vertices₀
-  pub steps-after : steps ≡ cond (eqb (pathAsked e (scratchFits e scratch₀) a b (length vertices₀) (length steps₀)) 0) (stepsAfter (path (graphIn e) (weightsIn e) a b) steps₀) steps₀
+      ≡ cond (eqb (pathAsked e (scratchFits (e .counts) scratch₀) a b (length vertices₀) (length steps₀)) 0) (verticesAfter (path (graphIn e) (weightsIn e) a b) vertices₀) vertices₀
+  pub steps-after : steps ≡ cond (eqb (pathAsked e (scratchFits (e .counts) scratch₀) a b (length vertices₀) (length steps₀)) 0) (stepsAfter (path (graphIn e) (weightsIn e) a b) steps₀) steps₀
   pub scratch-after : ScratchAfter (foundSaid answer .number) (graphIn e) (settled (graphIn e) (weightsIn e) (only a) (some b)) scratch₀ scratch

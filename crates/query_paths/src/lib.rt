@@ -13,9 +13,8 @@ use columns::questions::asked;
 use columns::questions::at_most;
 use columns::questions::both;
 use engine_columns::EngineCounts;
-use query_questions::ScratchLengths;
 use query_questions::query_refusal;
-use query_questions::scratch_long;
+use query_questions::scratch_fits;
 use query_read_back::is_taken;
 use query_read_back::load;
 use query_read_back::path_length;
@@ -89,22 +88,19 @@ pub fn get_path(
         (scratchIn («neighbor_numbers» .exit) («list_ends» .exit) (status .exit) (weight .exit) (previous .exit) (node .exit) (leaf .exit)) ⌝ }
 {
     let v = c.vertices as usize;
-    let scratch = scratch_long(
-        c.vertices,
-        c.edges,
-        ScratchLengths {
-            neighbor_numbers: neighbor_numbers.len(),
-            list_ends: list_ends.len(),
-            status: status.len(),
-            weight: weight.len(),
-            previous: previous.len(),
-            node: node.len(),
-            leaf: leaf.len(),
-        },
+    let room = scratch_fits(
+        c,
+        neighbor_numbers,
+        list_ends,
+        status,
+        weight,
+        previous,
+        node,
+        leaf,
     );
     let fits = both(
         at_most(v, out_vertices.len()),
-        both(at_most(v, out_steps.len()), scratch),
+        both(at_most(v, out_steps.len()), room),
     );
     let in_range = both(a.0 < c.vertices, b.0 < c.vertices);
     let no = query_refusal(

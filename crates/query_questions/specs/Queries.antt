@@ -1,13 +1,11 @@
 -- The engine graph that a query reads, and its questions 6, 7 and 13.
-use Prim.Native.Nat.{ℕ, _*_}
+use Prim.Native.Nat.{ℕ}
 use mathlib.Core.Bool.{Bool, _&&_}
 use lib.ListN.{take, getD}
-use lib.Dec.{leb}
 use Rattle.columns.specs.Questions.{ask}
 use Rattle.engine_columns.specs.Records.{Engine}
 use Rattle.engine_columns.specs.Questions.{engineLong, engineSound}
 use Rattle.engine_walks.specs.Graph.{Graph}
-use Rattle.query_questions.specs.declared.ScratchLengths.{ScratchLengths}
 
 -- Records, on engine graphs: the graph in the columns, without the places past the counts.
 abbrev pub graphIn : Engine → Graph
@@ -21,11 +19,6 @@ graphIn e = record {
 -- Records, on engine graphs: the weights in force.
 abbrev pub weightsIn : Engine → ℕ → ℕ
 weightsIn e k = getD (take (e .counts .edges) (e .weights)) k 0
-
--- Questions at the door, 6, of scratch: each column as long as the vertices, neighbour numbers twice the edges.
-unfoldable pub scratchLong : (v e : ℕ) → ScratchLengths → Bool
-scratchLong v e l =
-    leb (2 * e) (l .«neighbor_numbers») && (leb v (l .«list_ends») && (leb v (l .status) && (leb v (l .weight) && (leb v (l .previous) && (leb v (l .node) && leb v (l .leaf))))))
 
 -- Questions at the door, 6, 7 and 13, in order, of a query, then its later questions: `fits` says whether output and scratch columns are long enough,
 -- `inRange` whether the numbers handed over are in range.

@@ -1,20 +1,18 @@
 -- The scratch columns of a query, and what it may leave in them.
-use Prim.Native.Nat.{ℕ, _+_}
+use Prim.Native.Nat.{ℕ, _+_, _*_}
 use mathlib.Core.Path.{_≡_}
-use mathlib.Core.Bool.{Bool, true, false, _||_}
+use mathlib.Core.Bool.{Bool, true, false, _&&_, _||_}
 use mathlib.Core.List.{List}
 use denote.Ref.{RefT, now}
 use lib.ListN.{length, drop}
-use lib.Dec.{eqb}
+use lib.Dec.{eqb, leb}
 use Rattle.columns.specs.Lists.{each, over}
 use Rattle.query_queue.specs.Tree.{Tree}
 use Rattle.columns_neighbors.specs.Lists.{lists}
 use Rattle.engine_walks.specs.Graph.{Graph, edges}
 use Rattle.engine_walks.specs.Settling.{State, statusAt, weightAt}
 use Rattle.query_relaxing.specs.Ready.{keyOf}
-use Rattle.engine_columns.specs.Records.{Engine}
-use Rattle.query_questions.specs.declared.ScratchLengths.{ScratchLengths}
-use Rattle.query_questions.specs.Queries.{scratchLong}
+use Rattle.engine_columns.specs.declared.EngineCounts.{EngineCounts}
 
 -- Engine, Crossing, last sentence: the scratch columns of a query.
 pub record ScratchColumns : Type 0 where
@@ -27,19 +25,29 @@ pub record ScratchColumns : Type 0 where
   pub leaf : List ℕ
 
 -- Engine, Crossing, last sentence: these columns together.
-abbrev pub scratchOf : (numbers ends status weight previous node leaf : List ℕ) → ScratchColumns
-scratchOf numbers ends status weight previous node leaf =
-    record { neighborNumbers = numbers; listEnds = ends; status = status; weight = weight; previous = previous; node = node; leaf = leaf }
+abbrev pub scratchOf : (neighborNumbers listEnds status weight previous node leaf : List ℕ) → ScratchColumns
+scratchOf neighborNumbers listEnds status weight previous node leaf =
+    record { neighborNumbers = neighborNumbers; listEnds = listEnds; status = status; weight = weight; previous = previous; node = node; leaf = leaf }
 
 -- Engine, Crossing, last sentence: likewise, of columns lent or left by reference.
-abbrev pub scratchIn : (numbers ends status weight previous node leaf : RefT (List ℕ)) → ScratchColumns
-scratchIn numbers ends status weight previous node leaf = scratchOf (now numbers) (now ends) (now status) (now weight) (now previous) (now node) (now leaf)
+abbrev pub scratchIn : (neighborNumbers listEnds status weight previous node leaf : RefT (List ℕ)) → ScratchColumns
+scratchIn neighborNumbers listEnds status weight previous node leaf = scratchOf (now neighborNumbers) (now listEnds) (now status) (now weight) (now previous) (now node) (now leaf)
 
--- Questions at the door, 6: their lengths.
+-- Questions at the door, 6: the lengths of the scratch columns.
+pub record ScratchLengths : Type 0 where
+  pub neighborNumbers : ℕ
+  pub listEnds : ℕ
+  pub status : ℕ
+  pub weight : ℕ
+  pub previous : ℕ
+  pub node : ℕ
+  pub leaf : ℕ
+
+-- Questions at the door, 6: those of the columns lent.
 abbrev pub scratchLengths : ScratchColumns → ScratchLengths
 scratchLengths s = record {
-  «neighbor_numbers» = length (s .neighborNumbers);
-  «list_ends» = length (s .listEnds);
+  neighborNumbers = length (s .neighborNumbers);
+  listEnds = length (s .listEnds);
   status = length (s .status);
   weight = length (s .weight);
   previous = length (s .previous);
@@ -47,9 +55,17 @@ scratchLengths s = record {
   leaf = length (s .leaf);
 }
 
--- Questions at the door, 6, of scratch, beside the engine graph that it serves.
-abbrev pub scratchFits : Engine → ScratchColumns → Bool
-scratchFits e s = scratchLong (e .counts .vertices) (e .counts .edges) (scratchLengths s)
+-- Questions at the door, 6, of scratch: each column as long as the vertices, neighbour numbers twice the edges.
+unfoldable pub scratchLong : EngineCounts → ScratchLengths → Bool
+scratchLong c l =
+    leb (2 * (c .edges)) (l .neighborNumbers)
+    && (leb (c .vertices) (l .listEnds)
+    && (leb (c .vertices) (l .status)
+    && (leb (c .vertices) (l .weight) && (leb (c .vertices) (l .previous) && (leb (c .vertices) (l .node) && leb (c .vertices) (l .leaf))))))
+
+-- Questions at the door, 6, of the scratch columns lent.
+abbrev pub scratchFits : EngineCounts → ScratchColumns → Bool
+scratchFits c s = scratchLong c (scratchLengths s)
 
 -- Engine, Crossing, last sentence: scratch is free after success and after 17 and 18.
 abbrev pub isFree : (number : ℕ) → Bool

@@ -3,7 +3,8 @@ ghost use mathlib.Core.Path.{_≡_};
 ghost use mathlib.Core.Bool.{cond};
 ghost use lib.Dec.{eqb};
 ghost use Rattle.engine_columns.specs.Records.{engineIn};
-ghost use Rattle.query_questions.specs.Queries.{scratchLong, queryRefusal};
+ghost use Rattle.query_questions.specs.Queries.{queryRefusal};
+ghost use Rattle.query_questions.specs.Scratch.{scratchIn, scratchFits};
 use columns::VertexIndex;
 use columns::Weight;
 use columns::questions::asked;
@@ -13,34 +14,32 @@ use engine_columns::EngineCounts;
 use engine_columns::engine_sound;
 use engine_columns::long_enough;
 
-// The lengths of a query's scratch columns.
-pub struct ScratchLengths {
-    pub neighbor_numbers: usize,
-    pub list_ends: usize,
-    pub status: usize,
-    pub weight: usize,
-    pub previous: usize,
-    pub node: usize,
-    pub leaf: usize,
-}
-
 // Question 6, of scratch.
-pub fn scratch_long(vertices: u32, edges: u32, l: ScratchLengths) -> bool
-    ensures { λ r. ⌜ r ≡ scratchLong vertices edges l ⌝ }
+pub fn scratch_fits(
+    c: EngineCounts,
+    neighbor_numbers: &[u32],
+    list_ends: &[u32],
+    status: &[u8],
+    weight: &[Weight],
+    previous: &[u32],
+    node: &[u64],
+    leaf: &[u64],
+) -> bool
+    ensures { λ r. ⌜ r ≡ scratchFits c (scratchIn («neighbor_numbers» .entry) («list_ends» .entry) (status .entry) (weight .entry) (previous .entry) (node .entry) (leaf .entry)) ⌝ }
 {
-    let v = vertices as usize;
-    let twice = at_most(2 * (edges as usize), l.neighbor_numbers);
+    let v = c.vertices as usize;
+    let twice = at_most(2 * (c.edges as usize), neighbor_numbers.len());
     both(
         twice,
         both(
-            at_most(v, l.list_ends),
+            at_most(v, list_ends.len()),
             both(
-                at_most(v, l.status),
+                at_most(v, status.len()),
                 both(
-                    at_most(v, l.weight),
+                    at_most(v, weight.len()),
                     both(
-                        at_most(v, l.previous),
-                        both(at_most(v, l.node), at_most(v, l.leaf)),
+                        at_most(v, previous.len()),
+                        both(at_most(v, node.len()), at_most(v, leaf.len())),
                     ),
                 ),
             ),

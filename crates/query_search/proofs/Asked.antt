@@ -14,32 +14,33 @@ use Rattle.columns.proofs.Tests.{and-both, within-at}
 use Rattle.columns_neighbors.specs.Sound.{SoundGraph}
 use Rattle.columns_neighbors.proofs.Ends.{graph-says}
 use Rattle.engine_columns.specs.Records.{Engine}
+use Rattle.engine_columns.specs.declared.EngineCounts.{EngineCounts}
 use Rattle.engine_columns.specs.Questions.{engineLong, engineSound}
 use Rattle.engine_columns.proofs.Refusals.{ColumnsLong, Long, long-of, ColumnsSound, Sound, sound-of}
-use Rattle.query_questions.specs.Queries.{scratchLong, queryRefusal}
+use Rattle.query_questions.specs.Queries.{queryRefusal}
 use Rattle.query_search.specs.Search.{Searchable}
-use Rattle.query_questions.specs.Scratch.{scratchOf, scratchLengths}
-use Rattle.query_questions.specs.declared.ScratchLengths.{ScratchLengths}
+use Rattle.query_questions.specs.Scratch.{scratchOf, scratchLengths, scratchLong, ScratchLengths}
+use Rattle.query_questions.specs.Scratch.{ScratchLengths}
 use Rattle.columns.proofs.Refusals.{met, goes-on}
 
-pub record ScratchLong (v e : ℕ) (l : ScratchLengths) : Type 0 where
-  pub numbers-long : 2 * e ≤ l .«neighbor_numbers»
-  pub ends-long : v ≤ l .«list_ends»
-  pub status-long : v ≤ l .status
-  pub weight-long : v ≤ l .weight
-  pub previous-long : v ≤ l .previous
-  pub node-long : v ≤ l .node
-  pub leaf-long : v ≤ l .leaf
+pub record ScratchLong (c : EngineCounts) (l : ScratchLengths) : Type 0 where
+  pub numbers-long : 2 * (c .edges) ≤ l .neighborNumbers
+  pub ends-long : c .vertices ≤ l .listEnds
+  pub status-long : c .vertices ≤ l .status
+  pub weight-long : c .vertices ≤ l .weight
+  pub previous-long : c .vertices ≤ l .previous
+  pub node-long : c .vertices ≤ l .node
+  pub leaf-long : c .vertices ≤ l .leaf
 
-pub scratch-of : (v e : ℕ) (l : ScratchLengths) → scratchLong v e l ≡ true → ScratchLong v e l
+pub scratch-of : (c : EngineCounts) (l : ScratchLengths) → scratchLong c l ≡ true → ScratchLong c l
 unfolding scratchLong
-scratch-of v e l h =
-    let (p₁, h₁) = and-both (leb (2 * e) (l .«neighbor_numbers»)) _ h in
-    let (p₂, h₂) = and-both (leb v (l .«list_ends»)) _ h₁ in
-    let (p₃, h₃) = and-both (leb v (l .status)) _ h₂ in
-    let (p₄, h₄) = and-both (leb v (l .weight)) _ h₃ in
-    let (p₅, h₅) = and-both (leb v (l .previous)) _ h₄ in
-    let (p₆, p₇) = and-both (leb v (l .node)) _ h₅ in
+scratch-of c l h =
+    let (p₁, h₁) = and-both (leb (2 * (c .edges)) (l .neighborNumbers)) _ h in
+    let (p₂, h₂) = and-both (leb (c .vertices) (l .listEnds)) _ h₁ in
+    let (p₃, h₃) = and-both (leb (c .vertices) (l .status)) _ h₂ in
+    let (p₄, h₄) = and-both (leb (c .vertices) (l .weight)) _ h₃ in
+    let (p₅, h₅) = and-both (leb (c .vertices) (l .previous)) _ h₄ in
+    let (p₆, p₇) = and-both (leb (c .vertices) (l .node)) _ h₅ in
     record {
       numbers-long = leb-true _ _ p₁;
       ends-long = leb-true _ _ p₂;
@@ -90,8 +91,15 @@ cut-graph v e a b s =
       apart = λ j k h l o. s .apart j k h l (rw (ga j (omega arith), gb j (omega arith), ga k l, gb k l) at o);
     }
 
-module _ (v E : ℕ) (a b w m numbers ends status weight previous node leaf : List ℕ) (long : ColumnsLong v E a b w m) (ok : ColumnsSound v E a b w m)
-    (s : ScratchLong v E (scratchLengths (scratchOf numbers ends status weight previous node leaf))) where
+module _ (c : EngineCounts) (a b w m numbers ends status weight previous node leaf : List ℕ)
+    (long : ColumnsLong (c .vertices) (c .edges) a b w m) (ok : ColumnsSound (c .vertices) (c .edges) a b w m)
+    (s : ScratchLong c (scratchLengths (scratchOf numbers ends status weight previous node leaf))) where
+  abbrev v : ℕ
+  v = c .vertices
+
+  abbrev E : ℕ
+  E = c .edges
+
   pub cut-length : length (take v status) ≡ v
   cut-length = length-take-le v status (s .status-long)
 

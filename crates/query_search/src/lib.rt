@@ -92,7 +92,7 @@ pub fn search(
     leaf: &mut [u64],
 )
     requires { ⌜ (columnsLong (c .vertices) (c .edges) (now «ends_a») (now «ends_b») (now weights) (now boundary) ≡ true) × (columnsSound (c .vertices) (c .edges) (now «ends_a») (now «ends_b») (now weights) (now boundary) ≡ true) ⌝ }
-    requires { ⌜ (scratchFits (engineWithoutLog c «ends_a» «ends_b» weights boundary) (scratchIn «neighbor_numbers» «list_ends» status weight previous node leaf) ≡ true) × Starts origin (c .vertices) ⌝ }
+    requires { ⌜ (scratchFits c (scratchIn «neighbor_numbers» «list_ends» status weight previous node leaf) ≡ true) × Starts origin (c .vertices) ⌝ }
     ensures { λ _. ⌜ SearchLeft (graphIn (engineWithoutLog c («ends_a» .entry) («ends_b» .entry) (weights .entry) (boundary .entry)))
         (stateFrom origin (graphIn (engineWithoutLog c («ends_a» .entry) («ends_b» .entry) (weights .entry) (boundary .entry))) (weightsIn (engineWithoutLog c («ends_a» .entry) («ends_b» .entry) (weights .entry) (boundary .entry))))
         (scratchIn («neighbor_numbers» .entry) («list_ends» .entry) (status .entry) (weight .entry) (previous .entry) (node .entry) (leaf .entry))

@@ -27,11 +27,11 @@ tableRefusal e scratch source end weights previous =
 -- Engine, Table: the answer of `all_edges_with_terminate`, both columns, and scratch (Crossing, last sentence): after success it holds what the search from the
 -- source leaves; a refused call leaves it as it was.
 pub record FoundTable (e : Engine) (source : ℕ) (end : End) (answer : Done) (weights₀ weights : List ℤ) (previous₀ previous : List ℕ) (scratch₀ scratch : ScratchColumns) : Type 0 where
-  pub answers : Answered (doneSaid answer) (tableRefusal e (scratchFits e scratch₀) source end (length weights₀) (length previous₀)) tt tt
+  pub answers : Answered (doneSaid answer) (tableRefusal e (scratchFits (e .counts) scratch₀) source end (length weights₀) (length previous₀)) tt tt
   pub weights-after : weights
-      ≡ after (tableRefusal e (scratchFits e scratch₀) source end (length weights₀) (length previous₀)) (table (graphIn e) (weightsIn e) source (endIn end) .weights) weights₀
+      ≡ after (tableRefusal e (scratchFits (e .counts) scratch₀) source end (length weights₀) (length previous₀)) (table (graphIn e) (weightsIn e) source (endIn end) .weights) weights₀
   pub previous-after : previous
-      ≡ after (tableRefusal e (scratchFits e scratch₀) source end (length weights₀) (length previous₀)) (table (graphIn e) (weightsIn e) source (endIn end) .previous) previous₀
+      ≡ after (tableRefusal e (scratchFits (e .counts) scratch₀) source end (length weights₀) (length previous₀)) (table (graphIn e) (weightsIn e) source (endIn end) .previous) previous₀
   pub scratch-after : ScratchAfter (doneSaid answer .number) (graphIn e) (settled (graphIn e) (weightsIn e) (only source) (endIn end)) scratch₀ scratch
 
 -- Engine, Table, and Crossing, last sentence: what a table from v with no end leaves where it serves another call: the two columns of the table and scratch, by

@@ -11,10 +11,9 @@ use columns::Weight;
 use columns::questions::at_most;
 use columns::questions::both;
 use engine_columns::EngineCounts;
-use query_questions::ScratchLengths;
 use query_questions::named_stop;
 use query_questions::query_refusal;
-use query_questions::scratch_long;
+use query_questions::scratch_fits;
 use query_search::Origin;
 use query_search::search;
 use query_search::write_previous;
@@ -74,22 +73,19 @@ pub fn all_edges_with_terminate(
         (scratchIn («neighbor_numbers» .exit) («list_ends» .exit) (status .exit) (weight .exit) (previous .exit) (node .exit) (leaf .exit)) ⌝ }
 {
     let v = c.vertices as usize;
-    let scratch = scratch_long(
-        c.vertices,
-        c.edges,
-        ScratchLengths {
-            neighbor_numbers: neighbor_numbers.len(),
-            list_ends: list_ends.len(),
-            status: status.len(),
-            weight: weight.len(),
-            previous: previous.len(),
-            node: node.len(),
-            leaf: leaf.len(),
-        },
+    let room = scratch_fits(
+        c,
+        neighbor_numbers,
+        list_ends,
+        status,
+        weight,
+        previous,
+        node,
+        leaf,
     );
     let fits = both(
         at_most(v, out_weight.len()),
-        both(at_most(v, out_previous.len()), scratch),
+        both(at_most(v, out_previous.len()), room),
     );
     let in_range = both(source.0 < c.vertices, end_in_range(end, c.vertices));
     let no = query_refusal(

@@ -26,12 +26,12 @@ use Rattle.codes_layers.proofs.Counted.{edges-counted, vertices-counted}
 use Rattle.codes_graphs.specs.Graphs.{builtGraph}
 use Rattle.codes_graphs.proofs.Sound.{built}
 use Rattle.query_crossing_answer.specs.declared.CrossingReply.{CrossingReply}
-use Rattle.query_questions.specs.Queries.{graphIn, weightsIn, scratchLong}
+use Rattle.query_questions.specs.Queries.{graphIn, weightsIn}
 use Rattle.query_crossing_answer.specs.Crossing.{isJoined, weightFound, crossingSaid, crossingRefusal}
 use Rattle.columns_answers.specs.Said.{Answered}
 use Rattle.text_listing.specs.Listing.{weightsOf, crossingOf}
 use Rattle.text_listing.specs.Steps.{HoldsWeights, ScratchRoom, Replied}
-use Rattle.query_questions.specs.declared.ScratchLengths.{ScratchLengths}
+use Rattle.query_questions.specs.Scratch.{ScratchLengths, scratchLong}
 
 -- a column is its own first places and the rest
 whole : {A : Type 0} (n : ℕ) (column vs : List A) → take n column ≡ vs → n ≤ length column → column ≡ over vs column
@@ -90,8 +90,8 @@ module _ (kind d rounds : ℕ) (p : _) (max v e : ℕ) (a b w m : List ℕ) (s :
   unfolding scratchLong
   scratch-long out l r =
       both-and (le-leb v out (omega (arith, s .few-vertices, r .out-room)))
-      (both-and (le-leb (2 * e) (l .«neighbor_numbers») (omega (arith, s .few-edges, r .numbers-room)))
-      (both-and (le-leb v (l .«list_ends») (omega (arith, s .few-vertices, r .ends-room)))
+      (both-and (le-leb (2 * e) (l .neighborNumbers) (omega (arith, s .few-edges, r .numbers-room)))
+      (both-and (le-leb v (l .listEnds) (omega (arith, s .few-vertices, r .ends-room)))
       (both-and (le-leb v (l .status) (omega (arith, s .few-vertices, r .status-room)))
       (both-and (le-leb v (l .weight) (omega (arith, s .few-vertices, r .weight-room)))
       (both-and (le-leb v (l .previous) (omega (arith, s .few-vertices, r .previous-room)))

@@ -20,13 +20,13 @@ use Rattle.columns_answers.specs.Said.{Answered}
 use Rattle.text_numbers.specs.Text.{refusalLine, listing}
 use Rattle.text_listing.specs.Listing.{weightsOf, crossingOf, listingOf}
 use Rattle.codes_calls.specs.Probabilities.{probabilities, diagonalOf}
-use Rattle.query_questions.specs.declared.ScratchLengths.{ScratchLengths}
+use Rattle.query_questions.specs.Scratch.{ScratchLengths}
 
 -- Questions at the door, 6: scratch for 1,024 vertices and 6,144 edges.
 pub record ScratchRoom (out : ℕ) (l : ScratchLengths) : Type 0 where
   pub out-room : out ≡ 1024
-  pub numbers-room : l .«neighbor_numbers» ≡ 12288
-  pub ends-room : l .«list_ends» ≡ 1024
+  pub numbers-room : l .neighborNumbers ≡ 12288
+  pub ends-room : l .listEnds ≡ 1024
   pub status-room : l .status ≡ 1024
   pub weight-room : l .weight ≡ 1024
   pub previous-room : l .previous ≡ 1024

@@ -31,7 +31,7 @@ engine-of : tie.Start → Engine
 engine-of s = engineIn (s .args .c) (s .args .ends-a) (s .args .ends-b) (s .args .weights) (s .args .boundary) (s .args .log-edges) (s .args .log-weights)
 
 scratch-at : tie.Start → Bool
-scratch-at s = scratchFits (engine-of s) (scratchIn (s .args .neighbor-numbers) (s .args .list-ends) (s .args .status) (s .args .weight) (s .args .previous) (s .args .node) (s .args .leaf))
+scratch-at s = scratchFits (s .args .c) (scratchIn (s .args .neighbor-numbers) (s .args .list-ends) (s .args .status) (s .args .weight) (s .args .previous) (s .args .node) (s .args .leaf))
 
 number-at : tie.Start → ℕ
 unfolding engine-of scratch-at
@@ -41,15 +41,15 @@ asked-at : (s : tie.Start) → number-at s ≡ 0 → PathAsked (engine-of s) (sc
 unfolding number-at
 asked-at s z = path-asked (engine-of s) (scratch-at s) (s .args .a .0) (s .args .b .0) _ _ z
 
-fits : (s : tie.Start) → number-at s ≡ 0 → ScratchLong (s .args .c .vertices) (s .args .c .edges) (scratchLengths (scratchIn (s .args .neighbor-numbers) (s .args .list-ends) (s .args .status) (s .args .weight) (s .args .previous) (s .args .node) (s .args .leaf)))
+fits : (s : tie.Start) → number-at s ≡ 0 → ScratchLong (s .args .c) (scratchLengths (scratchIn (s .args .neighbor-numbers) (s .args .list-ends) (s .args .status) (s .args .weight) (s .args .previous) (s .args .node) (s .args .leaf)))
 unfolding scratch-at engine-of
-fits s z = scratch-of _ _ _ (asked-at s z .scratch-is)
+fits s z = scratch-of _ _ (asked-at s z .scratch-is)
 
-number-is : (c : tie.After-query-refusal) → c .query-refusal .result ≡ number-at (c .before .before .before .before .before .before .before .before .before .before .before .before .before .before .before .before .before .before .before .before .before .before .before .before .before .before .before .before .before .before)
+number-is : (c : tie.After-query-refusal) → c .query-refusal .result ≡ number-at (c .before .before .before .before .before .before .before .before .before .before .before .before .before .before .before .before .before .before .before .before .before .before .before .before .before .before .before .before .before .before .before .before .before .before .before .before .before)
 unfolding number-at engine-of scratch-at
-number-is c = let s = c .before .before .before .before .before .before .before .before .before .before .before .before .before .before .before .before .before .before .before .before .before .before .before .before .before .before .before .before .before .before in path-number (engine-of s) (scratch-at s) (s .args .a .0) (s .args .b .0) _ _ (c .query-refusal .ensures) (c .before .before .before .before .before .before .before .before .before .both2 .ensures) (c .before .before .before .before .before .before .before .before .before .before .both .ensures) (c .before .before .before .before .before .before .before .before .before .before .before .before .at-most .ensures) (c .before .before .before .before .before .before .before .before .before .before .before .at-most2 .ensures) (c .before .before .before .before .before .before .before .before .before .before .before .before .before .scratch-long .ensures) (c .before .before .before .before .both3 .ensures) (c .before .asked .ensures)
+number-is c = let s = c .before .before .before .before .before .before .before .before .before .before .before .before .before .before .before .before .before .before .before .before .before .before .before .before .before .before .before .before .before .before .before .before .before .before .before .before .before in path-number (engine-of s) (scratch-at s) (s .args .a .0) (s .args .b .0) _ _ (c .query-refusal .ensures) (c .before .before .before .before .before .before .before .before .before .both2 .ensures) (c .before .before .before .before .before .before .before .before .before .before .both .ensures) (c .before .before .before .before .before .before .before .before .before .before .before .before .at-most .ensures) (c .before .before .before .before .before .before .before .before .before .before .before .at-most2 .ensures) (c .before .before .before .before .before .before .before .before .before .before .before .before .before .scratch-fits .ensures) (c .before .before .before .before .both3 .ensures) (c .before .asked .ensures)
 
-number-then : (t : tie.Then1) → number-at (t .before .before .before .before .before .before .before .before .before .before .before .before .before .before .before .before .before .before .before .before .before .before .before .before .before .before .before .before .before .before .before) ≡ 0
+number-then : (t : tie.Then1) → number-at (t .before .before .before .before .before .before .before .before .before .before .before .before .before .before .before .before .before .before .before .before .before .before .before .before .before .before .before .before .before .before .before .before .before .before .before .before .before .before) ≡ 0
 number-then t = sym (number-is (t .before)) ∙ t .if1 .taken
 
 -- ---- what the search leaves
@@ -64,18 +64,18 @@ before-it s = scratchIn (s .args .neighbor-numbers) (s .args .list-ends) (s .arg
 after-it : tie.After-search → ScratchColumns
 after-it c = let l = c .search .last .1 .1 .1 .1 .1 .1 in scratchOf (l .0) (l .1 .0) (l .1 .1 .0) (l .1 .1 .1 .0) (l .1 .1 .1 .1 .0) (l .1 .1 .1 .1 .1 .0) (l .1 .1 .1 .1 .1 .1 .0)
 
-left : (c : tie.After-search) → SearchLeft (graphIn (engine-of (c .before .before .before .before .before .before .before .before .before .before .before .before .before .before .before .before .before .before .before .before .before .before .before .before .before .before .before .before .before .before .before .before .before .before .before .before .before .before .before))) (state-at (c .before .before .before .before .before .before .before .before .before .before .before .before .before .before .before .before .before .before .before .before .before .before .before .before .before .before .before .before .before .before .before .before .before .before .before .before .before .before .before)) (before-it (c .before .before .before .before .before .before .before .before .before .before .before .before .before .before .before .before .before .before .before .before .before .before .before .before .before .before .before .before .before .before .before .before .before .before .before .before .before .before .before)) (after-it c)
+left : (c : tie.After-search) → SearchLeft (graphIn (engine-of (c .before .before .before .before .before .before .before .before .before .before .before .before .before .before .before .before .before .before .before .before .before .before .before .before .before .before .before .before .before .before .before .before .before .before .before .before .before .before .before .before .before .before .before .before .before .before))) (state-at (c .before .before .before .before .before .before .before .before .before .before .before .before .before .before .before .before .before .before .before .before .before .before .before .before .before .before .before .before .before .before .before .before .before .before .before .before .before .before .before .before .before .before .before .before .before .before)) (before-it (c .before .before .before .before .before .before .before .before .before .before .before .before .before .before .before .before .before .before .before .before .before .before .before .before .before .before .before .before .before .before .before .before .before .before .before .before .before .before .before .before .before .before .before .before .before .before)) (after-it c)
 unfolding engine-of state-at before-it after-it number-at
 left c =
-    let s = c .before .before .before .before .before .before .before .before .before .before .before .before .before .before .before .before .before .before .before .before .before .before .before .before .before .before .before .before .before .before .before .before .before .before .before .before .before .before .before in
+    let s = c .before .before .before .before .before .before .before .before .before .before .before .before .before .before .before .before .before .before .before .before .before .before .before .before .before .before .before .before .before .before .before .before .before .before .before .before .before .before .before .before .before .before .before .before .before .before in
     let e = engine-of s in
     subst (λ k. SearchLeft (graphIn e) (settled (graphIn e) (weightsIn e) (only (s .args .a .0)) (cond k (some (s .args .b .0)) none)) (before-it s) (after-it c)) (lt-ltb (s .args .b .0) (s .args .c .vertices) (asked-at s (number-then (c .before .before .before .before .before .before .before .before)) .b-in))
     (c .search .ensures .0)
 
-settles : (c : tie.After-search) → Settles (c .before .before .before .before .before .before .before .before .before .before .before .before .before .before .before .before .before .before .before .before .before .before .before .before .before .before .before .before .before .before .before .before .before .before .before .before .before .before .before .args .c .vertices) (state-at (c .before .before .before .before .before .before .before .before .before .before .before .before .before .before .before .before .before .before .before .before .before .before .before .before .before .before .before .before .before .before .before .before .before .before .before .before .before .before .before))
+settles : (c : tie.After-search) → Settles (c .before .before .before .before .before .before .before .before .before .before .before .before .before .before .before .before .before .before .before .before .before .before .before .before .before .before .before .before .before .before .before .before .before .before .before .before .before .before .before .before .before .before .before .before .before .before .args .c .vertices) (state-at (c .before .before .before .before .before .before .before .before .before .before .before .before .before .before .before .before .before .before .before .before .before .before .before .before .before .before .before .before .before .before .before .before .before .before .before .before .before .before .before .before .before .before .before .before .before .before))
 unfolding engine-of state-at number-at
 settles c =
-    let s = c .before .before .before .before .before .before .before .before .before .before .before .before .before .before .before .before .before .before .before .before .before .before .before .before .before .before .before .before .before .before .before .before .before .before .before .before .before .before .before in
+    let s = c .before .before .before .before .before .before .before .before .before .before .before .before .before .before .before .before .before .before .before .before .before .before .before .before .before .before .before .before .before .before .before .before .before .before .before .before .before .before .before .before .before .before .before .before .before .before in
     let e = engine-of s in
     subst (λ k. Settles (s .args .c .vertices) (settled (graphIn e) (weightsIn e) (only (s .args .a .0)) (cond k (some (s .args .b .0)) none))) (lt-ltb (s .args .b .0) (s .args .c .vertices) (asked-at s (number-then (c .before .before .before .before .before .before .before .before)) .b-in))
     (c .search .ensures .1)
@@ -83,22 +83,22 @@ settles c =
 search-requires : tie.Need-search-requires
 unfolding number-at engine-of scratch-at
 search-requires c κs =
-    let k = asked-at (c .before .before .before .before .before .before .before .before .before .before .before .before .before .before .before .before .before .before .before .before .before .before .before .before .before .before .before .before .before .before .before .before .before .before .before .before .before .before) (number-then (c .before .before .before .before .before .before .before)) in
+    let k = asked-at (c .before .before .before .before .before .before .before .before .before .before .before .before .before .before .before .before .before .before .before .before .before .before .before .before .before .before .before .before .before .before .before .before .before .before .before .before .before .before .before .before .before .before .before .before .before) (number-then (c .before .before .before .before .before .before .before)) in
     ((columns-long-from _ _ _ _ _ _ (k .long .columns), columns-sound-from _ _ _ _ _ _ (k .sound .columns)), (k .scratch-is, (k .a-in, k .differ)))
 
 -- ---- the columns read
 
-status-room : (c : tie.After-search) → c .before .before .before .before .before .before .before .before .before .before .before .before .before .before .before .before .before .before .before .before .before .before .before .before .before .before .before .before .before .before .before .before .before .before .before .before .before .before .before .args .c .vertices ≤ length (after-it c .status)
+status-room : (c : tie.After-search) → c .before .before .before .before .before .before .before .before .before .before .before .before .before .before .before .before .before .before .before .before .before .before .before .before .before .before .before .before .before .before .before .before .before .before .before .before .before .before .before .before .before .before .before .before .before .before .args .c .vertices ≤ length (after-it c .status)
 unfolding after-it
-status-room c = omega (arith, c .search .kept .1 .1 .1 .1 .1 .1 .1 .1 .0, fits (c .before .before .before .before .before .before .before .before .before .before .before .before .before .before .before .before .before .before .before .before .before .before .before .before .before .before .before .before .before .before .before .before .before .before .before .before .before .before .before) (number-then (c .before .before .before .before .before .before .before .before)) .status-long)
+status-room c = omega (arith, c .search .kept .1 .1 .1 .1 .1 .1 .1 .1 .0, fits (c .before .before .before .before .before .before .before .before .before .before .before .before .before .before .before .before .before .before .before .before .before .before .before .before .before .before .before .before .before .before .before .before .before .before .before .before .before .before .before .before .before .before .before .before .before .before) (number-then (c .before .before .before .before .before .before .before .before)) .status-long)
 
-weight-room : (c : tie.After-search) → c .before .before .before .before .before .before .before .before .before .before .before .before .before .before .before .before .before .before .before .before .before .before .before .before .before .before .before .before .before .before .before .before .before .before .before .before .before .before .before .args .c .vertices ≤ length (after-it c .weight)
+weight-room : (c : tie.After-search) → c .before .before .before .before .before .before .before .before .before .before .before .before .before .before .before .before .before .before .before .before .before .before .before .before .before .before .before .before .before .before .before .before .before .before .before .before .before .before .before .before .before .before .before .before .before .before .args .c .vertices ≤ length (after-it c .weight)
 unfolding after-it
-weight-room c = omega (arith, c .search .kept .1 .1 .1 .1 .1 .1 .1 .1 .1 .0, fits (c .before .before .before .before .before .before .before .before .before .before .before .before .before .before .before .before .before .before .before .before .before .before .before .before .before .before .before .before .before .before .before .before .before .before .before .before .before .before .before) (number-then (c .before .before .before .before .before .before .before .before)) .weight-long)
+weight-room c = omega (arith, c .search .kept .1 .1 .1 .1 .1 .1 .1 .1 .1 .0, fits (c .before .before .before .before .before .before .before .before .before .before .before .before .before .before .before .before .before .before .before .before .before .before .before .before .before .before .before .before .before .before .before .before .before .before .before .before .before .before .before .before .before .before .before .before .before .before) (number-then (c .before .before .before .before .before .before .before .before)) .weight-long)
 
-previous-room : (c : tie.After-search) → c .before .before .before .before .before .before .before .before .before .before .before .before .before .before .before .before .before .before .before .before .before .before .before .before .before .before .before .before .before .before .before .before .before .before .before .before .before .before .before .args .c .vertices ≤ length (after-it c .previous)
+previous-room : (c : tie.After-search) → c .before .before .before .before .before .before .before .before .before .before .before .before .before .before .before .before .before .before .before .before .before .before .before .before .before .before .before .before .before .before .before .before .before .before .before .before .before .before .before .before .before .before .before .before .before .before .args .c .vertices ≤ length (after-it c .previous)
 unfolding after-it
-previous-room c = omega (arith, c .search .kept .1 .1 .1 .1 .1 .1 .1 .1 .1 .1 .0, fits (c .before .before .before .before .before .before .before .before .before .before .before .before .before .before .before .before .before .before .before .before .before .before .before .before .before .before .before .before .before .before .before .before .before .before .before .before .before .before .before) (number-then (c .before .before .before .before .before .before .before .before)) .previous-long)
+previous-room c = omega (arith, c .search .kept .1 .1 .1 .1 .1 .1 .1 .1 .1 .1 .0, fits (c .before .before .before .before .before .before .before .before .before .before .before .before .before .before .before .before .before .before .before .before .before .before .before .before .before .before .before .before .before .before .before .before .before .before .before .before .before .before .before .before .before .before .before .before .before .before) (number-then (c .before .before .before .before .before .before .before .before)) .previous-long)
 
 slice-reshare-prefix-found-path : tie.Need-slice-reshare-prefix-found-path
 unfolding after-it
@@ -127,17 +127,17 @@ slice-aggregate-found-path-3 c = sym (length-take-le _ _ (previous-room (c .befo
 found-path-requires : tie.Need-found-path-requires
 unfolding after-it number-at engine-of
 found-path-requires c κs =
-    let k = asked-at (c .before .before .before .before .before .before .before .before .before .before .before .before .before .before .before .before .before .before .before .before .before .before .before .before .before .before .before .before .before .before .before .before .before .before .before .before .before .before .before .before .before .before .before .before .before .before .before .before .before .before .before .before .before .before .before .before .before .before) (number-then (c .before .before .before .before .before .before .before .before .before .before .before .before .before .before .before .before .before .before .before .before .before .before .before .before .before .before .before)) in
+    let k = asked-at (c .before .before .before .before .before .before .before .before .before .before .before .before .before .before .before .before .before .before .before .before .before .before .before .before .before .before .before .before .before .before .before .before .before .before .before .before .before .before .before .before .before .before .before .before .before .before .before .before .before .before .before .before .before .before .before .before .before .before .before .before .before .before .before .before .before) (number-then (c .before .before .before .before .before .before .before .before .before .before .before .before .before .before .before .before .before .before .before .before .before .before .before .before .before .before .before)) in
     let n = status-length (left (c .before .before .before .before .before .before .before .before .before .before .before .before .before .before .before .before .before .before .before)) (settles (c .before .before .before .before .before .before .before .before .before .before .before .before .before .before .before .before .before .before .before)) in
     (omega (arith, n, settles (c .before .before .before .before .before .before .before .before .before .before .before .before .before .before .before .before .before .before .before) .few), omega (arith, n, k .vertices-long), omega (arith, n, k .steps-long))
 
 -- the path that is read is the definition's
 path-is : (c : tie.After-search)
-    → let v = c .before .before .before .before .before .before .before .before .before .before .before .before .before .before .before .before .before .before .before .before .before .before .before .before .before .before .before .before .before .before .before .before .before .before .before .before .before .before .before .args .c .vertices in pathOf (stateOf (take v (after-it c .status)) (take v (after-it c .weight)) (take v (after-it c .previous))) (length (take v (after-it c .status))) (c .before .before .before .before .before .before .before .before .before .before .before .before .before .before .before .before .before .before .before .before .before .before .before .before .before .before .before .before .before .before .before .before .before .before .before .before .before .before .before .args .a .0) (c .before .before .before .before .before .before .before .before .before .before .before .before .before .before .before .before .before .before .before .before .before .before .before .before .before .before .before .before .before .before .before .before .before .before .before .before .before .before .before .args .b .0)
-    ≡ path (graphIn (engine-of (c .before .before .before .before .before .before .before .before .before .before .before .before .before .before .before .before .before .before .before .before .before .before .before .before .before .before .before .before .before .before .before .before .before .before .before .before .before .before .before))) (weightsIn (engine-of (c .before .before .before .before .before .before .before .before .before .before .before .before .before .before .before .before .before .before .before .before .before .before .before .before .before .before .before .before .before .before .before .before .before .before .before .before .before .before .before))) (c .before .before .before .before .before .before .before .before .before .before .before .before .before .before .before .before .before .before .before .before .before .before .before .before .before .before .before .before .before .before .before .before .before .before .before .before .before .before .before .args .a .0) (c .before .before .before .before .before .before .before .before .before .before .before .before .before .before .before .before .before .before .before .before .before .before .before .before .before .before .before .before .before .before .before .before .before .before .before .before .before .before .before .args .b .0)
+    → let v = c .before .before .before .before .before .before .before .before .before .before .before .before .before .before .before .before .before .before .before .before .before .before .before .before .before .before .before .before .before .before .before .before .before .before .before .before .before .before .before .before .before .before .before .before .before .before .args .c .vertices in pathOf (stateOf (take v (after-it c .status)) (take v (after-it c .weight)) (take v (after-it c .previous))) (length (take v (after-it c .status))) (c .before .before .before .before .before .before .before .before .before .before .before .before .before .before .before .before .before .before .before .before .before .before .before .before .before .before .before .before .before .before .before .before .before .before .before .before .before .before .before .before .before .before .before .before .before .before .args .a .0) (c .before .before .before .before .before .before .before .before .before .before .before .before .before .before .before .before .before .before .before .before .before .before .before .before .before .before .before .before .before .before .before .before .before .before .before .before .before .before .before .before .before .before .before .before .before .before .args .b .0)
+    ≡ path (graphIn (engine-of (c .before .before .before .before .before .before .before .before .before .before .before .before .before .before .before .before .before .before .before .before .before .before .before .before .before .before .before .before .before .before .before .before .before .before .before .before .before .before .before .before .before .before .before .before .before .before))) (weightsIn (engine-of (c .before .before .before .before .before .before .before .before .before .before .before .before .before .before .before .before .before .before .before .before .before .before .before .before .before .before .before .before .before .before .before .before .before .before .before .before .before .before .before .before .before .before .before .before .before .before))) (c .before .before .before .before .before .before .before .before .before .before .before .before .before .before .before .before .before .before .before .before .before .before .before .before .before .before .before .before .before .before .before .before .before .before .before .before .before .before .before .before .before .before .before .before .before .before .args .a .0) (c .before .before .before .before .before .before .before .before .before .before .before .before .before .before .before .before .before .before .before .before .before .before .before .before .before .before .before .before .before .before .before .before .before .before .before .before .before .before .before .before .before .before .before .before .before .before .args .b .0)
 unfolding engine-of state-at
 path-is c =
-    let s = c .before .before .before .before .before .before .before .before .before .before .before .before .before .before .before .before .before .before .before .before .before .before .before .before .before .before .before .before .before .before .before .before .before .before .before .before .before .before .before in
+    let s = c .before .before .before .before .before .before .before .before .before .before .before .before .before .before .before .before .before .before .before .before .before .before .before .before .before .before .before .before .before .before .before .before .before .before .before .before .before .before .before .before .before .before .before .before .before .before in
     let l = left c in
     let o = settles c in
     (λ i. pathOf (state-read l o i) (status-length l o i) (s .args .a .0) (s .args .b .0)) ∙ path-of (graphIn (engine-of s)) (weightsIn (engine-of s)) (s .args .a .0) (s .args .b .0) (state-at s) refl
@@ -145,7 +145,7 @@ path-is c =
 returns : tie.Need-returns
 unfolding number-at engine-of scratch-at state-at before-it after-it
 returns c =
-    let s : tie.Start = c .before .before .before .before .before .before .before .before .before .before .before .before .before .before .before .before .before .before .before .before .before .before .before .before .before .before .before .before .before .before .before .before .before .before .before .before .before .before .before .before .before .before .before .before .before .before .before .before .before .before .before .before .before .before .before .before .before .before .before .before .before .before .before in
+    let s : tie.Start = c .before .before .before .before .before .before .before .before .before .before .before .before .before .before .before .before .before .before .before .before .before .before .before .before .before .before .before .before .before .before .before .before .before .before .before .before .before .before .before .before .before .before .before .before .before .before .before .before .before .before .before .before .before .before .before .before .before .before .before .before .before .before .before .before .before .before .before .before .before .before in
     let z = number-then (c .before .before .before .before .before .before .before .before .before .before .before .before .before .before .before .before .before .before .before .before .before .before .before .before .before .before .before .before .before .before .before .before) in
     let o = c .before .before .before .before .found-path .ensures in
     let r = c .before .before .before .before .found-path .result in
@@ -162,7 +162,7 @@ returns c =
 returns-2 : tie.Need-returns-2
 unfolding number-at engine-of scratch-at state-at before-it
 returns-2 c =
-    let s : tie.Start = c .before .before .before .before .before .before .before .before .before .before .before .before .before .before .before .before .before .before .before .before .before .before .before .before .before .before .before .before .before .before .before in
+    let s : tie.Start = c .before .before .before .before .before .before .before .before .before .before .before .before .before .before .before .before .before .before .before .before .before .before .before .before .before .before .before .before .before .before .before .before .before .before .before .before .before .before in
     let d : c .before .query-refusal .result ≡ number-at s = number-is (c .before) in
     let f : number-at s ≡ 0 → ⊥ = λ e. c .if1 .left (d ∙ e) in
     let p = path (graphIn (engine-of s)) (weightsIn (engine-of s)) (s .args .a .0) (s .args .b .0) in
@@ -174,4 +174,4 @@ returns-2 c =
     }
 
 pub get-path-spec : {M : Type 1} → statement M
-get-path-spec = tie.close (tie.spec (λ c. search needs) (λ c κs. tt) (λ c κs. tt) (λ c κs. tt) (λ c κs. tt) (λ c κs. tt) (λ c κs. tt) (λ c κs. tt) (λ c κs. tt) search-requires slice-reshare-prefix-found-path slice-aggregate-found-path slice-reshare-prefix-found-path-2 slice-aggregate-found-path-2 slice-reshare-prefix-found-path-3 slice-aggregate-found-path-3 found-path-requires (λ c. search needs) (λ c. search needs) (λ c. search needs) (λ c. search needs) (λ c. search needs) (λ c. search needs) (λ c. search needs) (λ c. search needs) (λ c. search needs) returns returns-2)
+get-path-spec = tie.close (tie.spec (λ c. search needs) (λ c κs. tt) (λ c κs. tt) (λ c κs. tt) (λ c κs. tt) (λ c κs. tt) (λ c κs. tt) (λ c κs. tt) (λ c κs. tt) search-requires slice-reshare-prefix-found-path slice-aggregate-found-path slice-reshare-prefix-found-path-2 slice-aggregate-found-path-2 slice-reshare-prefix-found-path-3 slice-aggregate-found-path-3 found-path-requires (λ c. search needs) (λ c. search needs) (λ c. search needs) (λ c. search needs) (λ c. search needs) (λ c. search needs) (λ c. search needs) (λ c. search needs) (λ c. search needs) returns (λ c. search needs) (λ c. search needs) (λ c. search needs) (λ c. search needs) (λ c. search needs) (λ c. search needs) (λ c. search needs) returns-2)

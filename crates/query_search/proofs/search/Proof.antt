@@ -15,8 +15,8 @@ use Rattle.query_search.proofs.search.Tie as tie
 long : (s : tie.Start) → ColumnsLong (s .args .c .vertices) (s .args .c .edges) (s .args .ends-a .now) (s .args .ends-b .now) (s .args .weights .now) (s .args .boundary .now)
 long s = columns-long-of _ _ _ _ _ _ (s .pre .0 .0)
 
-fits : (s : tie.Start) → ScratchLong (s .args .c .vertices) (s .args .c .edges) (scratchLengths (scratchIn (s .args .neighbor-numbers) (s .args .list-ends) (s .args .status) (s .args .weight) (s .args .previous) (s .args .node) (s .args .leaf)))
-fits s = scratch-of _ _ _ (s .pre .1 .0)
+fits : (s : tie.Start) → ScratchLong (s .args .c) (scratchLengths (scratchIn (s .args .neighbor-numbers) (s .args .list-ends) (s .args .status) (s .args .weight) (s .args .previous) (s .args .node) (s .args .leaf)))
+fits s = scratch-of _ _ (s .pre .1 .0)
 
 slice-aggregate-search-cut : tie.Need-slice-aggregate-search-cut
 slice-aggregate-search-cut c = let s : tie.Start = c .before .before .before .before .before .before .before .before .before .before .before .before .before .before in sym (length-take-le (s .args .c .edges) (s .args .ends-a .now) (long s .endsA))
@@ -71,7 +71,7 @@ search-cut-requires c κs =
     let s : tie.Start = c .before .before .before .before .before .before .before .before .before .before .before .before .before .before .before .before .before .before .before .before .before .before .before .before in
     let v = s .args .c .vertices in
     let len = length-take-le v (s .args .status .now) (fits s .status-long) in (
-      searchable v (s .args .c .edges) (s .args .ends-a .now) (s .args .ends-b .now) (s .args .weights .now) (s .args .boundary .now) (s .args .neighbor-numbers .now) (s .args .list-ends .now) (s .args .status .now) (s .args .weight .now) (s .args .previous .now) (s .args .node .now) (s .args .leaf .now)
+      searchable (s .args .c) (s .args .ends-a .now) (s .args .ends-b .now) (s .args .weights .now) (s .args .boundary .now) (s .args .neighbor-numbers .now) (s .args .list-ends .now) (s .args .status .now) (s .args .weight .now) (s .args .previous .now) (s .args .node .now) (s .args .leaf .now)
           (long s) (columns-sound-of _ _ _ _ _ _ (s .pre .0 .1)) (fits s),
       (length-take-le v (s .args .boundary .now) (long s .boundary) ∙ sym len, sym len, subst (Starts (s .args .origin)) (sym len) (s .pre .1 .1)),
     )

@@ -31,7 +31,7 @@ engine-of : tie.Start → Engine
 engine-of s = engineIn (s .args .c) (s .args .ends-a) (s .args .ends-b) (s .args .weights) (s .args .boundary) (s .args .log-edges) (s .args .log-weights)
 
 scratch-at : tie.Start → Bool
-scratch-at s = scratchFits (engine-of s) (scratchIn (s .args .neighbor-numbers) (s .args .list-ends) (s .args .status) (s .args .weight) (s .args .previous) (s .args .node) (s .args .leaf))
+scratch-at s = scratchFits (s .args .c) (scratchIn (s .args .neighbor-numbers) (s .args .list-ends) (s .args .status) (s .args .weight) (s .args .previous) (s .args .node) (s .args .leaf))
 
 number-at : tie.Start → ℕ
 unfolding engine-of scratch-at
@@ -41,15 +41,15 @@ asked-at : (s : tie.Start) → number-at s ≡ 0 → TableAsked (engine-of s) (s
 unfolding number-at
 asked-at s z = table-of (engine-of s) (scratch-at s) (s .args .source .0) (s .args .end) _ _ z
 
-fits : (s : tie.Start) → number-at s ≡ 0 → ScratchLong (s .args .c .vertices) (s .args .c .edges) (scratchLengths (scratchIn (s .args .neighbor-numbers) (s .args .list-ends) (s .args .status) (s .args .weight) (s .args .previous) (s .args .node) (s .args .leaf)))
+fits : (s : tie.Start) → number-at s ≡ 0 → ScratchLong (s .args .c) (scratchLengths (scratchIn (s .args .neighbor-numbers) (s .args .list-ends) (s .args .status) (s .args .weight) (s .args .previous) (s .args .node) (s .args .leaf)))
 unfolding scratch-at engine-of
-fits s z = scratch-of _ _ _ (asked-at s z .scratch-is)
+fits s z = scratch-of _ _ (asked-at s z .scratch-is)
 
-number-is : (c : tie.After-query-refusal) → c .query-refusal .result ≡ number-at (c .before .before .before .before .before .before .before .before .before .before .before .before .before .before .before .before .before .before .before .before .before .before .before .before .before)
+number-is : (c : tie.After-query-refusal) → c .query-refusal .result ≡ number-at (c .before .before .before .before .before .before .before .before .before .before .before .before .before .before .before .before .before .before .before .before .before .before .before .before .before .before .before .before .before .before .before .before)
 unfolding number-at engine-of scratch-at
-number-is c = let s = c .before .before .before .before .before .before .before .before .before .before .before .before .before .before .before .before .before .before .before .before .before .before .before .before .before in table-number (engine-of s) (scratch-at s) (s .args .source .0) (s .args .end) _ _ (c .query-refusal .ensures) (c .before .before .before .before .before .both2 .ensures) (c .before .before .before .before .before .before .both .ensures) (c .before .before .before .before .before .before .before .before .at-most .ensures) (c .before .before .before .before .before .before .before .at-most2 .ensures) (c .before .before .before .before .before .before .before .before .before .scratch-long .ensures) (c .before .both3 .ensures) (c .before .before .end-in-range .ensures)
+number-is c = let s = c .before .before .before .before .before .before .before .before .before .before .before .before .before .before .before .before .before .before .before .before .before .before .before .before .before .before .before .before .before .before .before .before in table-number (engine-of s) (scratch-at s) (s .args .source .0) (s .args .end) _ _ (c .query-refusal .ensures) (c .before .before .before .before .before .both2 .ensures) (c .before .before .before .before .before .before .both .ensures) (c .before .before .before .before .before .before .before .before .at-most .ensures) (c .before .before .before .before .before .before .before .at-most2 .ensures) (c .before .before .before .before .before .before .before .before .before .scratch-fits .ensures) (c .before .both3 .ensures) (c .before .before .end-in-range .ensures)
 
-number-then : (t : tie.Then1) → number-at (t .before .before .before .before .before .before .before .before .before .before .before .before .before .before .before .before .before .before .before .before .before .before .before .before .before .before) ≡ 0
+number-then : (t : tie.Then1) → number-at (t .before .before .before .before .before .before .before .before .before .before .before .before .before .before .before .before .before .before .before .before .before .before .before .before .before .before .before .before .before .before .before .before .before) ≡ 0
 number-then t = sym (number-is (t .before)) ∙ t .if1 .taken
 
 -- ---- what the search leaves
@@ -64,26 +64,26 @@ before-it s = scratchIn (s .args .neighbor-numbers) (s .args .list-ends) (s .arg
 after-it : tie.After-search → ScratchColumns
 after-it c = let l = c .search .last .1 .1 .1 .1 .1 .1 in scratchOf (l .0) (l .1 .0) (l .1 .1 .0) (l .1 .1 .1 .0) (l .1 .1 .1 .1 .0) (l .1 .1 .1 .1 .1 .0) (l .1 .1 .1 .1 .1 .1 .0)
 
-state-is : (c : tie.After-search) → let s = c .before .before .before .before .before .before .before .before .before .before .before .before .before .before .before .before .before .before .before .before .before .before .before .before .before .before .before .before .before .before .before .before .before .before .before in settled (graphIn (engine-of s)) (weightsIn (engine-of s)) (only (s .args .source .0)) (endOf (s .args .c .vertices) (c .before .before .before .before .before .before .before .before .stop-of .result)) ≡ state-at s
+state-is : (c : tie.After-search) → let s = c .before .before .before .before .before .before .before .before .before .before .before .before .before .before .before .before .before .before .before .before .before .before .before .before .before .before .before .before .before .before .before .before .before .before .before .before .before .before .before .before .before .before in settled (graphIn (engine-of s)) (weightsIn (engine-of s)) (only (s .args .source .0)) (endOf (s .args .c .vertices) (c .before .before .before .before .before .before .before .before .stop-of .result)) ≡ state-at s
 unfolding engine-of state-at number-at
 state-is c =
-    let s = c .before .before .before .before .before .before .before .before .before .before .before .before .before .before .before .before .before .before .before .before .before .before .before .before .before .before .before .before .before .before .before .before .before .before .before in
+    let s = c .before .before .before .before .before .before .before .before .before .before .before .before .before .before .before .before .before .before .before .before .before .before .before .before .before .before .before .before .before .before .before .before .before .before .before .before .before .before .before .before .before .before in
     let g = graphIn (engine-of s) in
     let w = weightsIn (engine-of s) in
     ap (λ k. settled g w (only (s .args .source .0)) (endOf (s .args .c .vertices) k)) (c .before .before .before .before .before .before .before .before .stop-of .ensures) ∙ stop-same g w (s .args .source .0) (s .args .end) (asked-at s (number-then (c .before .before .before .before .before .before .before .before .before)) .end-in)
 
-left : (c : tie.After-search) → SearchLeft (graphIn (engine-of (c .before .before .before .before .before .before .before .before .before .before .before .before .before .before .before .before .before .before .before .before .before .before .before .before .before .before .before .before .before .before .before .before .before .before .before))) (state-at (c .before .before .before .before .before .before .before .before .before .before .before .before .before .before .before .before .before .before .before .before .before .before .before .before .before .before .before .before .before .before .before .before .before .before .before)) (before-it (c .before .before .before .before .before .before .before .before .before .before .before .before .before .before .before .before .before .before .before .before .before .before .before .before .before .before .before .before .before .before .before .before .before .before .before)) (after-it c)
+left : (c : tie.After-search) → SearchLeft (graphIn (engine-of (c .before .before .before .before .before .before .before .before .before .before .before .before .before .before .before .before .before .before .before .before .before .before .before .before .before .before .before .before .before .before .before .before .before .before .before .before .before .before .before .before .before .before))) (state-at (c .before .before .before .before .before .before .before .before .before .before .before .before .before .before .before .before .before .before .before .before .before .before .before .before .before .before .before .before .before .before .before .before .before .before .before .before .before .before .before .before .before .before)) (before-it (c .before .before .before .before .before .before .before .before .before .before .before .before .before .before .before .before .before .before .before .before .before .before .before .before .before .before .before .before .before .before .before .before .before .before .before .before .before .before .before .before .before .before)) (after-it c)
 unfolding engine-of before-it after-it
-left c = subst (λ x. SearchLeft (graphIn (engine-of (c .before .before .before .before .before .before .before .before .before .before .before .before .before .before .before .before .before .before .before .before .before .before .before .before .before .before .before .before .before .before .before .before .before .before .before))) x (before-it (c .before .before .before .before .before .before .before .before .before .before .before .before .before .before .before .before .before .before .before .before .before .before .before .before .before .before .before .before .before .before .before .before .before .before .before)) (after-it c)) (state-is c) (c .search .ensures .0)
+left c = subst (λ x. SearchLeft (graphIn (engine-of (c .before .before .before .before .before .before .before .before .before .before .before .before .before .before .before .before .before .before .before .before .before .before .before .before .before .before .before .before .before .before .before .before .before .before .before .before .before .before .before .before .before .before))) x (before-it (c .before .before .before .before .before .before .before .before .before .before .before .before .before .before .before .before .before .before .before .before .before .before .before .before .before .before .before .before .before .before .before .before .before .before .before .before .before .before .before .before .before .before)) (after-it c)) (state-is c) (c .search .ensures .0)
 
-settles : (c : tie.After-search) → Settles (c .before .before .before .before .before .before .before .before .before .before .before .before .before .before .before .before .before .before .before .before .before .before .before .before .before .before .before .before .before .before .before .before .before .before .before .args .c .vertices) (state-at (c .before .before .before .before .before .before .before .before .before .before .before .before .before .before .before .before .before .before .before .before .before .before .before .before .before .before .before .before .before .before .before .before .before .before .before))
+settles : (c : tie.After-search) → Settles (c .before .before .before .before .before .before .before .before .before .before .before .before .before .before .before .before .before .before .before .before .before .before .before .before .before .before .before .before .before .before .before .before .before .before .before .before .before .before .before .before .before .before .args .c .vertices) (state-at (c .before .before .before .before .before .before .before .before .before .before .before .before .before .before .before .before .before .before .before .before .before .before .before .before .before .before .before .before .before .before .before .before .before .before .before .before .before .before .before .before .before .before))
 unfolding engine-of
-settles c = subst (λ x. Settles (c .before .before .before .before .before .before .before .before .before .before .before .before .before .before .before .before .before .before .before .before .before .before .before .before .before .before .before .before .before .before .before .before .before .before .before .args .c .vertices) x) (state-is c) (c .search .ensures .1)
+settles c = subst (λ x. Settles (c .before .before .before .before .before .before .before .before .before .before .before .before .before .before .before .before .before .before .before .before .before .before .before .before .before .before .before .before .before .before .before .before .before .before .before .before .before .before .before .before .before .before .args .c .vertices) x) (state-is c) (c .search .ensures .1)
 
 search-requires : tie.Need-search-requires
 unfolding number-at engine-of scratch-at
 search-requires c κs =
-    let s : tie.Start = c .before .before .before .before .before .before .before .before .before .before .before .before .before .before .before .before .before .before .before .before .before .before .before .before .before .before .before .before .before .before .before .before .before .before in
+    let s : tie.Start = c .before .before .before .before .before .before .before .before .before .before .before .before .before .before .before .before .before .before .before .before .before .before .before .before .before .before .before .before .before .before .before .before .before .before .before .before .before .before .before .before .before in
     let k = asked-at s (number-then (c .before .before .before .before .before .before .before .before)) in (
       (columns-long-from _ _ _ _ _ _ (k .long .columns), columns-sound-from _ _ _ _ _ _ (k .sound .columns)),
       (k .scratch-is, (k .source-in, λ e. stop-other (s .args .source .0) (s .args .c .vertices) (s .args .end) (k .source-in) (sym (c .before .before .before .before .before .before .before .stop-of .ensures) ∙ e))),
@@ -91,17 +91,17 @@ search-requires c κs =
 
 -- ---- the columns read
 
-status-room : (c : tie.After-search) → c .before .before .before .before .before .before .before .before .before .before .before .before .before .before .before .before .before .before .before .before .before .before .before .before .before .before .before .before .before .before .before .before .before .before .before .args .c .vertices ≤ length (after-it c .status)
+status-room : (c : tie.After-search) → c .before .before .before .before .before .before .before .before .before .before .before .before .before .before .before .before .before .before .before .before .before .before .before .before .before .before .before .before .before .before .before .before .before .before .before .before .before .before .before .before .before .before .args .c .vertices ≤ length (after-it c .status)
 unfolding after-it
-status-room c = omega (arith, c .search .kept .1 .1 .1 .1 .1 .1 .1 .1 .0, fits (c .before .before .before .before .before .before .before .before .before .before .before .before .before .before .before .before .before .before .before .before .before .before .before .before .before .before .before .before .before .before .before .before .before .before .before) (number-then (c .before .before .before .before .before .before .before .before .before)) .status-long)
+status-room c = omega (arith, c .search .kept .1 .1 .1 .1 .1 .1 .1 .1 .0, fits (c .before .before .before .before .before .before .before .before .before .before .before .before .before .before .before .before .before .before .before .before .before .before .before .before .before .before .before .before .before .before .before .before .before .before .before .before .before .before .before .before .before .before) (number-then (c .before .before .before .before .before .before .before .before .before)) .status-long)
 
-weight-room : (c : tie.After-search) → c .before .before .before .before .before .before .before .before .before .before .before .before .before .before .before .before .before .before .before .before .before .before .before .before .before .before .before .before .before .before .before .before .before .before .before .args .c .vertices ≤ length (after-it c .weight)
+weight-room : (c : tie.After-search) → c .before .before .before .before .before .before .before .before .before .before .before .before .before .before .before .before .before .before .before .before .before .before .before .before .before .before .before .before .before .before .before .before .before .before .before .before .before .before .before .before .before .before .args .c .vertices ≤ length (after-it c .weight)
 unfolding after-it
-weight-room c = omega (arith, c .search .kept .1 .1 .1 .1 .1 .1 .1 .1 .1 .0, fits (c .before .before .before .before .before .before .before .before .before .before .before .before .before .before .before .before .before .before .before .before .before .before .before .before .before .before .before .before .before .before .before .before .before .before .before) (number-then (c .before .before .before .before .before .before .before .before .before)) .weight-long)
+weight-room c = omega (arith, c .search .kept .1 .1 .1 .1 .1 .1 .1 .1 .1 .0, fits (c .before .before .before .before .before .before .before .before .before .before .before .before .before .before .before .before .before .before .before .before .before .before .before .before .before .before .before .before .before .before .before .before .before .before .before .before .before .before .before .before .before .before) (number-then (c .before .before .before .before .before .before .before .before .before)) .weight-long)
 
-previous-room : (c : tie.After-search) → c .before .before .before .before .before .before .before .before .before .before .before .before .before .before .before .before .before .before .before .before .before .before .before .before .before .before .before .before .before .before .before .before .before .before .before .args .c .vertices ≤ length (after-it c .previous)
+previous-room : (c : tie.After-search) → c .before .before .before .before .before .before .before .before .before .before .before .before .before .before .before .before .before .before .before .before .before .before .before .before .before .before .before .before .before .before .before .before .before .before .before .before .before .before .before .before .before .before .args .c .vertices ≤ length (after-it c .previous)
 unfolding after-it
-previous-room c = omega (arith, c .search .kept .1 .1 .1 .1 .1 .1 .1 .1 .1 .1 .0, fits (c .before .before .before .before .before .before .before .before .before .before .before .before .before .before .before .before .before .before .before .before .before .before .before .before .before .before .before .before .before .before .before .before .before .before .before) (number-then (c .before .before .before .before .before .before .before .before .before)) .previous-long)
+previous-room c = omega (arith, c .search .kept .1 .1 .1 .1 .1 .1 .1 .1 .1 .1 .0, fits (c .before .before .before .before .before .before .before .before .before .before .before .before .before .before .before .before .before .before .before .before .before .before .before .before .before .before .before .before .before .before .before .before .before .before .before .before .before .before .before .before .before .before) (number-then (c .before .before .before .before .before .before .before .before .before)) .previous-long)
 
 slice-reshare-prefix-write-weights : tie.Need-slice-reshare-prefix-write-weights
 unfolding after-it
@@ -122,7 +122,7 @@ slice-aggregate-write-weights-2 c = sym (length-take-le _ _ (weight-room (c .bef
 write-weights-requires : tie.Need-write-weights-requires
 unfolding after-it number-at engine-of
 write-weights-requires c κs =
-    let k = asked-at (c .before .before .before .before .before .before .before .before .before .before .before .before .before .before .before .before .before .before .before .before .before .before .before .before .before .before .before .before .before .before .before .before .before .before .before .before .before .before .before .before .before .before .before .before .before .before .before .before .before .before .before .before) (number-then (c .before .before .before .before .before .before .before .before .before .before .before .before .before .before .before .before .before .before .before .before .before .before .before .before .before .before)) in
+    let k = asked-at (c .before .before .before .before .before .before .before .before .before .before .before .before .before .before .before .before .before .before .before .before .before .before .before .before .before .before .before .before .before .before .before .before .before .before .before .before .before .before .before .before .before .before .before .before .before .before .before .before .before .before .before .before .before .before .before .before .before .before .before) (number-then (c .before .before .before .before .before .before .before .before .before .before .before .before .before .before .before .before .before .before .before .before .before .before .before .before .before .before)) in
     let l = left (c .before .before .before .before .before .before .before .before .before .before .before .before .before .before .before .before .before) in
     let o = settles (c .before .before .before .before .before .before .before .before .before .before .before .before .before .before .before .before .before) in
     (weight-length l o ∙ sym (status-length l o), omega (arith, k .weights-long, status-length l o), light-read l o)
@@ -146,7 +146,7 @@ slice-aggregate-write-previous-2 c = sym (length-take-le _ _ (previous-room (c .
 write-previous-requires : tie.Need-write-previous-requires
 unfolding after-it number-at engine-of
 write-previous-requires c κs =
-    let k = asked-at (c .before .before .before .before .before .before .before .before .before .before .before .before .before .before .before .before .before .before .before .before .before .before .before .before .before .before .before .before .before .before .before .before .before .before .before .before .before .before .before .before .before .before .before .before .before .before .before .before .before .before .before .before .before .before .before .before .before) (number-then (c .before .before .before .before .before .before .before .before .before .before .before .before .before .before .before .before .before .before .before .before .before .before .before .before .before .before .before .before .before .before .before)) in
+    let k = asked-at (c .before .before .before .before .before .before .before .before .before .before .before .before .before .before .before .before .before .before .before .before .before .before .before .before .before .before .before .before .before .before .before .before .before .before .before .before .before .before .before .before .before .before .before .before .before .before .before .before .before .before .before .before .before .before .before .before .before .before .before .before .before .before .before .before) (number-then (c .before .before .before .before .before .before .before .before .before .before .before .before .before .before .before .before .before .before .before .before .before .before .before .before .before .before .before .before .before .before .before)) in
     let l = left (c .before .before .before .before .before .before .before .before .before .before .before .before .before .before .before .before .before .before .before .before .before .before) in
     let o = settles (c .before .before .before .before .before .before .before .before .before .before .before .before .before .before .before .before .before .before .before .before .before .before) in
     (previous-length l o ∙ sym (status-length l o), omega (arith, k .previous-long, status-length l o))
@@ -154,7 +154,7 @@ write-previous-requires c κs =
 returns : tie.Need-returns
 unfolding number-at engine-of scratch-at state-at before-it after-it table
 returns c =
-    let s : tie.Start = c .before .before .before .before .before .before .before .before .before .before .before .before .before .before .before .before .before .before .before .before .before .before .before .before .before .before .before .before .before .before .before .before .before .before .before .before .before .before .before .before .before .before .before .before .before .before .before .before .before .before .before .before .before .before .before .before .before .before .before .before in
+    let s : tie.Start = c .before .before .before .before .before .before .before .before .before .before .before .before .before .before .before .before .before .before .before .before .before .before .before .before .before .before .before .before .before .before .before .before .before .before .before .before .before .before .before .before .before .before .before .before .before .before .before .before .before .before .before .before .before .before .before .before .before .before .before .before .before .before .before .before .before .before .before in
     let z = number-then (c .before .before .before .before .before .before .before .before .before .before .before .before .before .before .before .before .before .before .before .before .before .before .before .before .before .before .before .before .before .before .before .before .before .before) in
     let k = asked-at s z in
     let l = left (c .before .before .before .before .before .before .before .before .before .before .before .before .before .before .before .before .before .before .before .before .before .before .before .before .before) in
@@ -179,7 +179,7 @@ returns c =
 returns-2 : tie.Need-returns-2
 unfolding number-at engine-of scratch-at state-at before-it
 returns-2 c =
-    let s : tie.Start = c .before .before .before .before .before .before .before .before .before .before .before .before .before .before .before .before .before .before .before .before .before .before .before .before .before .before in
+    let s : tie.Start = c .before .before .before .before .before .before .before .before .before .before .before .before .before .before .before .before .before .before .before .before .before .before .before .before .before .before .before .before .before .before .before .before .before in
     let d : c .before .query-refusal .result ≡ number-at s = number-is (c .before) in
     let f : number-at s ≡ 0 → ⊥ = λ e. c .if1 .left (d ∙ e) in
     record {
@@ -190,4 +190,4 @@ returns-2 c =
     }
 
 pub all-edges-with-terminate-spec : {M : Type 1} → statement M
-all-edges-with-terminate-spec = tie.close (tie.spec (λ c. search needs) (λ c κs. tt) (λ c κs. tt) (λ c κs. tt) (λ c κs. tt) (λ c κs. tt) (λ c κs. tt) (λ c κs. tt) (λ c κs. tt) (λ c κs. tt) search-requires slice-reshare-prefix-write-weights slice-aggregate-write-weights slice-reshare-prefix-write-weights-2 slice-aggregate-write-weights-2 write-weights-requires slice-reshare-prefix-write-previous slice-aggregate-write-previous slice-reshare-prefix-write-previous-2 slice-aggregate-write-previous-2 write-previous-requires (λ c. search needs) (λ c. search needs) (λ c. search needs) (λ c. search needs) (λ c. search needs) (λ c. search needs) (λ c. search needs) (λ c. search needs) (λ c. search needs) returns returns-2)
+all-edges-with-terminate-spec = tie.close (tie.spec (λ c. search needs) (λ c κs. tt) (λ c κs. tt) (λ c κs. tt) (λ c κs. tt) (λ c κs. tt) (λ c κs. tt) (λ c κs. tt) (λ c κs. tt) (λ c κs. tt) search-requires slice-reshare-prefix-write-weights slice-aggregate-write-weights slice-reshare-prefix-write-weights-2 slice-aggregate-write-weights-2 write-weights-requires slice-reshare-prefix-write-previous slice-aggregate-write-previous slice-reshare-prefix-write-previous-2 slice-aggregate-write-previous-2 write-previous-requires (λ c. search needs) (λ c. search needs) (λ c. search needs) (λ c. search needs) (λ c. search needs) (λ c. search needs) (λ c. search needs) (λ c. search needs) (λ c. search needs) returns (λ c. search needs) (λ c. search needs) (λ c. search needs) (λ c. search needs) (λ c. search needs) (λ c. search needs) (λ c. search needs) returns-2)

@@ -35,7 +35,7 @@ unfolding each
 loop-holds c = (search needs, refl, refl, refl, refl, refl, refl, refl, refl, refl, refl, refl, refl, refl, record { none = λ z. (refl, refl, refl); last = λ u q. absurd (omega arith) })
 
 fill-one-requires : tie.Need-fill-one-requires Inv-loop μ-loop
-fill-one-requires c κs = let s = c .before .before .before .before .before .before .before .before .before .before .before .before .before .before .before .before .before .before .before .before .before .before .before .before .before .before .before .before .before in let at = c .before .before .before .before .before .before .before .before .before .before .before .before .before .loop in (same-room (s .pre) (at .inv .3) (at .inv .4) (at .inv .5) (at .inv .6) (λ i. record { «neighbor_numbers» = at .inv .7 i; «list_ends» = at .inv .8 i; status = at .inv .9 i; weight = at .inv .10 i; previous = at .inv .11 i; node = at .inv .12 i; leaf = at .inv .13 i }), c .before .before .before .before .before .before .before .before .before .before .before .if1 .taken)
+fill-one-requires c κs = let s = c .before .before .before .before .before .before .before .before .before .before .before .before .before .before .before .before .before .before .before .before .before .before .before .before .before .before .before .before .before in let at = c .before .before .before .before .before .before .before .before .before .before .before .before .before .loop in (same-room (s .pre) (at .inv .3) (at .inv .4) (at .inv .5) (at .inv .6) (λ i. record { neighborNumbers = at .inv .7 i; listEnds = at .inv .8 i; status = at .inv .9 i; weight = at .inv .10 i; previous = at .inv .11 i; node = at .inv .12 i; leaf = at .inv .13 i }), c .before .before .before .before .before .before .before .before .before .before .before .if1 .taken)
 
 loop-again : tie.Need-loop-again Inv-loop μ-loop
 loop-again c =

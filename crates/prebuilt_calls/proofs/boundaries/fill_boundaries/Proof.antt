@@ -25,15 +25,15 @@ engine-of : tie.Start → Engine
 engine-of s = engineIn (s .args .c) (s .args .ends-a) (s .args .ends-b) (s .args .weights) (s .args .boundary) (s .args .log-edges) (s .args .log-weights)
 
 scratch-at : tie.Start → Bool
-scratch-at s = scratchFits (engine-of s) (scratchIn (s .args .neighbor-numbers) (s .args .list-ends) (s .args .status) (s .args .weight) (s .args .previous) (s .args .node) (s .args .leaf))
+scratch-at s = scratchFits (s .args .c) (scratchIn (s .args .neighbor-numbers) (s .args .list-ends) (s .args .status) (s .args .weight) (s .args .previous) (s .args .node) (s .args .leaf))
 
 number-at : tie.Start → ℕ
 unfolding engine-of scratch-at
 number-at s = boundariesRefusal (engine-of s) (scratch-at s) (length (s .args .out-weight .now)) (length (s .args .out-vertex .now)) (length (s .args .least .now)) (length (s .args .before .now))
 
-number-then : (t : tie.Then1) → number-at (t .before .before .before .before .before .before .before .before .before .before .before .before .before .before .before .before .before .before .before .before .before .before .before .before .before .before .before) ≡ 0
+number-then : (t : tie.Then1) → number-at (t .before .before .before .before .before .before .before .before .before .before .before .before .before .before .before .before .before .before .before .before .before .before .before .before .before .before .before .before .before .before .before .before .before .before) ≡ 0
 unfolding number-at engine-of scratch-at
-number-then t = sym (t .before .query-refusal .ensures ∙ (λ i. queryRefusal (engine-of (t .before .before .before .before .before .before .before .before .before .before .before .before .before .before .before .before .before .before .before .before .before .before .before .before .before .before .before)) ((t .before .before .both4 .ensures ∙ (λ j. t .before .before .before .before .before .at-most3 .ensures j && (t .before .before .before .both3 .ensures ∙ (λ k. t .before .before .before .before .at-most4 .ensures k && (t .before .before .before .before .before .before .both2 .ensures ∙ (λ l. t .before .before .before .before .before .before .before .before .before .at-most .ensures l && (t .before .before .before .before .before .before .before .both .ensures ∙ (λ m. t .before .before .before .before .before .before .before .before .at-most2 .ensures m && t .before .before .before .before .before .before .before .before .before .before .scratch-long .ensures m)) l)) k)) j)) i) true 0)) ∙ t .if1 .taken
+number-then t = sym (t .before .query-refusal .ensures ∙ (λ i. queryRefusal (engine-of (t .before .before .before .before .before .before .before .before .before .before .before .before .before .before .before .before .before .before .before .before .before .before .before .before .before .before .before .before .before .before .before .before .before .before)) ((t .before .before .both4 .ensures ∙ (λ j. t .before .before .before .before .before .at-most3 .ensures j && (t .before .before .before .both3 .ensures ∙ (λ k. t .before .before .before .before .at-most4 .ensures k && (t .before .before .before .before .before .before .both2 .ensures ∙ (λ l. t .before .before .before .before .before .before .before .before .before .at-most .ensures l && (t .before .before .before .before .before .before .before .both .ensures ∙ (λ m. t .before .before .before .before .before .before .before .before .at-most2 .ensures m && t .before .before .before .before .before .before .before .before .before .before .scratch-fits .ensures m)) l)) k)) j)) i) true 0)) ∙ t .if1 .taken
 
 fillable-at : (s : tie.Start) → number-at s ≡ 0 → Fillable (engine-of s) (length (s .args .out-weight .now)) (length (s .args .out-vertex .now)) (length (s .args .least .now)) (length (s .args .before .now)) (scratchLengths (scratchIn (s .args .neighbor-numbers) (s .args .list-ends) (s .args .status) (s .args .weight) (s .args .previous) (s .args .node) (s .args .leaf)))
 unfolding number-at engine-of scratch-at
@@ -41,12 +41,12 @@ fillable-at s z = fillable (engine-of s) _ _ _ _ _ z
 
 fill-all-requires : tie.Need-fill-all-requires
 unfolding engine-of
-fill-all-requires c κs = let t : tie.Then1 = c .before .before .before .before .before .before .before .before .before .before .before in fillable-at (t .before .before .before .before .before .before .before .before .before .before .before .before .before .before .before .before .before .before .before .before .before .before .before .before .before .before .before) (number-then t)
+fill-all-requires c κs = let t : tie.Then1 = c .before .before .before .before .before .before .before .before .before .before .before in fillable-at (t .before .before .before .before .before .before .before .before .before .before .before .before .before .before .before .before .before .before .before .before .before .before .before .before .before .before .before .before .before .before .before .before .before .before) (number-then t)
 
 returns : tie.Need-returns
 unfolding number-at engine-of scratch-at
 returns c = let t : tie.Then1 = c .before .before .before .before .before .before .before .before .before .before .before .before .before .before .before .before .before .before .before .before .before .before .before .before .before .before .before .before .before .before .before .before in
-    let s : tie.Start = t .before .before .before .before .before .before .before .before .before .before .before .before .before .before .before .before .before .before .before .before .before .before .before .before .before .before .before in
+    let s : tie.Start = t .before .before .before .before .before .before .before .before .before .before .before .before .before .before .before .before .before .before .before .before .before .before .before .before .before .before .before .before .before .before .before .before .before .before in
     let z = number-then t in
     let k = fillable-at s z in
     let o = c .before .before .before .before .before .before .before .before .before .before .before .before .before .before .before .before .before .before .before .before .fill-all .ensures in
@@ -60,8 +60,8 @@ returns c = let t : tie.Then1 = c .before .before .before .before .before .befor
 
 returns-2 : tie.Need-returns-2
 unfolding number-at engine-of scratch-at
-returns-2 c = let s : tie.Start = c .before .before .before .before .before .before .before .before .before .before .before .before .before .before .before .before .before .before .before .before .before .before .before .before .before .before .before in
-    let d : c .before .query-refusal .result ≡ number-at s = (c .before .query-refusal .ensures ∙ (λ i. queryRefusal (engine-of (c .before .before .before .before .before .before .before .before .before .before .before .before .before .before .before .before .before .before .before .before .before .before .before .before .before .before .before)) ((c .before .before .both4 .ensures ∙ (λ j. c .before .before .before .before .before .at-most3 .ensures j && (c .before .before .before .both3 .ensures ∙ (λ k. c .before .before .before .before .at-most4 .ensures k && (c .before .before .before .before .before .before .both2 .ensures ∙ (λ l. c .before .before .before .before .before .before .before .before .before .at-most .ensures l && (c .before .before .before .before .before .before .before .both .ensures ∙ (λ m. c .before .before .before .before .before .before .before .before .at-most2 .ensures m && c .before .before .before .before .before .before .before .before .before .before .scratch-long .ensures m)) l)) k)) j)) i) true 0)) in
+returns-2 c = let s : tie.Start = c .before .before .before .before .before .before .before .before .before .before .before .before .before .before .before .before .before .before .before .before .before .before .before .before .before .before .before .before .before .before .before .before .before .before in
+    let d : c .before .query-refusal .result ≡ number-at s = (c .before .query-refusal .ensures ∙ (λ i. queryRefusal (engine-of (c .before .before .before .before .before .before .before .before .before .before .before .before .before .before .before .before .before .before .before .before .before .before .before .before .before .before .before .before .before .before .before .before .before .before)) ((c .before .before .both4 .ensures ∙ (λ j. c .before .before .before .before .before .at-most3 .ensures j && (c .before .before .before .both3 .ensures ∙ (λ k. c .before .before .before .before .at-most4 .ensures k && (c .before .before .before .before .before .before .both2 .ensures ∙ (λ l. c .before .before .before .before .before .before .before .before .before .at-most .ensures l && (c .before .before .before .before .before .before .before .both .ensures ∙ (λ m. c .before .before .before .before .before .before .before .before .at-most2 .ensures m && c .before .before .before .before .before .before .before .before .before .before .scratch-fits .ensures m)) l)) k)) j)) i) true 0)) in
     let f : number-at s ≡ 0 → ⊥ = λ e. c .if1 .left (d ∙ e) in
     record {
       answers = refuses-of d (c .if1 .left);
@@ -72,4 +72,4 @@ returns-2 c = let s : tie.Start = c .before .before .before .before .before .bef
     }
 
 pub fill-boundaries-spec : {M : Type 1} → statement M
-fill-boundaries-spec = tie.close (tie.spec (λ c. search needs) (λ c κs. tt) (λ c κs. tt) (λ c κs. tt) (λ c κs. tt) (λ c κs. tt) (λ c κs. tt) (λ c κs. tt) (λ c κs. tt) (λ c κs. tt) (λ c κs. tt) fill-all-requires (λ c. c .before .before .before .before .before .before .before .before .before .before .before .before .before .before .before .before .before .before .before .out-weight .given) (λ c. c .before .before .before .before .before .before .before .before .before .before .before .before .before .before .before .before .before .before .out-vertex .given) (λ c. c .before .before .before .before .before .before .before .before .before .before .before .before .before .before .before .before .least .given) (λ c. c .before .before .before .before .before .before .before .before .before .before .before .before .before .before .before .before2 .given) (λ c. c .before .before .before .before .before .before .before .before .before .before .before .before .before .neighbor-numbers .given) (λ c. c .before .before .before .before .before .before .before .before .before .before .before .list-ends .given) (λ c. c .before .before .before .before .before .before .before .before .before .status .given) (λ c. c .before .before .before .before .before .before .before .weight .given) (λ c. c .before .before .before .before .before .previous .given) (λ c. c .before .before .before .node .given) (λ c. c .before .leaf .given) returns returns-2)
+fill-boundaries-spec = tie.close (tie.spec (λ c. search needs) (λ c κs. tt) (λ c κs. tt) (λ c κs. tt) (λ c κs. tt) (λ c κs. tt) (λ c κs. tt) (λ c κs. tt) (λ c κs. tt) (λ c κs. tt) (λ c κs. tt) fill-all-requires (λ c. c .before .before .before .before .before .before .before .before .before .before .before .before .before .before .before .before .before .before .before .out-weight .given) (λ c. c .before .before .before .before .before .before .before .before .before .before .before .before .before .before .before .before .before .before .out-vertex .given) (λ c. c .before .before .before .before .before .before .before .before .before .before .before .before .before .before .before .before .least .given) (λ c. c .before .before .before .before .before .before .before .before .before .before .before .before .before .before .before .before2 .given) (λ c. c .before .before .before .before .before .before .before .before .before .before .before .before .before .neighbor-numbers .given) (λ c. c .before .before .before .before .before .before .before .before .before .before .before .list-ends .given) (λ c. c .before .before .before .before .before .before .before .before .before .status .given) (λ c. c .before .before .before .before .before .before .before .weight .given) (λ c. c .before .before .before .before .before .previous .given) (λ c. c .before .before .before .node .given) (λ c. c .before .leaf .given) returns (λ c. search needs) (λ c. search needs) (λ c. search needs) (λ c. search needs) (λ c. search needs) (λ c. search needs) (λ c. search needs) returns-2)

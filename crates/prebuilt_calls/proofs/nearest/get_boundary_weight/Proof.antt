@@ -30,7 +30,7 @@ engine-of : tie.Start → Engine
 engine-of s = engineIn (s .args .c) (s .args .ends-a) (s .args .ends-b) (s .args .weights) (s .args .boundary) (s .args .log-edges) (s .args .log-weights)
 
 scratch-at : tie.Start → Bool
-scratch-at s = scratchFits (engine-of s) (scratchIn (s .args .neighbor-numbers) (s .args .list-ends) (s .args .status) (s .args .weight) (s .args .previous) (s .args .node) (s .args .leaf))
+scratch-at s = scratchFits (s .args .c) (scratchIn (s .args .neighbor-numbers) (s .args .list-ends) (s .args .status) (s .args .weight) (s .args .previous) (s .args .node) (s .args .leaf))
 
 number-at : tie.Start → ℕ
 unfolding engine-of scratch-at

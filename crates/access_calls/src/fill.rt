@@ -5,7 +5,7 @@ ghost use lib.ListN.{length};
 ghost use Rattle.columns.specs.Lists.{over};
 ghost use Rattle.columns_neighbors.specs.Lists.{lists, degrees};
 ghost use Rattle.columns_neighbors.specs.Steps.{InRange};
-ghost use Rattle.access_calls.specs.Fill.{vertices, vertexColumnsLong, fillRefusal, FilledVertices, verticesIn};
+ghost use Rattle.access_calls.specs.Fill.{vertexColumnsLong, fillRefusal, FilledVertices, verticesIn};
 use columns::Done;
 use columns::done_of;
 use columns::questions::asked;

@@ -8,7 +8,6 @@ use columns::Weight;
 use engine_columns::EngineCounts;
 ghost use Rattle.engine_columns.specs.Records.{counts, engineIn};
 ghost use Rattle.query_questions.specs.Scratch.{scratchIn};
-ghost use Prim.Native.Nat.{_-_};
 ghost use Rattle.prebuilt_calls.specs.Rows.{FilledRow};
 ghost use Rattle.prebuilt_calls.specs.Nearest.{GotBoundaryWeight};
 ghost use Rattle.prebuilt_calls.specs.Boundaries.{FilledBoundaries};

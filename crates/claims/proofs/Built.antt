@@ -78,9 +78,9 @@ weighted-says kind d rounds p diagonal max lent back v e h =
     (h .columns-after .endsA-after) (h .columns-after .endsB-after) (h .columns-after .boundary-after)
 
 pub built-of : (kind d rounds v e : ℕ) (a b m : List ℕ) → CodeBuilt kind d rounds v e a b m → BuiltGraph kind d rounds v e a b m
-built-of kind d rounds v e a b m (Called.created κs x v′ e′ s h) = create-says _ _ _ _ _ v′ e′ h
-built-of kind d rounds v e a b m (Called.newly κs x v′ e′ s h) = weighted-says _ _ _ _ _ _ _ _ v′ e′ h
-built-of kind d rounds v e a b m (Called.diagonally κs x v′ e′ s h) = weighted-says _ _ _ _ _ _ _ _ v′ e′ h
+built-of kind d rounds v e a b m (Called.create-called κs x v′ e′ s h) = create-says _ _ _ _ _ v′ e′ h
+built-of kind d rounds v e a b m (Called.new-called κs x v′ e′ s h) = weighted-says _ _ _ _ _ _ _ _ v′ e′ h
+built-of kind d rounds v e a b m (Called.new-diagonal-called κs x v′ e′ s h) = weighted-says _ _ _ _ _ _ _ _ v′ e′ h
 
 -- handed on in other columns
 pub handed-on : {kind d rounds v e : ℕ} {a b m a′ b′ m′ : List ℕ} → BuiltGraph kind d rounds v e a b m → take e a′ ≡ take e a → take e b′ ≡ take e b → take v m′ ≡ take v m

@@ -22,7 +22,7 @@ use Rattle.query_questions.specs.Queries.{graphIn, weightsIn}
 use Rattle.query_questions.specs.Scratch.{ScratchColumns, scratchFits}
 use Rattle.query_crossing_answer.specs.declared.CrossingReply.{CrossingReply}
 use Rattle.query_crossing_answer.specs.Crossing.{replyNumber, isJoined, weightFound, crossingRefusal, FoundCrossing}
-use Rattle.claims.specs.QueriesCalled.{crossed}
+use Rattle.claims.specs.QueriesCalled.{crossing-returned}
 use Rattle.claims.specs.Met.{CrossingMet}
 use Rattle.claims.specs.Queries.{CrossingSays, CrossingCallIsLeast}
 use Rattle.claims.proofs.Questions.{longAll, crossing-met, crossing-long, columns-in-range}
@@ -90,4 +90,4 @@ module _ (e : Engine) (r : CrossingReply) (weights₀ weights : List ℤ) (scrat
   crossing-says = by-case (longAll e weights₀ scratch₀) (engineSound e) refl refl
 
 pub crossing-call-least : CrossingCallIsLeast
-crossing-call-least e r weights₀ weights scratch₀ scratch (crossed κs a q s h) = crossing-says e r weights₀ weights scratch₀ scratch h
+crossing-call-least e r weights₀ weights scratch₀ scratch (crossing-returned κs a q s h) = crossing-says e r weights₀ weights scratch₀ scratch h

@@ -20,7 +20,7 @@ use Rattle.query_paths.specs.declared.PathAnswer.{PathAnswer as Reply}
 use Rattle.query_paths.specs.GetPath.{foundSaid, lengthOf, lengthAndTotal, verticesAfter, stepsAfter, GotPath}
 use Rattle.query_paths.specs.GetPath as P
 use Rattle.query_paths.proofs.PathAsked.{before-17}
-use Rattle.claims.specs.QueriesCalled.{PathColumns, walked}
+use Rattle.claims.specs.QueriesCalled.{PathColumns, path-returned}
 use Rattle.claims.specs.Met.{PathMet}
 use Rattle.claims.specs.Queries.{PathSays, GetPathIsLeast}
 use Rattle.claims.proofs.Questions.{pathNumber, path-met, path-number, columns-in-range}
@@ -90,4 +90,4 @@ module _ (e : Engine) (a b : ℕ) (r : Reply) (columns₀ columns : PathColumns)
       (λ z. let m = met z in path-is-least g w a b (columns-in-range e (m .six-and-seven .graph-long) (m .six-and-seven .graph-sound) .0) (m .a-within))
 
 pub get-path-least : GetPathIsLeast
-get-path-least e a b r columns₀ columns scratch₀ scratch (walked κs x q s h) = path-says e a b r columns₀ columns scratch₀ scratch h
+get-path-least e a b r columns₀ columns scratch₀ scratch (path-returned κs x q s h) = path-says e a b r columns₀ columns scratch₀ scratch h

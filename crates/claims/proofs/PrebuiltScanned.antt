@@ -56,11 +56,11 @@ module _ (e : Engine) (weights₀ weights : List ℤ) (vertices₀ vertices : Li
 
 pub weight-of : (e : Engine) (weights : List ℤ) (vertices : List ℕ) → BoundariesFilled e weights vertices → (v : ℕ) → v < e .counts .vertices
     → weightIn weights v ≡ weightEntry (getBoundaryWeight (graphIn e) (weightsIn e) v)
-weight-of e weights vertices (called.BoundariesFilled.filled κs a s l) v h = weight-at e _ weights _ vertices _ _ _ _ _ _ l v h
+weight-of e weights vertices (called.BoundariesFilled.boundaries-filled κs a s l) v h = weight-at e _ weights _ vertices _ _ _ _ _ _ l v h
 
 pub vertex-of : (e : Engine) (weights : List ℤ) (vertices : List ℕ) → BoundariesFilled e weights vertices → (v : ℕ) → v < e .counts .vertices
     → getD vertices v 0 ≡ vertexEntry (getBoundaryWeight (graphIn e) (weightsIn e) v)
-vertex-of e weights vertices (called.BoundariesFilled.filled κs a s l) v h = vertex-at e _ weights _ vertices _ _ _ _ _ _ l v h
+vertex-of e weights vertices (called.BoundariesFilled.boundaries-filled κs a s l) v h = vertex-at e _ weights _ vertices _ _ _ _ _ _ l v h
 
 module _ (e : Engine) (v : ℕ) (near out₀ out : List ℤ) (before₀ before : List ℕ) (scratch₀ scratch : ScratchColumns) (s : FilledRow e v near Accepted out₀ out before₀ before scratch₀ scratch)
     (b : (v : ℕ) → v < e .counts .vertices → weightIn near v ≡ weightEntry (getBoundaryWeight (graphIn e) (weightsIn e) v)) where
@@ -84,7 +84,7 @@ module _ (e : Engine) (v : ℕ) (near out₀ out : List ℤ) (before₀ before :
 pub row-of : (e : Engine) (v : ℕ) (near out : List ℤ) → RowFilled e v near out
     → ((v : ℕ) → v < e .counts .vertices → weightIn near v ≡ weightEntry (getBoundaryWeight (graphIn e) (weightsIn e) v))
     → (u : ℕ) → u < e .counts .vertices → weightIn out u ≡ edgeEntry (getEdgeWeight (graphIn e) (weightsIn e) v u)
-row-of e v near out (called.RowFilled.filled κs a s l) b u h = row-at e v near _ out _ _ _ _ l b u h
+row-of e v near out (called.RowFilled.row-filled κs a s l) b u h = row-at e v near _ out _ _ _ _ l b u h
 
 -- ---- least weights
 
@@ -113,7 +113,7 @@ module _ (e : Engine) (v : ℕ) (near out₀ out : List ℤ) (before₀ before :
 
 least-of : (e : Engine) (v : ℕ) (near out : List ℤ) → RowFilled e v near out → (u k : ℕ) → u < e .counts .vertices → weightIn out u ≡ pos k
     → LeastWeight (graphIn e) (weightsIn e) (λ x. x ≡ v) u k
-least-of e v near out (called.RowFilled.filled κs a s l) u k h p = least-at e v near _ out _ _ _ _ l u k h p
+least-of e v near out (called.RowFilled.row-filled κs a s l) u k h p = least-at e v near _ out _ _ _ _ l u k h p
 
 pub prebuilt-rows : PrebuiltRows
 prebuilt-rows = record {

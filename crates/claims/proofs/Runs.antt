@@ -16,18 +16,18 @@ use Rattle.engine_tally.proofs.Agreement.{Agrees, step-agrees, opened-agrees}
 use Rattle.engine_columns.proofs.Refusals.{opens-of}
 use Rattle.query_crossing_answer.specs.declared.CrossingReply.{CrossingReply}
 use Rattle.claims.specs.Listed.{OwnLengths, ListedCall, tallyAtEnd, numbers}
-use Rattle.claims.specs.Called.{OpenCalled, opened, Called, erased, weighed, undid, CrossingCalled, crossed, Calls, none, modified, crossing}
+use Rattle.claims.specs.Called.{OpenCalled, open-called, Called, load-erasures-called, load-weights-called, reset-called, CrossingCalled, crossing-called, Calls, no-call, modified-then, crossed-then}
 use Rattle.claims.proofs.Agreeing.{CrossingBy, crossing-number}
 
 -- what a call's contract says is the step
 pub step-of : (call : Call) (e : Engine) (r : EngineAnswer) (e₁ : Engine) → Called call e r e₁ → Modified call e r e₁
-step-of call e r e₁ (erased κs a q s h) = h
-step-of call e r e₁ (weighed κs a q s h) = h
-step-of call e r e₁ (undid κs a q s h) = h
+step-of call e r e₁ (load-erasures-called κs a q s h) = h
+step-of call e r e₁ (load-weights-called κs a q s h) = h
+step-of call e r e₁ (reset-called κs a q s h) = h
 
 pub crossing-of : (e : Engine) (o : OwnLengths) (r : CrossingReply) (column₀ column : List ℤ) → CrossingCalled e o r column₀ column
     → CrossingBy e o r column₀ column
-crossing-of e o r column₀ column (crossed κs a q s h) = record { same = refl; answers = h .answers; weights-after = h .weights-after }
+crossing-of e o r column₀ column (crossing-called κs a q s h) = record { same = refl; answers = h .answers; weights-after = h .weights-after }
 
 -- ---- open
 
@@ -47,18 +47,18 @@ open-says v e handed lent left c le lw h =
     }
 
 pub fresh-of : (v e : ℕ) (handed : GraphColumns) (fresh : Engine) → OpenCalled v e handed fresh → FreshGraph v e handed fresh
-fresh-of v e handed fresh (opened κs a c s le lw h) = open-says _ _ _ _ _ c le lw h
+fresh-of v e handed fresh (open-called κs a c s le lw h) = open-says _ _ _ _ _ c le lw h
 
 -- ---- the list
 
 pub runs : (e : Engine) (cs : List ListedCall) (ns : List ℕ) (e₂ : Engine) (t : Tally) → Agrees t e → Calls e cs ns e₂
     → (ns ≡ numbers cs t) × Agrees (tallyAtEnd cs t) e₂
-runs e cs ns e₂ t a none = (refl, a)
-runs e cs ns e₂ t a (modified {e₁ = e₁} {cs = ds} {ns = ms} call r s rest) =
+runs e cs ns e₂ t a no-call = (refl, a)
+runs e cs ns e₂ t a (modified-then {e₁ = e₁} {cs = ds} {ns = ms} call r s rest) =
     let (n, a₁) = step-agrees call t e e₁ r a (step-of call e r e₁ s) in
     let (m, a₂) = runs e₁ ds ms e₂ (tallyStep (record { call = call; lent = lengthsOf e }) t) a₁ rest in
     ((λ i. n i ∷ m i), a₂)
-runs e cs ns e₂ t a (crossing {cs = ds} {ns = ms} o r column₀ column s rest) =
+runs e cs ns e₂ t a (crossed-then {cs = ds} {ns = ms} o r column₀ column s rest) =
     let n = crossing-number t e a o r column₀ column (crossing-of e o r column₀ column s) in
     let (m, a₂) = runs e ds ms e₂ t a rest in
     ((λ i. n i ∷ m i), a₂)

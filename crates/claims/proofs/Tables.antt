@@ -15,7 +15,7 @@ use Rattle.query_tables.specs.declared.End.{End}
 use Rattle.query_tables.specs.declared.End.the-variants.{None}
 use Rattle.query_tables.specs.Ends.{endIn}
 use Rattle.query_tables.specs.Tables.{FoundTable}
-use Rattle.claims.specs.QueriesCalled.{to-end, of-all}
+use Rattle.claims.specs.QueriesCalled.{end-returned, all-returned}
 use Rattle.claims.specs.Queries.{TableSays, AllEdgesIsLeast}
 use Rattle.claims.proofs.Questions.{tableNumber, table-met, table-number, columns-in-range}
 
@@ -51,5 +51,5 @@ module _ (e : Engine) (source : ℕ) (o : End) (r : Done) (columns₀ columns : 
   }
 
 pub all-edges-least : AllEdgesIsLeast
-all-edges-least e source end r columns₀ columns scratch₀ scratch (to-end κs a q s h) = table-says e source _ r columns₀ columns scratch₀ scratch h
-all-edges-least e source end r columns₀ columns scratch₀ scratch (of-all κs a q s h) = table-says e source None r columns₀ columns scratch₀ scratch h
+all-edges-least e source end r columns₀ columns scratch₀ scratch (end-returned κs a q s h) = table-says e source _ r columns₀ columns scratch₀ scratch h
+all-edges-least e source end r columns₀ columns scratch₀ scratch (all-returned κs a q s h) = table-says e source None r columns₀ columns scratch₀ scratch h

@@ -39,7 +39,7 @@ use Rattle.query_questions.specs.Scratch.{scratchIn, scratchLengths}
 
 -- Engine, Tally, sentence 2: an open that was accepted: the counts, what it was handed, and the engine's columns as it left them, with any log.
 pub data OpenCalled : (vertices edges : ℕ) → GraphColumns → Engine → Type 0 where
-  opened : (κs : Lfts 8) (a : Dens κs open-kinds.ps) (c : EngineCounts) (s : AtExit (endedOf 8 open-kinds.ps open-kinds.r) κs) (logEdges logWeights : List ℕ)
+  open-called : (κs : Lfts 8) (a : Dens κs open-kinds.ps) (c : EngineCounts) (s : AtExit (endedOf 8 open-kinds.ps open-kinds.r) κs) (logEdges logWeights : List ℕ)
       → open-reads.Learnt κs a (Counts c) s
       → OpenCalled (a .0) (a .1 .0)
       (graphColumns (now (a .1 .1 .0)) (now (a .1 .1 .1 .0)) (now (a .1 .1 .1 .1 .0)) (now (a .1 .1 .1 .1 .1 .0)))
@@ -47,17 +47,17 @@ pub data OpenCalled : (vertices edges : ℕ) → GraphColumns → Engine → Typ
 
 -- Engine, Load and Reset: a load or a reset that returned: the columns lent, the answer, and the columns as the call left them.
 pub data Called : Call → Engine → EngineAnswer → Engine → Type 0 where
-  erased : (κs : Lfts 7) (a : Dens κs erasures-kinds.ps) (r : EngineAnswer) (s : AtExit (endedOf 7 erasures-kinds.ps erasures-kinds.r) κs) → erasures-reads.Learnt κs a r s
+  load-erasures-called : (κs : Lfts 7) (a : Dens κs erasures-kinds.ps) (r : EngineAnswer) (s : AtExit (endedOf 7 erasures-kinds.ps erasures-kinds.r) κs) → erasures-reads.Learnt κs a r s
       → Called (loadErasures (now (a .1 .1 .1 .1 .1 .1 .1 .0)))
       (engineIn (a .0) (a .1 .0) (a .1 .1 .0) (a .1 .1 .1 .0) (a .1 .1 .1 .1 .0) (a .1 .1 .1 .1 .1 .0) (a .1 .1 .1 .1 .1 .1 .0))
       r
       (engineIn (kept (a .0) r) (a .1 .0) (a .1 .1 .0) (s .1 .1 .1 .0) (a .1 .1 .1 .1 .0) (s .1 .1 .1 .1 .1 .0) (s .1 .1 .1 .1 .1 .1 .0))
-  weighed : (κs : Lfts 8) (a : Dens κs weights-kinds.ps) (r : EngineAnswer) (s : AtExit (endedOf 8 weights-kinds.ps weights-kinds.r) κs) → weights-reads.Learnt κs a r s
+  load-weights-called : (κs : Lfts 8) (a : Dens κs weights-kinds.ps) (r : EngineAnswer) (s : AtExit (endedOf 8 weights-kinds.ps weights-kinds.r) κs) → weights-reads.Learnt κs a r s
       → Called (loadWeights (now (a .1 .1 .1 .1 .1 .1 .1 .0)) (now (a .1 .1 .1 .1 .1 .1 .1 .1 .0)))
       (engineIn (a .0) (a .1 .0) (a .1 .1 .0) (a .1 .1 .1 .0) (a .1 .1 .1 .1 .0) (a .1 .1 .1 .1 .1 .0) (a .1 .1 .1 .1 .1 .1 .0))
       r
       (engineIn (kept (a .0) r) (a .1 .0) (a .1 .1 .0) (s .1 .1 .1 .0) (a .1 .1 .1 .1 .0) (s .1 .1 .1 .1 .1 .0) (s .1 .1 .1 .1 .1 .1 .0))
-  undid : (κs : Lfts 6) (a : Dens κs reset-kinds.ps) (r : EngineAnswer) (s : AtExit (endedOf 6 reset-kinds.ps reset-kinds.r) κs) → reset-reads.Learnt κs a r s
+  reset-called : (κs : Lfts 6) (a : Dens κs reset-kinds.ps) (r : EngineAnswer) (s : AtExit (endedOf 6 reset-kinds.ps reset-kinds.r) κs) → reset-reads.Learnt κs a r s
       → Called reset
       (engineIn (a .0) (a .1 .0) (a .1 .1 .0) (a .1 .1 .1 .0) (a .1 .1 .1 .1 .0) (a .1 .1 .1 .1 .1 .0) (a .1 .1 .1 .1 .1 .1 .0))
       r
@@ -65,7 +65,7 @@ pub data Called : Call → Engine → EngineAnswer → Engine → Type 0 where
 
 -- Engine, Crossing: a crossing that returned: the columns lent, which it only reads, the lengths of its own columns, the answer, and the weight column before and after.
 pub data CrossingCalled : Engine → OwnLengths → CrossingReply → (column₀ column : List ℤ) → Type 0 where
-  crossed : (κs : Lfts 14) (a : Dens κs crossing-kinds.ps) (r : CrossingReply) (s : AtExit (endedOf 14 crossing-kinds.ps crossing-kinds.r) κs) → crossing-reads.Learnt κs a r s
+  crossing-called : (κs : Lfts 14) (a : Dens κs crossing-kinds.ps) (r : CrossingReply) (s : AtExit (endedOf 14 crossing-kinds.ps crossing-kinds.r) κs) → crossing-reads.Learnt κs a r s
       → CrossingCalled
       (engineIn (a .0) (a .1 .0) (a .1 .1 .0) (a .1 .1 .1 .0) (a .1 .1 .1 .1 .0) (a .1 .1 .1 .1 .1 .0) (a .1 .1 .1 .1 .1 .1 .0))
       (record {
@@ -78,21 +78,21 @@ pub data CrossingCalled : Engine → OwnLengths → CrossingReply → (column₀
 -- Engine, Tally, sentences 2 and 3: a list of calls with the number of each answer: each call is lent the engine's columns, the log and their counts
 -- as the call before left them; other columns are any.
 pub data Calls : Engine → List ListedCall → List ℕ → Engine → Type 0 where
-  none : {e : Engine} → Calls e [] [] e
-  modified : {e e₁ e₂ : Engine} {cs : List ListedCall} {ns : List ℕ} (call : Call) (r : EngineAnswer)
+  no-call : {e : Engine} → Calls e [] [] e
+  modified-then : {e e₁ e₂ : Engine} {cs : List ListedCall} {ns : List ℕ} (call : Call) (r : EngineAnswer)
       → Called call e r e₁ → Calls e₁ cs ns e₂ → Calls e (modifies (record { call = call; lent = lengthsOf e }) ∷ cs) (engineSaid r .number ∷ ns) e₂
-  crossing : {e e₂ : Engine} {cs : List ListedCall} {ns : List ℕ} (own : OwnLengths) (r : CrossingReply) (column₀ column : List ℤ)
+  crossed-then : {e e₂ : Engine} {cs : List ListedCall} {ns : List ℕ} (own : OwnLengths) (r : CrossingReply) (column₀ column : List ℤ)
       → CrossingCalled e own r column₀ column → Calls e cs ns e₂ → Calls e (crosses (lengthsOf e) own ∷ cs) (replyNumber r ∷ ns) e₂
 
 -- Six builders; Engine, Tally, sentence 11: a code that was built, by any of the three functions
 -- that build one: the counts, the ends and the boundary bytes in the columns as the call left them.
 pub data CodeBuilt : (kind d rounds vertices edges : ℕ) (endsA endsB boundary : List ℕ) → Type 0 where
-  created : (κs : Lfts 13) (a : Dens κs create-kinds.ps) (vertices edges : ℕ) (s : AtExit (endedOf 13 create-kinds.ps create-kinds.r) κs)
+  create-called : (κs : Lfts 13) (a : Dens κs create-kinds.ps) (vertices edges : ℕ) (s : AtExit (endedOf 13 create-kinds.ps create-kinds.r) κs)
       → create-reads.Learnt κs a (Code vertices edges) s
       → CodeBuilt (a .0) (a .1 .0) (a .1 .1 .0) vertices edges (now (s .1 .1 .1 .0)) (now (s .1 .1 .1 .1 .0)) (now (s .1 .1 .1 .1 .1 .1 .1 .1 .1 .1 .1 .1 .0))
-  newly : (κs : Lfts 13) (a : Dens κs new-kinds.ps) (vertices edges : ℕ) (s : AtExit (endedOf 13 new-kinds.ps new-kinds.r) κs)
+  new-called : (κs : Lfts 13) (a : Dens κs new-kinds.ps) (vertices edges : ℕ) (s : AtExit (endedOf 13 new-kinds.ps new-kinds.r) κs)
       → new-reads.Learnt κs a (Code vertices edges) s
       → CodeBuilt (a .0) (a .1 .0) (a .1 .1 .0) vertices edges (now (s .1 .1 .1 .1 .1 .0)) (now (s .1 .1 .1 .1 .1 .1 .0)) (now (s .1 .1 .1 .1 .1 .1 .1 .1 .1 .1 .1 .1 .1 .1 .0))
-  diagonally : (κs : Lfts 13) (a : Dens κs diagonal-kinds.ps) (vertices edges : ℕ) (s : AtExit (endedOf 13 diagonal-kinds.ps diagonal-kinds.r) κs)
+  new-diagonal-called : (κs : Lfts 13) (a : Dens κs diagonal-kinds.ps) (vertices edges : ℕ) (s : AtExit (endedOf 13 diagonal-kinds.ps diagonal-kinds.r) κs)
       → diagonal-reads.Learnt κs a (Code vertices edges) s
       → CodeBuilt 4 (a .0) (a .1 .0) vertices edges (now (s .1 .1 .1 .1 .1 .0)) (now (s .1 .1 .1 .1 .1 .1 .0)) (now (s .1 .1 .1 .1 .1 .1 .1 .1 .1 .1 .1 .1 .1 .1 .0))

@@ -16,14 +16,14 @@ use Rattle.prebuilt_calls.proofs.fill_row.Reads as row-reads
 
 -- complete_graph.rs, by `fill_boundaries`: the engine lent, and the columns of boundary weights and boundary vertices as the call left them.
 pub data BoundariesFilled : Engine → (weights : List ℤ) (vertices : List ℕ) → Type 0 where
-  filled : (κs : Lfts 17) (a : Dens κs boundaries-kinds.ps) (s : AtExit (endedOf 17 boundaries-kinds.ps boundaries-kinds.r) κs) → boundaries-reads.Learnt κs a Accepted s
+  boundaries-filled : (κs : Lfts 17) (a : Dens κs boundaries-kinds.ps) (s : AtExit (endedOf 17 boundaries-kinds.ps boundaries-kinds.r) κs) → boundaries-reads.Learnt κs a Accepted s
       → BoundariesFilled
       (engineIn (a .0) (a .1 .0) (a .1 .1 .0) (a .1 .1 .1 .0) (a .1 .1 .1 .1 .0) (a .1 .1 .1 .1 .1 .0) (a .1 .1 .1 .1 .1 .1 .0))
       (now (s .1 .1 .1 .1 .1 .1 .1 .0)) (now (s .1 .1 .1 .1 .1 .1 .1 .1 .0))
 
 -- complete_graph.rs, by `fill_row`: the engine lent, the vertex, the column of boundary weights lent, and the row's column as the call left it.
 pub data RowFilled : Engine → (v : ℕ) (weights row : List ℤ) → Type 0 where
-  filled : (κs : Lfts 16) (a : Dens κs row-kinds.ps) (s : AtExit (endedOf 16 row-kinds.ps row-kinds.r) κs) → row-reads.Learnt κs a Accepted s
+  row-filled : (κs : Lfts 16) (a : Dens κs row-kinds.ps) (s : AtExit (endedOf 16 row-kinds.ps row-kinds.r) κs) → row-reads.Learnt κs a Accepted s
       → RowFilled
       (engineIn (a .0) (a .1 .0) (a .1 .1 .0) (a .1 .1 .1 .0) (a .1 .1 .1 .1 .0) (a .1 .1 .1 .1 .1 .0) (a .1 .1 .1 .1 .1 .1 .0))
       (a .1 .1 .1 .1 .1 .1 .1 .0 .0) (now (a .1 .1 .1 .1 .1 .1 .1 .1 .0)) (now (s .1 .1 .1 .1 .1 .1 .1 .1 .1 .0))

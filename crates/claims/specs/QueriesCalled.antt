@@ -40,14 +40,14 @@ pathColumns vertices steps = record { vertices = vertices; steps = steps }
 -- Engine, Table: a table query that returned, with a named end or none: the engine lent,
 -- the source, the end, the answer, the table's columns and scratch before and after.
 pub data TableReturned : Engine → (source : ℕ) → Option ℕ → Done → (columns₀ columns : TableColumns) → (scratch₀ scratch : ScratchColumns) → Type 0 where
-  to-end : (κs : Lfts 15) (a : Dens κs end-kinds.ps) (r : Done) (s : AtExit (endedOf 15 end-kinds.ps end-kinds.r) κs) → end-reads.Learnt κs a r s
+  end-returned : (κs : Lfts 15) (a : Dens κs end-kinds.ps) (r : Done) (s : AtExit (endedOf 15 end-kinds.ps end-kinds.r) κs) → end-reads.Learnt κs a r s
       → TableReturned
       (engineIn (a .0) (a .1 .0) (a .1 .1 .0) (a .1 .1 .1 .0) (a .1 .1 .1 .1 .0) (a .1 .1 .1 .1 .1 .0) (a .1 .1 .1 .1 .1 .1 .0))
       (a .1 .1 .1 .1 .1 .1 .1 .0 .0) (endIn (a .1 .1 .1 .1 .1 .1 .1 .1 .0)) r
       (tableColumns (now (a .1 .1 .1 .1 .1 .1 .1 .1 .1 .0)) (now (a .1 .1 .1 .1 .1 .1 .1 .1 .1 .1 .0))) (tableColumns (now (s .1 .1 .1 .1 .1 .1 .1 .1 .1 .0)) (now (s .1 .1 .1 .1 .1 .1 .1 .1 .1 .1 .0)))
       (scratchIn (a .1 .1 .1 .1 .1 .1 .1 .1 .1 .1 .1 .0) (a .1 .1 .1 .1 .1 .1 .1 .1 .1 .1 .1 .1 .0) (a .1 .1 .1 .1 .1 .1 .1 .1 .1 .1 .1 .1 .1 .0) (a .1 .1 .1 .1 .1 .1 .1 .1 .1 .1 .1 .1 .1 .1 .0) (a .1 .1 .1 .1 .1 .1 .1 .1 .1 .1 .1 .1 .1 .1 .1 .0) (a .1 .1 .1 .1 .1 .1 .1 .1 .1 .1 .1 .1 .1 .1 .1 .1 .0) (a .1 .1 .1 .1 .1 .1 .1 .1 .1 .1 .1 .1 .1 .1 .1 .1 .1 .0))
       (scratchIn (s .1 .1 .1 .1 .1 .1 .1 .1 .1 .1 .1 .0) (s .1 .1 .1 .1 .1 .1 .1 .1 .1 .1 .1 .1 .0) (s .1 .1 .1 .1 .1 .1 .1 .1 .1 .1 .1 .1 .1 .0) (s .1 .1 .1 .1 .1 .1 .1 .1 .1 .1 .1 .1 .1 .1 .0) (s .1 .1 .1 .1 .1 .1 .1 .1 .1 .1 .1 .1 .1 .1 .1 .0) (s .1 .1 .1 .1 .1 .1 .1 .1 .1 .1 .1 .1 .1 .1 .1 .1 .0) (s .1 .1 .1 .1 .1 .1 .1 .1 .1 .1 .1 .1 .1 .1 .1 .1 .1 .0))
-  of-all : (κs : Lfts 15) (a : Dens κs all-kinds.ps) (r : Done) (s : AtExit (endedOf 15 all-kinds.ps all-kinds.r) κs) → all-reads.Learnt κs a r s
+  all-returned : (κs : Lfts 15) (a : Dens κs all-kinds.ps) (r : Done) (s : AtExit (endedOf 15 all-kinds.ps all-kinds.r) κs) → all-reads.Learnt κs a r s
       → TableReturned
       (engineIn (a .0) (a .1 .0) (a .1 .1 .0) (a .1 .1 .1 .0) (a .1 .1 .1 .1 .0) (a .1 .1 .1 .1 .1 .0) (a .1 .1 .1 .1 .1 .1 .0))
       (a .1 .1 .1 .1 .1 .1 .1 .0 .0) none r
@@ -57,7 +57,7 @@ pub data TableReturned : Engine → (source : ℕ) → Option ℕ → Done → (
 
 -- Engine, Path: a path query that returned: the engine lent, both vertices, the answer, the path's columns and scratch before and after.
 pub data PathReturned : Engine → (a b : ℕ) → PathAnswer → (columns₀ columns : PathColumns) → (scratch₀ scratch : ScratchColumns) → Type 0 where
-  walked : (κs : Lfts 15) (a : Dens κs path-kinds.ps) (r : PathAnswer) (s : AtExit (endedOf 15 path-kinds.ps path-kinds.r) κs) → path-reads.Learnt κs a r s
+  path-returned : (κs : Lfts 15) (a : Dens κs path-kinds.ps) (r : PathAnswer) (s : AtExit (endedOf 15 path-kinds.ps path-kinds.r) κs) → path-reads.Learnt κs a r s
       → PathReturned
       (engineIn (a .0) (a .1 .0) (a .1 .1 .0) (a .1 .1 .1 .0) (a .1 .1 .1 .1 .0) (a .1 .1 .1 .1 .1 .0) (a .1 .1 .1 .1 .1 .1 .0))
       (a .1 .1 .1 .1 .1 .1 .1 .0 .0) (a .1 .1 .1 .1 .1 .1 .1 .1 .0 .0) r
@@ -67,7 +67,7 @@ pub data PathReturned : Engine → (a b : ℕ) → PathAnswer → (columns₀ co
 
 -- Engine, Crossing: a crossing that returned: the engine lent, the answer, the weight column and scratch before and after.
 pub data CrossingReturned : Engine → CrossingReply → (weights₀ weights : List ℤ) → (scratch₀ scratch : ScratchColumns) → Type 0 where
-  crossed : (κs : Lfts 14) (a : Dens κs crossing-kinds.ps) (r : CrossingReply) (s : AtExit (endedOf 14 crossing-kinds.ps crossing-kinds.r) κs) → crossing-reads.Learnt κs a r s
+  crossing-returned : (κs : Lfts 14) (a : Dens κs crossing-kinds.ps) (r : CrossingReply) (s : AtExit (endedOf 14 crossing-kinds.ps crossing-kinds.r) κs) → crossing-reads.Learnt κs a r s
       → CrossingReturned
       (engineIn (a .0) (a .1 .0) (a .1 .1 .0) (a .1 .1 .1 .0) (a .1 .1 .1 .1 .0) (a .1 .1 .1 .1 .1 .0) (a .1 .1 .1 .1 .1 .1 .0))
       r (now (a .1 .1 .1 .1 .1 .1 .1 .0)) (now (s .1 .1 .1 .1 .1 .1 .1 .0))

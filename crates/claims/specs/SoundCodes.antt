@@ -13,12 +13,12 @@ use Rattle.codes_calls.specs.NewCode.{WeightedCode}
 
 -- Six builders, sanity_check, sentence 3: whatever `sanity_check` answers to the columns of a code of v vertices and e edges is verdict 0.
 abbrev pub GetsZero : (v e : ℕ) → CodeColumns → Type 0
-GetsZero v e back = (r : Verdict) → SanityChecked v e (back .endsA) (back .endsB) (back .listLengths) (back .neighborNumbers) r → verdictSaid r ≡ accepts (0, 0, 0)
+GetsZero v e c = (r : Verdict) → SanityChecked v e (c .endsA) (c .endsB) (c .listLengths) (c .neighborNumbers) r → verdictSaid r ≡ accepts (0, 0, 0)
 
 -- Six builders, sanity_check, sentence 3: of the columns that an accepted `create_code` hands back, whatever was lent.
 abbrev pub CreatedCodesAreSound : Type 0
-CreatedCodesAreSound = (kind d rounds : ℕ) (lent back : CodeColumns) (v e : ℕ) → CreateCode kind d rounds lent back (Code v e) → GetsZero v e back
+CreatedCodesAreSound = (kind d rounds : ℕ) (c₀ c : CodeColumns) (v e : ℕ) → CreateCode kind d rounds c₀ c (Code v e) → GetsZero v e c
 
 -- Six builders, sanity_check, sentence 3: of the columns that an accepted `new` or `new_diagonal` hands back, whatever was lent.
 abbrev pub NewCodesAreSound : Type 0
-NewCodesAreSound = (kind d rounds : ℕ) (p : Float) (diagonal : DiagonalProbability) (max : ℕ) (lent back : CodeColumns) (v e : ℕ) → WeightedCode kind d rounds p diagonal max lent back (Code v e) → GetsZero v e back
+NewCodesAreSound = (kind d rounds : ℕ) (p : Float) (diagonal : DiagonalProbability) (max : ℕ) (c₀ c : CodeColumns) (v e : ℕ) → WeightedCode kind d rounds p diagonal max c₀ c (Code v e) → GetsZero v e c

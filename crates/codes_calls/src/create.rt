@@ -24,22 +24,22 @@ pub fn shortest_of(a: usize, b: usize, c: usize, d: usize, e: usize, f: usize) -
     lesser(a, lesser(b, lesser(c, lesser(d, lesser(e, f)))))
 }
 
-// The lengths of the columns lent for a code: the shortest vertex column, the shortest edge column, the neighbour numbers.
-pub struct CodeRoom {
-    pub vertices: usize,
-    pub edges: usize,
-    pub numbers: usize,
-}
-
 // Questions 2 to 6.
-pub fn refusal_of(kind: u32, d: u32, rounds: u32, room: CodeRoom) -> u32
-    ensures { λ r. ⌜ r ≡ createRefusal kind d rounds (room .vertices) (room .edges) (room .numbers) ⌝ }
+pub fn refusal_of(
+    kind: u32,
+    d: u32,
+    rounds: u32,
+    vertex_room: usize,
+    edge_room: usize,
+    numbers: usize,
+) -> u32
+    ensures { λ r. ⌜ r ≡ createRefusal kind d rounds «vertex_room» «edge_room» numbers ⌝ }
 {
     let distance = distance_within(d);
     let within = rounds_within(rounds);
     let vertices = codes_layers::counts::vertex_num(kind, distance, within);
     let edges = codes_layers::counts::edge_num(kind, distance, within);
-    let met = long_enough(vertices, edges, room.vertices, room.edges, room.numbers);
+    let met = long_enough(vertices, edges, vertex_room, edge_room, numbers);
     code_refusal(kind, d, rounds, asked(met, 6, 0))
 }
 
@@ -133,11 +133,9 @@ fn create_in(
         kind,
         d,
         rounds,
-        CodeRoom {
-            vertices: vertex_room,
-            edges: edge_room,
-            numbers: neighbor_numbers.len(),
-        },
+        vertex_room,
+        edge_room,
+        neighbor_numbers.len(),
     );
     if q != 0 {
         return Created::Refused(q);

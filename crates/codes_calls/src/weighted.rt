@@ -1,6 +1,5 @@
 // Codes with probabilities and half weights: `new` and `new_diagonal`.
 use super::Created;
-use super::create::CodeRoom;
 use super::create::create_code;
 use super::create::refusal_of;
 use super::create::shortest_of;
@@ -47,6 +46,13 @@ fn edge_count(kind: u32, d: u32, rounds: u32) -> usize
     codes_layers::counts::edge_num(kind, d, rounds) as usize
 }
 
+// The lengths of the columns lent for a code: the shortest vertex column, the shortest edge column, the neighbour numbers.
+struct CodeRoom {
+    vertices: usize,
+    edges: usize,
+    numbers: usize,
+}
+
 // The number of the first question that is not met, 0 where there is none.
 fn new_refusal(
     kind: u32,
@@ -60,7 +66,7 @@ fn new_refusal(
 ) -> u32
     ensures { λ r. ⌜ r ≡ weightsRefusal (createRefusal kind d rounds (room .vertices) (room .edges) (room .numbers)) (isLargestHalfWeight «max_half_weight») (isProbability p && isDiagonalProbability diagonal) (lt zeroFloat largest) ⌝ }
 {
-    let q = refusal_of(kind, d, rounds, room);
+    let q = refusal_of(kind, d, rounds, room.vertices, room.edges, room.numbers);
     weights_refusal(q, p, diagonal, max_half_weight, largest)
 }
 

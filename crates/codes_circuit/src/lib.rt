@@ -1,5 +1,5 @@
 // Kind 4: the edges between layers.
-ghost use Prim.Native.Nat.{_+_, _-_, _*_, _≤_, _<_};
+ghost use Prim.Native.Nat.{_+_, _*_, _≤_, _<_};
 ghost use Rattle.codes_writers.specs.Steps.{Room, Wrote};
 ghost use Rattle.codes_circuit.specs.Circuit.{circuitCell, circuitRow, circuitGap};
 use codes_writers::push;

@@ -1,6 +1,6 @@
 // The edges of a code.
 ghost use mathlib.Core.Path.{_≡_};
-ghost use Prim.Native.Nat.{_+_, _*_, _≤_, _<_};
+ghost use Prim.Native.Nat.{_+_, _*_, _≤_};
 ghost use Rattle.codes_writers.specs.Steps.{Room, Wrote};
 ghost use Rattle.codes_layers.specs.Codes.{layerSize, layerEdges, gapEdges, edgesOf};
 use codes_circuit::circuit_gap;

@@ -11,11 +11,10 @@ use Rattle.columns.specs.Limits.{boundaryLimit, markLimit, halfWeightLimit}
 use Rattle.columns.specs.Questions.{allWithin}
 use Rattle.columns.proofs.Columns.{take-over, over-in}
 use Rattle.columns.proofs.Tests.{at-within}
-use Rattle.columns_neighbors.specs.Lists.{endsAt}
+use Rattle.columns_neighbors.proofs.Placing.{endsAt, neighbors-chosen}
 use Rattle.columns_neighbors.specs.Sound.{SoundGraph}
 use Rattle.columns_neighbors.proofs.Ends.{says-graph}
 use Rattle.columns_pairs.specs.Pairs.{OnePair}
-use Rattle.columns_neighbors.proofs.Placing.{neighbors-chosen}
 use Rattle.codes_writers.specs.declared.CodeVertex.{CodeVertex}
 use Rattle.codes_writers.specs.Edges.{Ends, firsts, seconds, boundaries}
 use Rattle.codes_layers.specs.Codes.{edgesOf, verticesOf}

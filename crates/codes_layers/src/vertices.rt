@@ -1,7 +1,7 @@
 // The vertices of a code.
 ghost use mathlib.Core.Path.{_≡_};
 ghost use mathlib.Core.Bool.{cond};
-ghost use Prim.Native.Nat.{_+_, _*_, _≤_, _<_};
+ghost use Prim.Native.Nat.{_+_, _*_, _≤_};
 ghost use lib.Dec.{eqb};
 ghost use Rattle.columns.specs.Lists.{each};
 ghost use Rattle.columns.specs.Places.{zeroFloat};

@@ -1,6 +1,6 @@
 // Questions 2 to 5 of document 01, and the calls that count the vertices and edges of a code.
 ghost use mathlib.Core.Path.{_≡_};
-ghost use Prim.Native.Nat.{_≤_, _<_};
+ghost use Prim.Native.Nat.{_≤_};
 ghost use Rattle.codes_layers.specs.Accepts.{kindKnown, distanceSound, roundsSound, codeRefusal};
 ghost use Rattle.codes_questions.specs.Answers.{CountsVertices, CountsEdges, distanceWithin, roundsWithin};
 use columns::VERTEX_LIMIT;

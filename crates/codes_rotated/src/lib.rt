@@ -1,7 +1,7 @@
 // Kinds 5 and 6: d + 1 rows of (d + 1) / 2 places.
 ghost use mathlib.Core.Path.{_≡_};
 ghost use mathlib.Core.Bool.{cond};
-ghost use Prim.Native.Nat.{_+_, _-_, _*_, _%_, _≤_, _<_};
+ghost use Prim.Native.Nat.{_+_, _*_, _%_, _≤_};
 ghost use lib.Dec.{eqb};
 ghost use Rattle.codes_writers.specs.Steps.{Room, Wrote};
 ghost use Rattle.codes_rotated.specs.Rotated.{rotatedWidth, rotatedSize, rotatedPlace, rotatedRow, rotatedLayer, rotatedBoundary, rotatedTime, rotatedVertex};

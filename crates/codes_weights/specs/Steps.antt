@@ -38,7 +38,7 @@ weightsRefusal q eight nine ten = cond (eqb q 0) (ask eight 8 (ask nine 9 (ask t
 unfoldable pub diagonalAt : (a b : List ℕ) (i j t : List Float) (k : ℕ) → Bool
 diagonalAt a b i j t k = isDiagonal (positionAt i j t (getD a k 0)) (positionAt i j t (getD b k 0))
 
--- There are n places in the columns of ends, p and half weights.
+-- Questions at the door, 6: there are n places in the columns of ends, p and half weights.
 pub record WeighRoom (n : ℕ) (a b : List ℕ) (p : List Float) (h : List ℕ) : Type 0 where
   pub room-a : n ≤ length a
   pub room-b : n ≤ length b

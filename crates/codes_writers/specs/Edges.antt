@@ -34,7 +34,7 @@ positionsJ vs = map (λ (v : CodeVertex). v .position .j) vs
 abbrev pub positionsT : List CodeVertex → List Float
 positionsT vs = map (λ (v : CodeVertex). v .position .t) vs
 
--- A whole number as an f64.
+-- Records, on vertices, positions: a whole number as an f64.
 abbrev pub float : ℕ → Float
 float n = ofInt binary64 (pos n)
 

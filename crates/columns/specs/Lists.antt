@@ -5,12 +5,12 @@ use mathlib.Core.List.{List, [], _∷_, _++_}
 use lib.ListN.{length, drop}
 use lib.Dec.{eqb}
 
--- A list by counting: f 0, f 1, up to f (n - 1).
+-- Records, a column by its places: a list by counting: f 0, f 1, up to f (n - 1).
 unfoldable pub each : {A : Type 0} → ℕ → (ℕ → A) → List A
 each zero f = []
 each (suc n) f = each n f ++ (f n ∷ [])
 
--- Lists by counting: f 0, f 1, up to f (n - 1), one after another.
+-- Records, a column by its places: lists by counting: f 0, f 1, up to f (n - 1), one after another.
 unfoldable pub joined : {A : Type 0} → ℕ → (ℕ → List A) → List A
 joined zero f = []
 joined (suc n) f = joined n f ++ f n
@@ -19,11 +19,11 @@ joined (suc n) f = joined n f ++ f n
 unfoldable pub layered : {A : Type 0} → ℕ → (layer gap : ℕ → List A) → List A
 layered rounds layer gap = joined rounds (λ t. layer t ++ gap t) ++ layer rounds
 
--- A part of a list: the element alone where the test holds, else nothing.
+-- Six builders, Edge order, an edge that only some places have: a part of a list: the element alone where the test holds, else nothing.
 abbrev pub when : {A : Type 0} → Bool → A → List A
 when b x = cond b (x ∷ []) []
 
--- A column whose first places hold vs; the places past them are unchanged (Engine, Path, sentence 3; Sampling, syndromes, reordering, paragraph 2, sentence 4).
+-- Engine, Path, sentence 3; Sampling, syndromes, reordering, paragraph 2, sentence 4: a column whose first places hold vs; the places past them are unchanged.
 abbrev pub over : {A : Type 0} → List A → List A → List A
 over vs column = vs ++ drop (length vs) column
 

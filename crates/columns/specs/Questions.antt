@@ -15,7 +15,7 @@ unfoldable pub all : {A : Type 0} → (A → Bool) → List A → Bool
 all test [] = true
 all test (x ∷ xs) = test x && all test xs
 
--- Every number below n passes a test.
+-- Questions at the door, sentence 1, over a count: every number below n passes a test.
 unfoldable pub every : ℕ → (ℕ → Bool) → Bool
 every zero test = true
 every (suc n) test = every n test && test n

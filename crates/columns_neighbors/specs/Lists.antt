@@ -1,13 +1,13 @@
 -- Neighbour lists, as document 01's "Records" and "Six builders" have them.
 use Prim.Native.Nat.{ℕ, zero, suc, _+_, _<_}
 use mathlib.Core.Path.{_≡_}
-use mathlib.Core.Bool.{Bool, _||_}
+use mathlib.Core.Bool.{Bool}
 use mathlib.Core.List.{List, _++_}
 use lib.ListN.{getD, length, take, drop}
 use lib.Dec.{eqb}
 use Rattle.columns.specs.Lists.{each, joined, when, over}
 
--- Edge number k where x is vertex v, else nothing.
+-- Six builders, on new edges, sentence 2: edge number k where x is vertex v, else nothing.
 unfoldable pub hits : (v x k : ℕ) → List ℕ
 hits v x k = when (eqb x v) k
 
@@ -24,13 +24,9 @@ lists a b e n = joined n (λ v. neighbors a b e v)
 unfoldable pub degrees : (a b : List ℕ) (e n : ℕ) → List ℕ
 degrees a b e n = each n (λ v. length (neighbors a b e v))
 
--- The numbers below n for which a test holds, ascending.
+-- Records, on neighbour lists: the numbers below n for which a test holds, ascending.
 unfoldable pub chosen : ℕ → (ℕ → Bool) → List ℕ
 chosen n test = joined n (λ k. when (test k) k)
-
--- Records, on edges: edge k ends at vertex v.
-abbrev pub endsAt : (a b : List ℕ) (v k : ℕ) → Bool
-endsAt a b v k = eqb (getD a k 0) v || eqb (getD b k 0) v
 
 -- Records, on neighbour lists: the columns after the lists are filled in, unchanged past them; the last column has the place where each vertex's list ends.
 pub record ListsFilled (a b : List ℕ) (e n : ℕ) (lengths₀ numbers₀ lengths numbers ends : List ℕ) : Type 0 where

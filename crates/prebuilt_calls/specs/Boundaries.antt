@@ -51,4 +51,4 @@ pub record FilledBoundaries (e : Engine) (answer : Done) (weights₀ weights : L
   pub vertices-after : vertices
       ≡ after (boundariesRefusal e (scratchFits (e .counts) scratch₀) (length weights₀) (length vertices₀) (length least₀) (length before₀))
       (each (e .counts .vertices) (boundaryVertex (graphIn e) (weightsIn e))) vertices₀
-  pub scratch-after : TableInside (doneSaid answer .number) e (e .counts .vertices - 1) least₀ least before₀ before scratch₀ scratch
+  pub table-after : TableInside (doneSaid answer .number) e (e .counts .vertices - 1) least₀ least before₀ before scratch₀ scratch

@@ -36,4 +36,4 @@ BoundarySaid q g w v r =
 -- complete_graph.rs, `get_boundary_weight`: the answer; the columns of the table, which serve as scratch, and scratch hold what the table from v leaves.
 pub record GotBoundaryWeight (e : Engine) (v : ℕ) (answer : BoundaryAnswer) (least₀ least : List ℤ) (before₀ before : List ℕ) (scratch₀ scratch : ScratchColumns) : Type 0 where
   pub answers : BoundarySaid (tableRefusal e (scratchFits (e .counts) scratch₀) v None (length least₀) (length before₀)) (graphIn e) (weightsIn e) v answer
-  pub scratch-after : TableInside (nearestSaid answer .number) e v least₀ least before₀ before scratch₀ scratch
+  pub table-after : TableInside (nearestSaid answer .number) e v least₀ least before₀ before scratch₀ scratch

@@ -3,9 +3,14 @@ use Prim.Native.Nat.{ℕ, _+_, _≤_}
 use mathlib.Core.Path.{_≡_}
 use mathlib.Core.Bool.{true}
 use mathlib.Core.List.{List}
+use lib.ListN.{set}
+use lib.Seq.{sets}
 use lib.IntN.{ℤ}
+use Rattle.columns.specs.Lists.{each}
 use Rattle.engine_columns.specs.Records.{Engine}
 use Rattle.engine_columns.specs.Questions.{engineLong, engineSound}
+use Rattle.query_questions.specs.Queries.{graphIn, weightsIn}
+use Rattle.prebuilt_calls.specs.Boundaries.{boundaryWeight, boundaryVertex}
 use Rattle.query_questions.specs.Scratch.{ScratchLengths, scratchLong}
 use Rattle.query_questions.specs.Scratch.{ScratchColumns}
 use Rattle.query_tables.specs.Tables.{TableInside}
@@ -24,3 +29,15 @@ pub record Fillable (e : Engine) (weights vertices least before : ℕ) (scratch 
 pub record TablesInside (e : Engine) (n : ℕ) (least₀ least : List ℤ) (before₀ before : List ℕ) (scratch₀ scratch : ScratchColumns) : Type 0 where
   pub none : n ≡ 0 → (least ≡ least₀) × (before ≡ before₀) × (scratch ≡ scratch₀)
   pub last : (v : ℕ) → n ≡ v + 1 → TableInside 0 e v least₀ least before₀ before scratch₀ scratch
+
+-- complete_graph.rs, `PrebuiltCompleteGraph`: after the boundary of v is filled in: both columns, and what the table from v leaves.
+pub record OneFilled (e : Engine) (v : ℕ) (weights₀ weights : List ℤ) (vertices₀ vertices : List ℕ) (least₀ least : List ℤ) (before₀ before : List ℕ) (scratch₀ scratch : ScratchColumns) : Type 0 where
+  pub weights-after : weights ≡ set weights₀ v (boundaryWeight (graphIn e) (weightsIn e) v)
+  pub vertices-after : vertices ≡ set vertices₀ v (boundaryVertex (graphIn e) (weightsIn e) v)
+  pub table-after : TableInside 0 e v least₀ least before₀ before scratch₀ scratch
+
+-- complete_graph.rs, `PrebuiltCompleteGraph`: likewise for every vertex, one after another.
+pub record AllFilled (e : Engine) (weights₀ weights : List ℤ) (vertices₀ vertices : List ℕ) (least₀ least : List ℤ) (before₀ before : List ℕ) (scratch₀ scratch : ScratchColumns) : Type 0 where
+  pub weights-after : weights ≡ sets weights₀ 0 (each (e .counts .vertices) (boundaryWeight (graphIn e) (weightsIn e)))
+  pub vertices-after : vertices ≡ sets vertices₀ 0 (each (e .counts .vertices) (boundaryVertex (graphIn e) (weightsIn e)))
+  pub tables-after : TablesInside e (e .counts .vertices) least₀ least before₀ before scratch₀ scratch

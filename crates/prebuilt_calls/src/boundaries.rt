@@ -1,15 +1,10 @@
 // The prebuilt complete graph: the boundary weight and the boundary vertex of every vertex.
-ghost use mathlib.Core.Path.{_≡_};
-ghost use Prim.Native.Nat.{_-_, _<_};
-ghost use lib.ListN.{length, set};
-ghost use lib.Seq.{sets};
-ghost use Rattle.columns.specs.Lists.{each};
+ghost use Prim.Native.Nat.{_<_};
+ghost use lib.ListN.{length};
 ghost use Rattle.engine_columns.specs.Records.{engineIn};
-ghost use Rattle.query_tables.specs.Tables.{TableInside};
-ghost use Rattle.query_questions.specs.Queries.{graphIn, weightsIn};
 ghost use Rattle.query_questions.specs.Scratch.{scratchIn, scratchLengths};
-ghost use Rattle.prebuilt_calls.specs.Boundaries.{boundaryWeight, boundaryVertex, FilledBoundaries};
-ghost use Rattle.prebuilt_calls.specs.Steps.{Fillable, TablesInside};
+ghost use Rattle.prebuilt_calls.specs.Boundaries.{FilledBoundaries};
+ghost use Rattle.prebuilt_calls.specs.Steps.{Fillable, OneFilled, AllFilled};
 use columns::Done;
 use columns::VertexIndex;
 use columns::Weight;
@@ -45,10 +40,8 @@ fn fill_one(
 )
     requires { ⌜ Fillable (engineIn c «ends_a» «ends_b» weights boundary «log_edges» «log_weights») (length (now «out_weight»)) (length (now «out_vertex»)) (length (now least)) (length (now before)) (scratchLengths (scratchIn «neighbor_numbers» «list_ends» status weight previous node leaf)) ⌝ }
     requires { ⌜ v < c .vertices ⌝ }
-    ensures { λ _. ⌜ now («out_weight» .exit) ≡ set (now («out_weight» .entry)) v (boundaryWeight (graphIn (engineIn c («ends_a» .entry) («ends_b» .entry) (weights .entry) (boundary .entry) («log_edges» .entry) («log_weights» .entry))) (weightsIn (engineIn c («ends_a» .entry) («ends_b» .entry) (weights .entry) (boundary .entry) («log_edges» .entry) («log_weights» .entry))) v) ⌝ }
-    ensures { λ _. ⌜ now («out_vertex» .exit) ≡ set (now («out_vertex» .entry)) v (boundaryVertex (graphIn (engineIn c («ends_a» .entry) («ends_b» .entry) (weights .entry) (boundary .entry) («log_edges» .entry) («log_weights» .entry))) (weightsIn (engineIn c («ends_a» .entry) («ends_b» .entry) (weights .entry) (boundary .entry) («log_edges» .entry) («log_weights» .entry))) v) ⌝ }
-    ensures { λ _. ⌜ TableInside 0 (engineIn c («ends_a» .entry) («ends_b» .entry) (weights .entry) (boundary .entry) («log_edges» .entry) («log_weights» .entry)) v
-        (now (least .entry)) (now (least .exit)) (now (before .entry)) (now (before .exit))
+    ensures { λ _. ⌜ OneFilled (engineIn c («ends_a» .entry) («ends_b» .entry) (weights .entry) (boundary .entry) («log_edges» .entry) («log_weights» .entry)) v
+        (now («out_weight» .entry)) (now («out_weight» .exit)) (now («out_vertex» .entry)) (now («out_vertex» .exit)) (now (least .entry)) (now (least .exit)) (now (before .entry)) (now (before .exit))
         (scratchIn («neighbor_numbers» .entry) («list_ends» .entry) (status .entry) (weight .entry) (previous .entry) (node .entry) (leaf .entry))
         (scratchIn («neighbor_numbers» .exit) («list_ends» .exit) (status .exit) (weight .exit) (previous .exit) (node .exit) (leaf .exit)) ⌝ }
 {
@@ -103,10 +96,8 @@ fn fill_all(
     leaf: &mut [u64],
 )
     requires { ⌜ Fillable (engineIn c «ends_a» «ends_b» weights boundary «log_edges» «log_weights») (length (now «out_weight»)) (length (now «out_vertex»)) (length (now least)) (length (now before)) (scratchLengths (scratchIn «neighbor_numbers» «list_ends» status weight previous node leaf)) ⌝ }
-    ensures { λ _. ⌜ now («out_weight» .exit) ≡ sets (now («out_weight» .entry)) 0 (each (c .vertices) (boundaryWeight (graphIn (engineIn c («ends_a» .entry) («ends_b» .entry) (weights .entry) (boundary .entry) («log_edges» .entry) («log_weights» .entry))) (weightsIn (engineIn c («ends_a» .entry) («ends_b» .entry) (weights .entry) (boundary .entry) («log_edges» .entry) («log_weights» .entry))))) ⌝ }
-    ensures { λ _. ⌜ now («out_vertex» .exit) ≡ sets (now («out_vertex» .entry)) 0 (each (c .vertices) (boundaryVertex (graphIn (engineIn c («ends_a» .entry) («ends_b» .entry) (weights .entry) (boundary .entry) («log_edges» .entry) («log_weights» .entry))) (weightsIn (engineIn c («ends_a» .entry) («ends_b» .entry) (weights .entry) (boundary .entry) («log_edges» .entry) («log_weights» .entry))))) ⌝ }
-    ensures { λ _. ⌜ TablesInside (engineIn c («ends_a» .entry) («ends_b» .entry) (weights .entry) (boundary .entry) («log_edges» .entry) («log_weights» .entry)) (c .vertices)
-        (now (least .entry)) (now (least .exit)) (now (before .entry)) (now (before .exit))
+    ensures { λ _. ⌜ AllFilled (engineIn c («ends_a» .entry) («ends_b» .entry) (weights .entry) (boundary .entry) («log_edges» .entry) («log_weights» .entry))
+        (now («out_weight» .entry)) (now («out_weight» .exit)) (now («out_vertex» .entry)) (now («out_vertex» .exit)) (now (least .entry)) (now (least .exit)) (now (before .entry)) (now (before .exit))
         (scratchIn («neighbor_numbers» .entry) («list_ends» .entry) (status .entry) (weight .entry) (previous .entry) (node .entry) (leaf .entry))
         (scratchIn («neighbor_numbers» .exit) («list_ends» .exit) (status .exit) (weight .exit) (previous .exit) (node .exit) (leaf .exit)) ⌝ }
 {

@@ -28,10 +28,20 @@ use Rattle.engine_walks.specs.Answers.{taken, tableWeight, weightOf, fromLeft, 
 use Rattle.query_relaxing.specs.Ready.{sumLimit}
 use Rattle.query_crossing_answer.specs.declared.CrossingReply.the-variants.{Crossed, Refused}
 use Rattle.query_crossing_answer.specs.Crossing.{isJoined, weightFound, crossingSaid, crossingAsked}
-use Rattle.query_crossing_answer.specs.Codes.{Coded, whereFound, codeOf}
+use Rattle.query_crossing_answer.specs.Codes.{codeOf}
 use Rattle.query_questions.specs.Scratch.{isFree}
 use Rattle.query_search.proofs.Scratch.{ask-kept}
 use Rattle.columns.proofs.Refusals.{met, goes-on}
+
+-- r stands for a crossing weight or for none.
+abbrev pub Coded : ℕ → Option ℕ → Type 0
+Coded r none = r ≡ 2147483648
+Coded r (some weight) = (r ≡ weight) × (weight < 2147483648)
+
+-- the column where a weight was found, else unchanged.
+abbrev pub whereFound : Option ℕ → List ℤ → List ℤ → List ℤ
+whereFound none column weights₀ = weights₀
+whereFound (some weight) column weights₀ = sets weights₀ 0 column
 
 -- ---- what stands for a weight
 
@@ -92,8 +102,8 @@ crossing-of e scratch weights z =
 
 -- ---- what a settled state says of the crossing
 
-light-all : (s : State) (n : ℕ) → length (s .weight) ≡ n → ((v : ℕ) → v < n → weightAt s v < sumLimit) → (v : ℕ) → weightAt s v < sumLimit
-light-all s n e h v = elim (decLt v n) [
+within-all : (s : State) (n : ℕ) → length (s .weight) ≡ n → ((v : ℕ) → v < n → weightAt s v < sumLimit) → (v : ℕ) → weightAt s v < sumLimit
+within-all s n e h v = elim (decLt v n) [
   | yes l ↦ h v l
   | no l ↦ omega (arith, List·getD-eq-default (s .weight) 0 {n = v} (omega arith))
 ]
@@ -102,10 +112,10 @@ module _ (g : Graph) (w : ℕ → ℕ) (s : State) (state : s ≡ fromLeft g w) 
   pub found-is : (r k : ℕ) → k ≡ g .vertices → length (s .weight) ≡ g .vertices → ((v : ℕ) → v < g .vertices → weightAt s v < sumLimit)
       → r ≡ codeOf (weightOf s (firstLeast (λ v. eqb (getD (g .boundary) v 0) 2 && taken s v) (weightAt s) k)) → Coded r (crossing g w)
   unfolding crossing nearestRight
-  found-is r k e fits light q =
+  found-is r k e fits within q =
       subst (λ x. Coded x (weightOf (fromLeft g w) (nearestRight g w)))
       (sym (q ∙ (λ i. codeOf (weightOf (state i) (firstLeast (λ v. eqb (getD (g .boundary) v 0) 2 && taken (state i) v) (weightAt (state i)) (e i))))))
-      (coded-of (fromLeft g w) (nearestRight g w) (subst (λ t. (v : ℕ) → weightAt t v < sumLimit) state (light-all s (g .vertices) fits light)))
+      (coded-of (fromLeft g w) (nearestRight g w) (subst (λ t. (v : ℕ) → weightAt t v < sumLimit) state (within-all s (g .vertices) fits within)))
 
   pub column-is : (r k : ℕ) (out₀ out : List ℤ) → k ≡ g .vertices → Coded r (crossing g w)
       → out ≡ cond (eqb r 2147483648) out₀ (sets out₀ 0 (each k (tableWeight s))) → out ≡ whereFound (crossing g w) (leastFromLeft g w) out₀

@@ -8,7 +8,7 @@ ghost use lib.Seq.{sets};
 ghost use lib.Dec.{eqb};
 ghost use Rattle.columns.specs.Lists.{each};
 ghost use Rattle.engine_columns.specs.Records.{engineIn};
-ghost use Rattle.engine_walks.specs.Answers.{tableWeight, crossing};
+ghost use Rattle.engine_walks.specs.Answers.{tableWeight};
 ghost use Rattle.query_relaxing.specs.Ready.{stateOf, sumLimit};
 ghost use Rattle.query_questions.specs.Scratch.{scratchIn};
 ghost use Rattle.query_crossing_answer.specs.Crossing.{FoundCrossing};

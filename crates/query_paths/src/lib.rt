@@ -1,6 +1,6 @@
 // The path between two vertices: settled from the one, read back from the other.
 ghost use mathlib.Core.Path.{_≡_};
-ghost use Prim.Native.Nat.{_<_, _≤_};
+ghost use Prim.Native.Nat.{_≤_};
 ghost use lib.ListN.{length};
 ghost use Rattle.engine_columns.specs.Records.{engineIn};
 ghost use Rattle.query_relaxing.specs.Ready.{stateOf};

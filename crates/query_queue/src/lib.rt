@@ -1,6 +1,6 @@
 // A tree of least keys over the numbers below n, in two lent columns.
 ghost use mathlib.Core.Path.{_≡_};
-ghost use Prim.Native.Nat.{_+_, _*_, _<_, _≤_, min};
+ghost use Prim.Native.Nat.{_+_, _<_, _≤_, min};
 ghost use lib.ListN.{length, set};
 ghost use Rattle.query_queue.specs.Tree.{placeOf, Tree, TreeBut, TreeRoom, Least, Same};
 

@@ -13,7 +13,16 @@ use Rattle.engine_walks.specs.Graph.{Graph}
 use Rattle.engine_walks.specs.Settling.{State, previousAt, settled}
 use Rattle.engine_walks.specs.Answers.{entry, behind, readBack, taken, stepInto, only, path, pathIn}
 use Rattle.query_read_back.specs.declared.TableEntry.the-variants.{Previous, None}
-use Rattle.query_read_back.specs.Path.{entryOf, stepBack, Written, pathOf}
+use Rattle.query_read_back.specs.Path.{entryOf, stepBack, pathOf}
+
+-- the path of a to b in s, written down to place i and read back to v
+pub record Written (s : State) (a n b i v : ℕ) (vertices₀ vertices steps₀ steps : List ℕ) : Type 0 where
+  pub room : ℕ
+  pub rest : List ℕ
+  pub reads : readBack s a n b ≡ readBack s a room v ++ rest
+  pub count : length (readBack s a room v) ≡ i
+  pub in-vertices : vertices ≡ sets vertices₀ i rest
+  pub in-steps : steps ≡ sets steps₀ i (map (stepInto s) rest)
 
 -- an entry says which step there was
 pub entry-none : (o : Option ℕ) → entryOf o ≡ None → o ≡ none

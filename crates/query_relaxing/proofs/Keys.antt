@@ -27,7 +27,7 @@ stored l u x v h = elim (ℕ-discrete v u) [
 module _ {n : ℕ} {s : State} {node leaf : List ℕ} (r : Ready n s node leaf) (node′ leaf′ : List ℕ) (fits : length node′ ≡ length node) (tree′ : Tree node′ leaf′ n) (u : ℕ) (inside : u < n) where
   -- u waits with weight k and previous a
   pub ready-waits : (k a : ℕ) → k < sumLimit → leaf′ ≡ set leaf u (k * 4096 + u) → Ready n (waits u k a s) node′ leaf′
-  ready-waits k a light put = record {
+  ready-waits k a within put = record {
     few = r .few;
     status-fits = length-set (s .status) u 1 ∙ r .status-fits;
     weight-fits = length-set (s .weight) u k ∙ r .weight-fits;
@@ -42,7 +42,7 @@ module _ {n : ℕ} {s : State} {node leaf : List ℕ} (r : Ready n s node leaf) 
       | no e ↦ ap (λ l. getD l v 0) put ∙ getD-set-other leaf u v (k * 4096 + u) 0 e ∙ r .keys v h
           ∙ sym (λ i. keyOf (getD-set-other (s .status) u v 1 0 e i) (getD-set-other (s .weight) u v k 0 e i) v)
     ];
-    light = λ v h. ⊎-elim (λ z. omega (arith, z .1)) (λ z. omega (arith, z .1, r .light v h)) (stored (s .weight) u k v (omega (arith, r .weight-fits)));
+    weights-within = λ v h. ⊎-elim (λ z. omega (arith, z .1)) (λ z. omega (arith, z .1, r .weights-within v h)) (stored (s .weight) u k v (omega (arith, r .weight-fits)));
   }
 
   -- u is taken
@@ -62,7 +62,7 @@ module _ {n : ℕ} {s : State} {node leaf : List ℕ} (r : Ready n s node leaf) 
       | no e ↦ ap (λ l. getD l v 0) put ∙ getD-set-other leaf u v Q.noKey 0 e ∙ r .keys v h
           ∙ sym (ap (λ x. keyOf x (weightAt s v) v) (getD-set-other (s .status) u v 2 0 e))
     ];
-    light = r .light;
+    weights-within = r .weights-within;
   }
 
 -- an offer by what is accepted

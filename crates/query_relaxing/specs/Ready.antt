@@ -50,7 +50,7 @@ pub record Ready (n : ℕ) (s : State) (node leaf : List ℕ) : Type 0 where
   pub leaf-fits : length leaf ≡ n
   pub tree : Tree node leaf n
   pub keys : (v : ℕ) → v < n → getD leaf v 0 ≡ keyOf (statusAt s v) (weightAt s v) v
-  pub light : (v : ℕ) → v < n → weightAt s v < sumLimit
+  pub weights-within : (v : ℕ) → v < n → weightAt s v < sumLimit
 
 -- Records, on neighbour lists; Questions at the door, 7: the graph's columns hold edges between
 -- n vertices whose ends differ, and the neighbour lists with the place where each ends.
@@ -76,7 +76,7 @@ pub record Along (n : ℕ) (a b w numbers : List ℕ) (from to v W : ℕ) : Type
   pub inside : to ≤ length numbers
   pub edge : (i : ℕ) → from ≤ i → i < to → getD numbers i 0 < length a
   pub at-v : (i : ℕ) → from ≤ i → i < to → (getD a (getD numbers i 0) 0 ≡ v) ⊎ (getD b (getD numbers i 0) 0 ≡ v)
-  pub light : (e : ℕ) → e < length a → W + getD w e 0 < sumLimit
+  pub weights-within : (e : ℕ) → e < length a → W + getD w e 0 < sumLimit
 
 -- Records, last sentence: what every vertex that waits may offer fits.
 abbrev pub Offers : (s : State) (w : List ℕ) → Type 0
@@ -101,7 +101,7 @@ pub record Begun (status weight previous w : List ℕ) (stop : ℕ) : Type 0 whe
   pub bytes : (v : ℕ) → getD status v 0 ≤ 1
   pub no-weight : weight ≡ each (length status) (λ v. 0)
   pub own-previous : previous ≡ each (length status) (λ v. v)
-  pub light : (e : ℕ) → e < length w → getD w e 0 ≤ 500000
+  pub weights-within : (e : ℕ) → e < length w → getD w e 0 ≤ 500000
   pub no-source : getD status stop 0 ≡ 1 → ⊥
 
 -- Engine, Settling, sentence 3: the first i leaves hold the keys of the vertices that wait with weight 0, the others none.

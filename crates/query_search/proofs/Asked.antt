@@ -113,7 +113,7 @@ module _ (c : EngineCounts) (a b w m numbers ends status weight previous node le
             (subst (λ k. SoundGraph v k (take E a) (take E b)) (sym la) (cut-graph v E a b (graph-says v E a b (ok .graph))));
         same-b = lb ∙ sym la;
         same-w = lw ∙ sym la;
-        light = λ k h. within-at weightLimit (take E w) (ok .weights) k h;
+        weights-within = λ k h. within-at weightLimit (take E w) (ok .weights) k h;
         numbers-fit = omega (arith, s .numbers-long);
         ends-fit = omega (arith, length-take-le v ends (s .ends-long), cut-length);
         weight-fits = length-take-le v weight (s .weight-long) ∙ sym cut-length;

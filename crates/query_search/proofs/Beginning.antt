@@ -67,5 +67,5 @@ module _ (status : List ℕ) where
         leaf-fits = ll;
         tree = tree;
         keys = λ v h. keys v h ∙ ap (λ b. cond b (keyOf (getD status v 0) 0 v) Q.noKey) (lt-ltb v (length status) h) ∙ ap (λ x. keyOf (getD status v 0) x v) (sym (zero-at v h));
-        light = λ v h. omega (arith, zero-at v h);
+        weights-within = λ v h. omega (arith, zero-at v h);
       }

@@ -3,7 +3,7 @@ use mathlib.Core.Path.{_≡_, refl, sym, ap, _∙_}
 use mathlib.Core.Bool.{Bool, true, false, cond}
 use mathlib.Core.List.{List}
 use mathlib.Core.Option.{some, none}
-use Prim.Native.Nat.{ℕ, _<_, _≤_}
+use Prim.Native.Nat.{ℕ, _≤_}
 use native.Mathlib.Decide.{decLt}
 use native.Mathlib.Omega.{arith}
 use lib.ListN.{length, getD, List·getD-eq-default}
@@ -15,7 +15,7 @@ use Rattle.engine_walks.specs.Lists.{bit, delta}
 use Rattle.engine_walks.specs.Settling.{settled}
 use Rattle.engine_walks.specs.Answers.{isLeft, fromLeft}
 use Rattle.query_relaxing.specs.Ready.{graphOf, sources, endOf}
-use Rattle.query_search.specs.Search.{Waiting}
+use Rattle.query_search.proofs.Listing.{Waiting}
 
 module _ (n : ℕ) (a b m : List ℕ) (fits : length m ≡ n) where
   abbrev first : List ℕ

@@ -1,14 +1,14 @@
 -- The neighbour lists that a search goes through. Assumes nothing.
 use mathlib.Core.Path.{_≡_, refl, ap, _∙_, subst}
 use mathlib.Core.List.{List}
-use Prim.Native.Nat.{ℕ, _+_, _*_, _<_, _≤_}
+use Prim.Native.Nat.{ℕ, _≤_}
 use native.Mathlib.Omega.{arith}
-use lib.ListN.{length, take}
+use lib.ListN.{length, take, getD}
 use Rattle.columns.proofs.Columns.{take-over}
 use Rattle.columns_neighbors.specs.Lists.{lists, ListsFilled}
 use Rattle.engine_walks.specs.Settling.{State}
 use Rattle.query_relaxing.specs.Ready.{Listed, Ready}
-use Rattle.query_search.specs.Search.{Searchable, Waiting, ListsBuilt}
+use Rattle.query_search.specs.Search.{Searchable, ListsBuilt}
 
 pub listed : {n : ℕ} {a b w numbers₀ ends₀ weight previous node leaf lengths₀ lengths numbers ends : List ℕ} → Searchable n a b w numbers₀ ends₀ weight previous node leaf
     → ListsFilled a b (length a) n lengths₀ numbers₀ lengths numbers ends → length numbers ≡ length numbers₀ → length ends ≡ length ends₀ → Listed n a b w numbers ends
@@ -29,6 +29,12 @@ listed {n} {a} {b} {numbers₀ = numbers₀} s f ln le = record {
 pub searchable-as : {n n′ : ℕ} {a b w numbers ends weight previous node leaf : List ℕ} → n ≡ n′
     → Searchable n a b w numbers ends weight previous node leaf → Searchable n′ a b w numbers ends weight previous node leaf
 searchable-as {a = a} {b} {w} {numbers} {ends} {weight} {previous} {node} {leaf} e s = subst (λ k. Searchable k a b w numbers ends weight previous node leaf) e s
+
+-- status bytes before the first turn, 0 and 1, and no end among the vertices that wait
+pub record Waiting (n : ℕ) (status : List ℕ) (stop : ℕ) : Type 0 where
+  pub fits : length status ≡ n
+  pub bytes : (v : ℕ) → getD status v 0 ≤ 1
+  pub no-source : getD status stop 0 ≡ 1 → ⊥
 
 pub waiting-as : {n n′ stop : ℕ} {status : List ℕ} → n ≡ n′ → Waiting n status stop → Waiting n′ status stop
 waiting-as {stop = stop} {status = status} e s = subst (λ k. Waiting k status stop) e s

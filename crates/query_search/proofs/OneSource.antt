@@ -11,7 +11,7 @@ use lib.Dec.{eqb}
 use borrow.Author.Tests.{eq-eqb, ne-eqb}
 use Rattle.engine_walks.specs.Answers.{only}
 use Rattle.query_relaxing.specs.Ready.{sources}
-use Rattle.query_search.specs.Search.{Waiting}
+use Rattle.query_search.proofs.Listing.{Waiting}
 
 module _ (n a : ℕ) (inside : a < n) where
   abbrev first : List ℕ

@@ -7,9 +7,10 @@ use Rattle.engine_walks.specs.Settling.{settled}
 use Rattle.query_relaxing.specs.Ready.{graphOf, sources, endOf}
 use Rattle.query_search.specs.declared.Origin.{Origin}
 use Rattle.query_search.specs.declared.Origin.the-variants.{At, Left}
-use Rattle.query_search.specs.Search.{Waiting, Starts, firstStatus, stopIn, stateFrom}
+use Rattle.query_search.specs.Search.{Starts, firstStatus, stopIn, stateFrom}
 use Rattle.query_search.proofs.OneSource.{sources-only, waiting-one}
 use Rattle.query_search.proofs.LeftSources.{waiting-left, settled-left}
+use Rattle.query_search.proofs.Listing.{Waiting}
 
 module _ (n : ℕ) (a b m : List ℕ) (fits : length m ≡ n) where
   pub first-waits : (o : Origin) → Starts o n → Waiting n (firstStatus o m n) (stopIn o n)

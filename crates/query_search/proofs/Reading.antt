@@ -32,5 +32,5 @@ module _ {g : Graph} {s : State} {scratch₀ scratch : ScratchColumns} (h : Sear
   pub previous-length : length (take (g .vertices) (scratch .previous)) ≡ g .vertices
   previous-length = ap length previous-read ∙ ok .previous-fits
 
-  pub light-read : (v : ℕ) → v < length (take (g .vertices) (scratch .status)) → getD (take (g .vertices) (scratch .weight)) v 0 < sumLimit
-  light-read v l = rw weight-read (ok .light v (omega (arith, status-length)))
+  pub within-read : (v : ℕ) → v < length (take (g .vertices) (scratch .status)) → getD (take (g .vertices) (scratch .weight)) v 0 < sumLimit
+  within-read v l = rw weight-read (ok .weights-within v (omega (arith, status-length)))

@@ -6,11 +6,14 @@ use lib.ListN.{length, getD, set, replicate}
 use Rattle.columns.specs.Lists.{each, over}
 use Rattle.columns_neighbors.specs.Lists.{lists}
 use Rattle.columns_neighbors.specs.Sound.{SoundGraph}
+use Rattle.engine_columns.specs.Records.{Engine}
 use Rattle.engine_walks.specs.Graph.{Graph}
 use Rattle.engine_walks.specs.Lists.{delta}
 use Rattle.engine_walks.specs.Settling.{State, weightAt, settled}
 use Rattle.engine_walks.specs.Answers.{only, fromLeft}
 use Rattle.query_relaxing.specs.Ready.{stateOf, Ready, endOf, sumLimit}
+use Rattle.query_questions.specs.Queries.{graphIn, weightsIn}
+use Rattle.query_questions.specs.Scratch.{ScratchColumns, SearchLeft}
 use Rattle.query_search.specs.declared.Origin.{Origin}
 use Rattle.query_search.specs.declared.Origin.the-variants.{At, Left}
 
@@ -19,19 +22,13 @@ pub record Searchable (n : ℕ) (a b w numbers ends weight previous node leaf : 
   pub graph : SoundGraph n (length a) a b
   pub same-b : length b ≡ length a
   pub same-w : length w ≡ length a
-  pub light : (e : ℕ) → e < length w → getD w e 0 ≤ 500000
+  pub weights-within : (e : ℕ) → e < length w → getD w e 0 ≤ 500000
   pub numbers-fit : 2 * length a ≤ length numbers
   pub ends-fit : n ≤ length ends
   pub weight-fits : length weight ≡ n
   pub previous-fits : length previous ≡ n
   pub node-fits : n ≤ length node
   pub leaf-fits : length leaf ≡ n
-
--- Engine, Settling, sentences 3 and 5: status bytes before the first turn, 0 and 1, and no end among the vertices that wait.
-pub record Waiting (n : ℕ) (status : List ℕ) (stop : ℕ) : Type 0 where
-  pub fits : length status ≡ n
-  pub bytes : (v : ℕ) → getD status v 0 ≤ 1
-  pub no-source : getD status stop 0 ≡ 1 → ⊥
 
 -- Records, on neighbour lists: the lists of all vertices, and where each ends.
 pub record ListsBuilt (n : ℕ) (a b numbers₀ numbers ends : List ℕ) : Type 0 where
@@ -64,7 +61,12 @@ pub record Settles (n : ℕ) (s : State) : Type 0 where
   pub status-fits : length (s .status) ≡ n
   pub weight-fits : length (s .weight) ≡ n
   pub previous-fits : length (s .previous) ≡ n
-  pub light : (v : ℕ) → v < n → weightAt s v < sumLimit
+  pub weights-within : (v : ℕ) → v < n → weightAt s v < sumLimit
+
+-- Engine, Settling: what a search of the engine graph e leaves in scratch, and that the state it settled in fits.
+pub record SearchDone (e : Engine) (origin : Origin) (scratch₀ scratch : ScratchColumns) : Type 0 where
+  pub scratch-after : SearchLeft (graphIn e) (stateFrom origin (graphIn e) (weightsIn e)) scratch₀ scratch
+  pub settles : Settles (e .counts .vertices) (stateFrom origin (graphIn e) (weightsIn e))
 
 -- Engine, Settling: columns cut to their counts, after a search of the graph g that settled in the state s.
 pub record Searched (g : Graph) (s : State) (numbers₀ numbers ends status weight previous node leaf : List ℕ) : Type 0 where

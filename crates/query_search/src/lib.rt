@@ -14,9 +14,8 @@ ghost use Rattle.engine_walks.specs.Answers.{tableWeight, tablePrevious};
 ghost use Rattle.query_relaxing.specs.Ready.{graphOf, weighs, stateOf, sumLimit};
 ghost use Rattle.engine_columns.specs.Records.{engineWithoutLog};
 ghost use Rattle.engine_columns.specs.Questions.{columnsLong, columnsSound};
-ghost use Rattle.query_questions.specs.Queries.{graphIn, weightsIn};
-ghost use Rattle.query_questions.specs.Scratch.{SearchLeft, scratchIn, scratchFits};
-ghost use Rattle.query_search.specs.Search.{Searchable, Searched, Starts, stateFrom, Settles};
+ghost use Rattle.query_questions.specs.Scratch.{scratchIn, scratchFits};
+ghost use Rattle.query_search.specs.Search.{Searchable, Searched, Starts, stateFrom, SearchDone};
 use columns::Weight;
 use engine_columns::EngineCounts;
 
@@ -93,11 +92,9 @@ pub fn search(
 )
     requires { ⌜ (columnsLong (c .vertices) (c .edges) (now «ends_a») (now «ends_b») (now weights) (now boundary) ≡ true) × (columnsSound (c .vertices) (c .edges) (now «ends_a») (now «ends_b») (now weights) (now boundary) ≡ true) ⌝ }
     requires { ⌜ (scratchFits c (scratchIn «neighbor_numbers» «list_ends» status weight previous node leaf) ≡ true) × Starts origin (c .vertices) ⌝ }
-    ensures { λ _. ⌜ SearchLeft (graphIn (engineWithoutLog c («ends_a» .entry) («ends_b» .entry) (weights .entry) (boundary .entry)))
-        (stateFrom origin (graphIn (engineWithoutLog c («ends_a» .entry) («ends_b» .entry) (weights .entry) (boundary .entry))) (weightsIn (engineWithoutLog c («ends_a» .entry) («ends_b» .entry) (weights .entry) (boundary .entry))))
+    ensures { λ _. ⌜ SearchDone (engineWithoutLog c («ends_a» .entry) («ends_b» .entry) (weights .entry) (boundary .entry)) origin
         (scratchIn («neighbor_numbers» .entry) («list_ends» .entry) (status .entry) (weight .entry) (previous .entry) (node .entry) (leaf .entry))
         (scratchIn («neighbor_numbers» .exit) («list_ends» .exit) (status .exit) (weight .exit) (previous .exit) (node .exit) (leaf .exit)) ⌝ }
-    ensures { λ _. ⌜ Settles (c .vertices) (stateFrom origin (graphIn (engineWithoutLog c («ends_a» .entry) («ends_b» .entry) (weights .entry) (boundary .entry))) (weightsIn (engineWithoutLog c («ends_a» .entry) («ends_b» .entry) (weights .entry) (boundary .entry)))) ⌝ }
 {
     let v = c.vertices as usize;
     let e = c.edges as usize;

@@ -1,7 +1,7 @@
 // The vertices that a search begins from: one vertex, or every left vertex. They wait with weight 0 and themselves as previous.
 ghost use mathlib.Core.Path.{_≡_};
 ghost use mathlib.Core.Bool.{cond};
-ghost use Prim.Native.Nat.{_+_, _-_, _<_, _≤_};
+ghost use Prim.Native.Nat.{_<_, _≤_};
 ghost use lib.ListN.{length, getD, set, replicate};
 ghost use Rattle.query_queue.specs.Tree.{Tree, TreeRoom};
 ghost use Rattle.engine_walks.specs.Lists.{delta};

@@ -30,7 +30,7 @@ module _ {n : ℕ} {s : State} {node leaf : List ℕ} (r : Ready n s node leaf) 
   waiting : (v : ℕ) → v < n → statusAt s v ≡ 1 → (getD leaf v 0 ≡ weightAt s v * 4096 + v) × (getD leaf v 0 < Q.noKey)
   waiting v h e =
       let k = r .keys v h ∙ ap (λ x. keyOf x (weightAt s v) v) e in
-      (k, omega (arith, k, r .light v h, r .few))
+      (k, omega (arith, k, r .weights-within v h, r .few))
 
   absent : (v : ℕ) → v < n → statusAt s v ≢ 1 → getD leaf v 0 ≡ Q.noKey
   absent v h f = r .keys v h ∙ ap (λ b. cond b (weightAt s v * 4096 + v) Q.noKey) (ne-eqb (statusAt s v) 1 f)
@@ -117,7 +117,7 @@ module _ {n : ℕ} {a b w numbers ends : List ℕ} (l : Listed n a b w numbers e
       subst (EdgeOf a b E v) at (neighbors-at a b E v (i - from) (omega (arith, to-is)))
 
   pub along : (W : ℕ) → ((e : ℕ) → e < E → W + getD w e 0 < sumLimit) → Along n a b w numbers from to v W
-  along W light = record {
+  along W within = record {
     same-b = l .same-b;
     same-w = l .same-w;
     in-a = l .in-a;
@@ -126,7 +126,7 @@ module _ {n : ℕ} {a b w numbers ends : List ℕ} (l : Listed n a b w numbers e
     inside = to-in;
     edge = λ i h k. entry i h k .before;
     at-v = λ i h k. entry i h k .at-v;
-    light = light;
+    weights-within = within;
   }
 
   incident-neighbors : (m : List ℕ) → neighbors a b E v ≡ incident (graphOf n a b m) v E

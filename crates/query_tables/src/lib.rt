@@ -1,6 +1,5 @@
 // Queries of the engine graph: the table of least weights and previous vertices.
 ghost use mathlib.Core.Path.{_≡_};
-ghost use Prim.Native.Nat.{_<_};
 ghost use Rattle.engine_columns.specs.Records.{engineIn};
 ghost use Rattle.query_tables.specs.Ends.{endInRange, stopOf};
 ghost use Rattle.query_tables.specs.Tables.{FoundTable};

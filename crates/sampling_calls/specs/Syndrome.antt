@@ -14,7 +14,7 @@ use Rattle.columns_room.specs.Graph.{CodeGraph, graphLong, codeSound}
 use Rattle.columns_answers.specs.Said.{Answered}
 use Rattle.columns_answers.specs.Counts.{listSaid}
 
--- 1 where x is vertex v, else 0.
+-- Sampling, syndromes, reordering, paragraph 2, sentence 3: 1 where x is vertex v, else 0.
 abbrev pub hit : (v x : ℕ) → ℕ
 hit v x = cond (eqb x v) 1 0
 

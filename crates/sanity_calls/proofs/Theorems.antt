@@ -11,12 +11,12 @@ use borrow.Author.Tests.{ne-eqb, not-true}
 use Rattle.columns.specs.Questions.{every}
 use Rattle.columns.proofs.Counting.{length-each, getD-each}
 use Rattle.columns.proofs.Tests.{every-at}
-use Rattle.columns_neighbors.specs.Lists.{hits, neighbors, lists, degrees, chosen, endsAt, sumTo, listAt}
+use Rattle.columns_neighbors.specs.Lists.{hits, neighbors, lists, degrees, chosen, sumTo, listAt}
 use Rattle.columns_pairs.specs.Pairs.{samePair, pairsApart}
 use Rattle.columns_neighbors.specs.Sound.{graphSound, SoundGraph}
 use Rattle.columns_pairs.proofs.PairTests.{at-apart}
 use Rattle.columns_neighbors.proofs.Ends.{graph-says}
-use Rattle.columns_neighbors.proofs.Placing.{length-hit, length-more, length-within, lists-count, list-of, neighbors-chosen, sum-starts}
+use Rattle.columns_neighbors.proofs.Placing.{length-hit, length-more, length-within, lists-count, list-of, neighbors-chosen, sum-starts, endsAt}
 use Rattle.columns_marks.proofs.Listing.{chosen-ascends}
 use Rattle.sanity_verdicts.specs.declared.Verdict.the-variants.{Sound, DuplicateEdge, EdgeTwice, Refused}
 use Rattle.sanity_verdicts.specs.Sanity.{edgeNumbered, vertexNumbered, firstOf, duplicate, twice, atVertex, verdict}

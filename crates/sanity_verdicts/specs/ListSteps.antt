@@ -5,19 +5,19 @@ use mathlib.Core.Bool.{Bool, true, false}
 use mathlib.Core.List.{List}
 use lib.ListN.{getD, length}
 
--- Of the numbers from place `start` on, the first i: whether one of them is x.
+-- Six builders, sanity_check, sentence 1, verdict 4: of the numbers from place `start` on, the first i: whether one of them is x.
 pub record Seen (numbers : List ℕ) (start i x : ℕ) (r : Bool) : Type 0 where
   pub yes : r ≡ true → (j : ℕ) × ((j < i) × (getD numbers (start + j) 0 ≡ x))
   pub no : r ≡ false → (j : ℕ) → j < i → getD numbers (start + j) 0 ≡ x → ⊥
 
--- The stamps of the numbers below 32,768: `stamp` at those of the first i, less at the others.
+-- Six builders, sanity_check, sentence 1, verdict 4: the stamps of the numbers below 32,768: `stamp` at those of the first i, less at the others.
 pub record Stamped (numbers : List ℕ) (start i stamp : ℕ) (mark : List ℕ) : Type 0 where
   pub len : length mark ≡ 32768
   pub most : (x : ℕ) → x < 32768 → getD mark x 0 ≤ stamp
   pub stamped : (x : ℕ) → x < 32768 → getD mark x 0 ≡ stamp → (j : ℕ) × ((j < i) × (getD numbers (start + j) 0 ≡ x))
   pub has : (j : ℕ) → j < i → getD numbers (start + j) 0 < 32768 → getD mark (getD numbers (start + j) 0) 0 ≡ stamp
 
--- No stamp is above v.
+-- Six builders, sanity_check, sentence 1, verdict 4: no stamp is above v.
 pub record Below (v : ℕ) (mark : List ℕ) : Type 0 where
   pub len : length mark ≡ 32768
   pub most : (x : ℕ) → x < 32768 → getD mark x 0 ≤ v

@@ -86,7 +86,7 @@ module _ (kind d rounds : ℕ) (p : _) (max v e : ℕ) (a b w m : List ℕ) (s :
       both-and (both-and (both-and (le-leb e (length a) long-a) (both-and (le-leb e (length b) long-b) (le-leb e (length w) long-w))) (le-leb v (length m) long-m))
       (both-and (le-leb (0 + 0) (length le) (omega arith)) (le-leb (0 + 0) (length lw) (omega arith)))
 
-  scratch-long : (out : ℕ) (l : ScratchLengths) → ScratchRoom out l → (leb v out && scratchLong v e l) ≡ true
+  scratch-long : (out : ℕ) (l : ScratchLengths) → ScratchRoom out l → (leb v out && scratchLong (counts v e 0) l) ≡ true
   unfolding scratchLong
   scratch-long out l r =
       both-and (le-leb v out (omega (arith, s .few-vertices, r .out-room)))
@@ -106,11 +106,11 @@ module _ (kind d rounds : ℕ) (p : _) (max v e : ℕ) (a b w m : List ℕ) (s :
   same-crossing le lw = λ i. crossing (same-graph le lw i) (λ k. getD (s .in-w i) k 0)
 
   pub replied : (le lw : List ℕ) (out : ℕ) (l : ScratchLengths) (r : CrossingReply) → ScratchRoom out l
-      → Answered (crossingSaid r) (crossingRefusal (the-engine le lw) (scratchLong v e l) out) (weightFound (crossing (graphIn (the-engine le lw)) (weightsIn (the-engine le lw)))) 0
+      → Answered (crossingSaid r) (crossingRefusal (the-engine le lw) (scratchLong (counts v e 0) l) out) (weightFound (crossing (graphIn (the-engine le lw)) (weightsIn (the-engine le lw)))) 0
       → Replied kind d rounds p max r
   replied le lw out l r room q =
       let o : Option ℕ = crossing (graphIn (the-engine le lw)) (weightsIn (the-engine le lw)) in
-      let number : crossingRefusal (the-engine le lw) (scratchLong v e l) out ≡ ask (isJoined o) 18 0 =
+      let number : crossingRefusal (the-engine le lw) (scratchLong (counts v e 0) l) out ≡ ask (isJoined o) 18 0 =
       λ i. ask (both-and (engine-long le lw) (scratch-long out l room) i) 6 (ask (engine-sound le lw i) 7 (ask (isJoined o) 18 0)) in
       subst (λ (c : Option ℕ). Answered (crossingSaid r) (ask (isJoined c) 18 0) (weightFound c) 0) (same-crossing le lw)
       (subst (λ (n : ℕ). Answered (crossingSaid r) n (weightFound o) 0) number q)

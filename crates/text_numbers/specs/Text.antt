@@ -8,12 +8,12 @@ use Rattle.columns.specs.Lists.{joined}
 
 -- ---- numbers
 
--- How many decimal digits a number below 10 to the power k + 1 has.
+-- The program codelist, the listing: how many decimal digits a number below 10 to the power k + 1 has.
 unfoldable pub sizeIn : (k n : ℕ) → ℕ
 sizeIn zero n = 1
 sizeIn (suc k) n = cond (leb (10 ^ suc k) n) (suc (suc k)) (sizeIn k n)
 
--- The last k decimal digits of a number, the highest first, as bytes.
+-- The program codelist, the listing: the last k decimal digits of a number, the highest first, as bytes.
 unfoldable pub digitsOf : (k n : ℕ) → List ℕ
 digitsOf zero n = []
 digitsOf (suc k) n = (0x30 + n / 10 ^ k % 10) ∷ digitsOf k n

@@ -124,8 +124,8 @@ pub fn write_listing(
     weights: &[Weight],
     crossing: u32,
 ) -> usize
-    requires { ⌜ ((g .vertices) ≤ 4096) × ((g .vertices) ≤ length (now boundary)) ⌝ }
-    requires { ⌜ ((g .edges) ≤ 32768) × ((g .edges) ≤ length (now «ends_a»)) × ((g .edges) ≤ length (now «ends_b»)) × ((g .edges) ≤ length (now weights)) ⌝ }
+    requires { ⌜ (g .vertices ≤ 4096) × (g .vertices ≤ length (now boundary)) ⌝ }
+    requires { ⌜ (g .edges ≤ 32768) × (g .edges ≤ length (now «ends_a»)) × (g .edges ≤ length (now «ends_b»)) × (g .edges ≤ length (now weights)) ⌝ }
     ensures { λ r. ⌜ Put (now (text .entry)) 0 (listing (g .kind) (g .d) (g .rounds) (g .vertices) (g .edges) (now (boundary .entry)) (now («ends_a» .entry)) (now («ends_b» .entry)) (now (weights .entry)) crossing) (now (text .exit)) r ⌝ }
 {
     let a = put_graph(text, g.kind, g.d, g.rounds, g.vertices, g.edges);

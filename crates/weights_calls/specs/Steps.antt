@@ -7,11 +7,11 @@ use lib.Ieee.{Float}
 use Rattle.weights_recipe.specs.Logarithm.{edgeWeight}
 use Rattle.weights_recipe.specs.Rounding.{halfWeight}
 
--- How many places a table has.
+-- Weights, `compute_weights`: how many places a table has.
 abbrev pub places : ℕ
 places = 256
 
--- A table of probabilities: beside each stands what f gives for it.
+-- Weights, `compute_weights`: a table of probabilities: beside each stands what f gives for it.
 pub record Known {A : Type 0} (f : Float → A) (ps : List Float) (values : List A) : Type 0 where
   pub room : length ps ≡ places
   pub right : values ≡ map f ps

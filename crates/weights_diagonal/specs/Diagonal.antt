@@ -8,7 +8,7 @@ use Rattle.weights_recipe.specs.Probabilities.{isProbability}
 use Rattle.weights_diagonal.specs.declared.DiagonalProbability.{DiagonalProbability}
 use Rattle.weights_diagonal.specs.declared.DiagonalProbability.the-variants.{None, Given}
 
--- The absolute value: the same number without its sign.
+-- Weights, on the diagonal probability, sentence 1: the absolute value: the same number without its sign.
 unfoldable pub absolute : Float → Float
 absolute nan = nan
 absolute (inf sign) = inf false

@@ -18,12 +18,11 @@ use Rattle.query_relaxing.specs.Ready.{stateOf}
 use Rattle.query_questions.specs.Queries.{graphIn, weightsIn}
 use Rattle.query_questions.specs.Scratch.{ScratchColumns, scratchOf, isFree, SearchLeft, scratchIn, scratchLengths, scratchFits}
 use Rattle.query_crossing_answer.specs.Crossing.{isJoined, weightFound, crossingSaid, crossingAsked}
-use Rattle.query_crossing_answer.specs.Codes.{Coded}
 use Rattle.query_search.specs.Search.{Settles}
 use Rattle.query_search.proofs.Asked.{ScratchLong, scratch-of}
 use Rattle.query_search.proofs.Scratch.{scratch-free, scratch-kept}
-use Rattle.query_search.proofs.Reading.{state-read, status-length, weight-length, light-read}
-use Rattle.query_crossings.proofs.Crossings.{CrossingAsked, crossing-of, refusal-passed, refusal-refused, reply-of, found-is, column-is, column-after, left-length, free-number, kept-number}
+use Rattle.query_search.proofs.Reading.{state-read, status-length, weight-length, within-read}
+use Rattle.query_crossings.proofs.Crossings.{Coded, CrossingAsked, crossing-of, refusal-passed, refusal-refused, reply-of, found-is, column-is, column-after, left-length, free-number, kept-number}
 use borrow.Author.Needs.{needs}
 use Rattle.query_crossings.proofs.crossing.Statement.{statement}
 use Rattle.query_crossings.proofs.crossing.Tie as tie
@@ -67,11 +66,11 @@ after-it c = let l = c .search .last .1 .1 .1 .1 .1 .1 in scratchOf (l .0) (l .1
 
 left : (c : tie.After-search) → SearchLeft (graphIn (engine-of (c .before .before .before .before .before .before .before .before .before .before .before .before .before .before .before .before .before .before .before .before .before .before .before .before .before .before .before .before .before .before .before .before))) (state-at (c .before .before .before .before .before .before .before .before .before .before .before .before .before .before .before .before .before .before .before .before .before .before .before .before .before .before .before .before .before .before .before .before)) (before-it (c .before .before .before .before .before .before .before .before .before .before .before .before .before .before .before .before .before .before .before .before .before .before .before .before .before .before .before .before .before .before .before .before)) (after-it c)
 unfolding engine-of state-at before-it after-it
-left c = c .search .ensures .0
+left c = c .search .ensures .scratch-after
 
 settles : (c : tie.After-search) → Settles (c .before .before .before .before .before .before .before .before .before .before .before .before .before .before .before .before .before .before .before .before .before .before .before .before .before .before .before .before .before .before .before .before .args .c .vertices) (state-at (c .before .before .before .before .before .before .before .before .before .before .before .before .before .before .before .before .before .before .before .before .before .before .before .before .before .before .before .before .before .before .before .before))
 unfolding engine-of state-at
-settles c = c .search .ensures .1
+settles c = c .search .ensures .settles
 
 search-requires : tie.Need-search-requires
 unfolding number-at engine-of scratch-at
@@ -116,7 +115,7 @@ nearest-right-requires c κs =
     let k = asked-at s (number-then (c .before .before .before .before .before .before .before .before .before .before .before .before .before .before .before .before .before .before .before .before .before .before .before .before .before)) in
     let l = left (c .before .before .before .before .before .before .before .before .before .before .before .before .before .before .before .before .before) in
     let o = settles (c .before .before .before .before .before .before .before .before .before .before .before .before .before .before .before .before .before) in
-    (weight-length l o ∙ sym (status-length l o), length-take-le (s .args .c .vertices) (s .args .boundary .now) (k .long .columns .boundary) ∙ sym (status-length l o), light-read l o)
+    (weight-length l o ∙ sym (status-length l o), length-take-le (s .args .c .vertices) (s .args .boundary .now) (k .long .columns .boundary) ∙ sym (status-length l o), within-read l o)
 
 slice-reshare-prefix-write-found : tie.Need-slice-reshare-prefix-write-found
 unfolding after-it
@@ -140,7 +139,7 @@ write-found-requires c κs =
     let k = asked-at (c .before .before .before .before .before .before .before .before .before .before .before .before .before .before .before .before .before .before .before .before .before .before .before .before .before .before .before .before .before .before .before .before .before .before .before .before .before .before .before .before .before .before .before .before .before .before .before .before .before .before .before .before .before) (number-then (c .before .before .before .before .before .before .before .before .before .before .before .before .before .before .before .before .before .before .before .before .before .before .before .before .before .before .before .before .before)) in
     let l = left (c .before .before .before .before .before .before .before .before .before .before .before .before .before .before .before .before .before .before .before .before .before) in
     let o = settles (c .before .before .before .before .before .before .before .before .before .before .before .before .before .before .before .before .before .before .before .before .before) in
-    (weight-length l o ∙ sym (status-length l o), omega (arith, k .weights-long, status-length l o), light-read l o)
+    (weight-length l o ∙ sym (status-length l o), omega (arith, k .weights-long, status-length l o), within-read l o)
 
 returns : tie.Need-returns
 unfolding number-at engine-of scratch-at state-at before-it after-it
@@ -157,7 +156,7 @@ returns c =
     let back = take v (after-it (c .before .before .before .before .before .before .before .before .before .before .before .before .before .before .before .before .before .before .before .before .before .before .before .before) .previous) in
     let last : State = stateOf (take v (after-it (c .before .before .before .before .before .before .before .before .before .before .before .before .before .before .before .before .before .before .before .before .before .before .before .before) .status)) (take v (after-it (c .before .before .before .before .before .before .before .before .before .before .before .before .before .before .before .before .before .before .before .before .before .before .before .before) .weight)) back in
     let r = c .before .before .before .before .before .before .nearest-right .result in
-    let coded : Coded r (crossing g w) = found-is g w last (state-read l o) r _ (status-length l o) (weight-length l o) (λ u h. light-read l o u (omega (arith, status-length l o, h))) (c .before .before .before .before .before .before .nearest-right .ensures back) in
+    let coded : Coded r (crossing g w) = found-is g w last (state-read l o) r _ (status-length l o) (weight-length l o) (λ u h. within-read l o u (omega (arith, status-length l o, h))) (c .before .before .before .before .before .before .nearest-right .ensures back) in
     let replied : Answered (crossingSaid (c .reply .result)) (ask (isJoined (crossing g w)) 18 0) (weightFound (crossing g w)) 0 = rw (c .reply .ensures) (reply-of r (crossing g w) coded) in
     let next = refusal-passed (engine-of s) (scratch-at s) (length out₀) (ask (isJoined (crossing g w)) 18 0) z in
     record {

@@ -70,7 +70,7 @@ left c =
     let s = c .before .before .before .before .before .before .before .before .before .before .before .before .before .before .before .before .before .before .before .before .before .before .before .before .before .before .before .before .before .before .before .before .before .before .before .before .before .before .before .before .before .before .before .before .before .before in
     let e = engine-of s in
     subst (λ k. SearchLeft (graphIn e) (settled (graphIn e) (weightsIn e) (only (s .args .a .0)) (cond k (some (s .args .b .0)) none)) (before-it s) (after-it c)) (lt-ltb (s .args .b .0) (s .args .c .vertices) (asked-at s (number-then (c .before .before .before .before .before .before .before .before)) .b-in))
-    (c .search .ensures .0)
+    (c .search .ensures .scratch-after)
 
 settles : (c : tie.After-search) → Settles (c .before .before .before .before .before .before .before .before .before .before .before .before .before .before .before .before .before .before .before .before .before .before .before .before .before .before .before .before .before .before .before .before .before .before .before .before .before .before .before .before .before .before .before .before .before .before .args .c .vertices) (state-at (c .before .before .before .before .before .before .before .before .before .before .before .before .before .before .before .before .before .before .before .before .before .before .before .before .before .before .before .before .before .before .before .before .before .before .before .before .before .before .before .before .before .before .before .before .before .before))
 unfolding engine-of state-at number-at
@@ -78,7 +78,7 @@ settles c =
     let s = c .before .before .before .before .before .before .before .before .before .before .before .before .before .before .before .before .before .before .before .before .before .before .before .before .before .before .before .before .before .before .before .before .before .before .before .before .before .before .before .before .before .before .before .before .before .before in
     let e = engine-of s in
     subst (λ k. Settles (s .args .c .vertices) (settled (graphIn e) (weightsIn e) (only (s .args .a .0)) (cond k (some (s .args .b .0)) none))) (lt-ltb (s .args .b .0) (s .args .c .vertices) (asked-at s (number-then (c .before .before .before .before .before .before .before .before)) .b-in))
-    (c .search .ensures .1)
+    (c .search .ensures .settles)
 
 search-requires : tie.Need-search-requires
 unfolding number-at engine-of scratch-at

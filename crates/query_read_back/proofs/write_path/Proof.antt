@@ -1,12 +1,11 @@
 -- `query_read_back::write_path` meets its contract. Invariant: the path is written down to place i, and v is the vertex of place i - 1. Assumes nothing.
 use mathlib.Core.Path.{_≡_, refl, sym, _∙_, subst}
-use Prim.Native.Nat.{ℕ, zero, suc, _+_, _*_, _-_, _<_, _≤_}
+use Prim.Native.Nat.{suc, _-_, _≤_}
 use native.Mathlib.Omega.{arith}
 use lib.ListN.{length, getD}
 use Rattle.query_relaxing.specs.Ready.{stateOf}
-use Rattle.query_read_back.specs.Path.{Written}
 use lib.ListN.{set, length-set}
-use Rattle.query_read_back.proofs.Back.{written-start, written-more, written-vertices, written-steps}
+use Rattle.query_read_back.proofs.Back.{Written, written-start, written-more, written-vertices, written-steps}
 use borrow.Author.Needs.{needs}
 use Rattle.query_read_back.proofs.write_path.Statement.{statement}
 use Rattle.query_read_back.proofs.write_path.Tie as tie

@@ -81,13 +81,14 @@ returns c =
     let s : tie.Start = c .before .before .before .before .before .before .before .before .before .before .before .before .before .before .before .before .before .before .before .before .before .before .before .before .before .before .before .before .before .before .before .before .before .before .before .before .before .before .before in
     let v = s .args .c .vertices in
     let e = engineWithoutLog (s .args .c) (s .args .ends-a) (s .args .ends-b) (s .args .weights) (s .args .boundary) in
-    let found = searched-as (s .args .origin) (weightsIn e) (length-take-le v (s .args .status .now) (fits s .status-long)) (c .before .before .before .before .before .before .before .before .before .before .before .before .before .before .search-cut .ensures) in (
-      search-left (graphIn e) (stateFrom (s .args .origin) (graphIn e) (weightsIn e))
+    let found = searched-as (s .args .origin) (weightsIn e) (length-take-le v (s .args .status .now) (fits s .status-long)) (c .before .before .before .before .before .before .before .before .before .before .before .before .before .before .search-cut .ensures) in
+    record {
+      scratch-after = search-left (graphIn e) (stateFrom (s .args .origin) (graphIn e) (weightsIn e))
           (scratchIn (s .args .neighbor-numbers) (s .args .list-ends) (s .args .status) (s .args .weight) (s .args .previous) (s .args .node) (s .args .leaf))
           (c .before .before .before .before .before .before .before .before .before .before .before .before .before .before .search-cut .kept .1 .1 .1 .1 .1 .1 .1 .0 ∙ length-take-le v (s .args .list-ends .now) (fits s .ends-long))
-          (c .before .before .before .before .before .before .before .before .before .before .before .before .before .before .search-cut .kept .1 .1 .1 .1 .1 .1 .1 .1 .1 .1 .1 .0 ∙ length-take-le v (s .args .node .now) (fits s .node-long)) found,
-      record { few = found .ready .few; status-fits = found .ready .status-fits; weight-fits = found .ready .weight-fits; previous-fits = found .ready .previous-fits; light = found .ready .light },
-    )
+          (c .before .before .before .before .before .before .before .before .before .before .before .before .before .before .search-cut .kept .1 .1 .1 .1 .1 .1 .1 .1 .1 .1 .1 .0 ∙ length-take-le v (s .args .node .now) (fits s .node-long)) found;
+      settles = record { few = found .ready .few; status-fits = found .ready .status-fits; weight-fits = found .ready .weight-fits; previous-fits = found .ready .previous-fits; weights-within = found .ready .weights-within };
+    }
 
 pub search-spec : {M : Type 1} → statement M
 search-spec = tie.close (tie.spec (λ c. search needs) (λ c. search needs) slice-aggregate-search-cut slice-aggregate-search-cut-2 slice-aggregate-search-cut-3 slice-aggregate-search-cut-4 slice-relend-prefix-search-cut slice-aggregate-search-cut-5 slice-relend-prefix-search-cut-2 slice-aggregate-search-cut-6 slice-relend-prefix-search-cut-3 slice-aggregate-search-cut-7 slice-relend-prefix-search-cut-4 slice-aggregate-search-cut-8 slice-relend-prefix-search-cut-5 slice-aggregate-search-cut-9 slice-relend-prefix-search-cut-6 slice-aggregate-search-cut-10 search-cut-requires (λ c. search needs) (λ c. search needs) (λ c. search needs) (λ c. search needs) (λ c. search needs) (λ c. search needs) (λ c. search needs) returns)

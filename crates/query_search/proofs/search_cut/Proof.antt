@@ -7,8 +7,8 @@ use Rattle.columns.proofs.Counting.{length-each}
 use Rattle.engine_walks.specs.Settling.{settled}
 use Rattle.query_relaxing.specs.Ready.{graphOf, weighs, sources, endOf}
 use Rattle.query_relaxing.proofs.Keys.{ready-as}
-use Rattle.query_search.specs.Search.{Searchable, Waiting, stopIn}
-use Rattle.query_search.proofs.Listing.{listed, searchable-as, waiting-as, built-as, ready-in}
+use Rattle.query_search.specs.Search.{Searchable, stopIn}
+use Rattle.query_search.proofs.Listing.{listed, searchable-as, waiting-as, built-as, ready-in, Waiting}
 use Rattle.query_search.proofs.Origins.{first-waits, first-settled}
 use borrow.Author.Needs.{needs}
 use Rattle.query_search.proofs.search_cut.Statement.{statement}
@@ -49,7 +49,7 @@ settle-requires c κs =
       b .0,
       (
         listed p (f .ensures) (f .kept .1 .1 .1 .1 .0) (f .kept .1 .1 .1 .1 .1 .0),
-        record { bytes = q .bytes; no-weight = b .1 .0; own-previous = b .1 .1; light = p .light; no-source = λ e. q .no-source (sym (ap (λ k. getD (c .before .before .before .before .before .before .before .before .before .before .before .before .before .before .before .before .before .before .before .before .before .before .before .before .before .before .before .before .before .before .before .before .before .before .begin-status .last .1 .0) k 0) (c .stop-in .ensures ∙ ap (stopIn (c .before .before .before .before .before .before .before .before .before .before .before .before .before .before .before .before .before .before .before .before .before .before .before .before .before .before .before .before .before .before .before .before .before .before .before .before .before .before .before .before .before .before .before .before .before .before .before .args .origin)) (c .before .before .before .before .before .before .before .before .before .before .before .before .before .before .before .before .before .before .before .before .before .before .before .before .before .before .before .before .before .before .before .before .before .before .before .before .before .before .before .before .before .before .before .before .before .before .before .pre .1 .1))) ∙ e) },
+        record { bytes = q .bytes; no-weight = b .1 .0; own-previous = b .1 .1; weights-within = p .weights-within; no-source = λ e. q .no-source (sym (ap (λ k. getD (c .before .before .before .before .before .before .before .before .before .before .before .before .before .before .before .before .before .before .before .before .before .before .before .before .before .before .before .before .before .before .before .before .before .before .begin-status .last .1 .0) k 0) (c .stop-in .ensures ∙ ap (stopIn (c .before .before .before .before .before .before .before .before .before .before .before .before .before .before .before .before .before .before .before .before .before .before .before .before .before .before .before .before .before .before .before .before .before .before .before .before .before .before .before .before .before .before .before .before .before .before .before .args .origin)) (c .before .before .before .before .before .before .before .before .before .before .before .before .before .before .before .before .before .before .before .before .before .before .before .before .before .before .before .before .before .before .before .before .before .before .before .before .before .before .before .before .before .before .before .before .before .before .before .pre .1 .1))) ∙ e) },
       ),
     )
 

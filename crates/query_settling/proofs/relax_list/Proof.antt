@@ -39,7 +39,7 @@ relax-edge-requires c κs =
     let e = p .edge (at .i) (at .inv .0) (c .before .before .before .before .before .before .loop-test .taken) in
     let x = getD (s .args .neighbor-numbers .now) (at .i) 0 in
     let len = at .inv .2 in
-    (ready-as (sym len) (at .inv .3), ((e, omega (arith, p .same-b), omega (arith, p .same-w), p .light x e), ((omega (arith, p .in-a x e), omega (arith, p .in-b x e)), p .at-v (at .i) (at .inv .0) (c .before .before .before .before .before .before .loop-test .taken))))
+    (ready-as (sym len) (at .inv .3), ((e, omega (arith, p .same-b), omega (arith, p .same-w), p .weights-within x e), ((omega (arith, p .in-a x e), omega (arith, p .in-b x e)), p .at-v (at .i) (at .inv .0) (c .before .before .before .before .before .before .loop-test .taken))))
 
 add-i : tie.Need-add-i Inv-loop μ-loop
 add-i c = omega (arith, c .before .before .before .before .before .before .before .before .before .before .before .before .before .before .before .before .before .before .before .before .before .before .before .before .before .before .before .before .pre .1 .inside)

@@ -18,7 +18,7 @@ use Rattle.query_questions.specs.Scratch.{ScratchColumns, scratchOf, isFree, Se
 use Rattle.query_search.specs.Search.{Settles}
 use Rattle.query_search.proofs.Asked.{ScratchLong, scratch-of}
 use Rattle.query_search.proofs.Scratch.{scratch-free, scratch-kept}
-use Rattle.query_search.proofs.Reading.{state-read, status-length, weight-length, previous-length, light-read}
+use Rattle.query_search.proofs.Reading.{state-read, status-length, weight-length, previous-length, within-read}
 use Rattle.query_tables.specs.Ends.{endIn}
 use Rattle.query_tables.specs.Tables.{tableRefusal}
 use Rattle.query_tables.proofs.Tables.{TableAsked, table-of, table-number, kept-number}
@@ -74,11 +74,11 @@ state-is c =
 
 left : (c : tie.After-search) → SearchLeft (graphIn (engine-of (c .before .before .before .before .before .before .before .before .before .before .before .before .before .before .before .before .before .before .before .before .before .before .before .before .before .before .before .before .before .before .before .before .before .before .before .before .before .before .before .before .before .before))) (state-at (c .before .before .before .before .before .before .before .before .before .before .before .before .before .before .before .before .before .before .before .before .before .before .before .before .before .before .before .before .before .before .before .before .before .before .before .before .before .before .before .before .before .before)) (before-it (c .before .before .before .before .before .before .before .before .before .before .before .before .before .before .before .before .before .before .before .before .before .before .before .before .before .before .before .before .before .before .before .before .before .before .before .before .before .before .before .before .before .before)) (after-it c)
 unfolding engine-of before-it after-it
-left c = subst (λ x. SearchLeft (graphIn (engine-of (c .before .before .before .before .before .before .before .before .before .before .before .before .before .before .before .before .before .before .before .before .before .before .before .before .before .before .before .before .before .before .before .before .before .before .before .before .before .before .before .before .before .before))) x (before-it (c .before .before .before .before .before .before .before .before .before .before .before .before .before .before .before .before .before .before .before .before .before .before .before .before .before .before .before .before .before .before .before .before .before .before .before .before .before .before .before .before .before .before)) (after-it c)) (state-is c) (c .search .ensures .0)
+left c = subst (λ x. SearchLeft (graphIn (engine-of (c .before .before .before .before .before .before .before .before .before .before .before .before .before .before .before .before .before .before .before .before .before .before .before .before .before .before .before .before .before .before .before .before .before .before .before .before .before .before .before .before .before .before))) x (before-it (c .before .before .before .before .before .before .before .before .before .before .before .before .before .before .before .before .before .before .before .before .before .before .before .before .before .before .before .before .before .before .before .before .before .before .before .before .before .before .before .before .before .before)) (after-it c)) (state-is c) (c .search .ensures .scratch-after)
 
 settles : (c : tie.After-search) → Settles (c .before .before .before .before .before .before .before .before .before .before .before .before .before .before .before .before .before .before .before .before .before .before .before .before .before .before .before .before .before .before .before .before .before .before .before .before .before .before .before .before .before .before .args .c .vertices) (state-at (c .before .before .before .before .before .before .before .before .before .before .before .before .before .before .before .before .before .before .before .before .before .before .before .before .before .before .before .before .before .before .before .before .before .before .before .before .before .before .before .before .before .before))
 unfolding engine-of
-settles c = subst (λ x. Settles (c .before .before .before .before .before .before .before .before .before .before .before .before .before .before .before .before .before .before .before .before .before .before .before .before .before .before .before .before .before .before .before .before .before .before .before .before .before .before .before .before .before .before .args .c .vertices) x) (state-is c) (c .search .ensures .1)
+settles c = subst (λ x. Settles (c .before .before .before .before .before .before .before .before .before .before .before .before .before .before .before .before .before .before .before .before .before .before .before .before .before .before .before .before .before .before .before .before .before .before .before .before .before .before .before .before .before .before .args .c .vertices) x) (state-is c) (c .search .ensures .settles)
 
 search-requires : tie.Need-search-requires
 unfolding number-at engine-of scratch-at
@@ -125,7 +125,7 @@ write-weights-requires c κs =
     let k = asked-at (c .before .before .before .before .before .before .before .before .before .before .before .before .before .before .before .before .before .before .before .before .before .before .before .before .before .before .before .before .before .before .before .before .before .before .before .before .before .before .before .before .before .before .before .before .before .before .before .before .before .before .before .before .before .before .before .before .before .before .before) (number-then (c .before .before .before .before .before .before .before .before .before .before .before .before .before .before .before .before .before .before .before .before .before .before .before .before .before .before)) in
     let l = left (c .before .before .before .before .before .before .before .before .before .before .before .before .before .before .before .before .before) in
     let o = settles (c .before .before .before .before .before .before .before .before .before .before .before .before .before .before .before .before .before) in
-    (weight-length l o ∙ sym (status-length l o), omega (arith, k .weights-long, status-length l o), light-read l o)
+    (weight-length l o ∙ sym (status-length l o), omega (arith, k .weights-long, status-length l o), within-read l o)
 
 slice-reshare-prefix-write-previous : tie.Need-slice-reshare-prefix-write-previous
 unfolding after-it

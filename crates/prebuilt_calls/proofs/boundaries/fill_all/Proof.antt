@@ -43,20 +43,19 @@ loop-again c =
     let at = c .before .before .before .before .before .before .before .before .before .before .before .before .before .before .before .before .before .before .before .before .before .before .before .before .before .before .before .before .before .before .before .before .before .before .loop in
     let E = engineIn (s .args .c) (s .args .ends-a) (s .args .ends-b) (s .args .weights) (s .args .boundary) (s .args .log-edges) (s .args .log-weights) in
     let o = c .before .before .before .before .before .before .before .before .before .before .before .before .before .before .before .before .before .before .before .before .fill-one .ensures in
-    (omega (arith, c .before .before .before .before .before .before .before .before .before .before .before .before .before .before .before .before .before .before .before .before .before .before .before .before .before .before .before .before .before .before .before .before .if1 .taken), o .0 ∙ ap (λ l. set l (at .v) (boundaryWeight (graphIn E) (weightsIn E) (at .v))) (at .inv .1) ∙ store-each (s .args .out-weight .now) (at .v) (boundaryWeight (graphIn E) (weightsIn E)), o .1 .0 ∙ ap (λ l. set l (at .v) (boundaryVertex (graphIn E) (weightsIn E) (at .v))) (at .inv .2) ∙ store-each (s .args .out-vertex .now) (at .v) (boundaryVertex (graphIn E) (weightsIn E)), c .before .before .before .before .before .before .before .before .before .before .before .before .before .before .before .before .before .before .before .before .fill-one .kept .1 .1 .1 .1 .1 .1 .1 .1 .0 ∙ at .inv .3, c .before .before .before .before .before .before .before .before .before .before .before .before .before .before .before .before .before .before .before .before .fill-one .kept .1 .1 .1 .1 .1 .1 .1 .1 .1 .0 ∙ at .inv .4, c .before .before .before .before .before .before .before .before .before .before .before .before .before .before .before .before .before .before .before .before .fill-one .kept .1 .1 .1 .1 .1 .1 .1 .1 .1 .1 .0 ∙ at .inv .5, c .before .before .before .before .before .before .before .before .before .before .before .before .before .before .before .before .before .before .before .before .fill-one .kept .1 .1 .1 .1 .1 .1 .1 .1 .1 .1 .1 .0 ∙ at .inv .6, c .before .before .before .before .before .before .before .before .before .before .before .before .before .before .before .before .before .before .before .before .fill-one .kept .1 .1 .1 .1 .1 .1 .1 .1 .1 .1 .1 .1 .0 ∙ at .inv .7, c .before .before .before .before .before .before .before .before .before .before .before .before .before .before .before .before .before .before .before .before .fill-one .kept .1 .1 .1 .1 .1 .1 .1 .1 .1 .1 .1 .1 .1 .0 ∙ at .inv .8, c .before .before .before .before .before .before .before .before .before .before .before .before .before .before .before .before .before .before .before .before .fill-one .kept .1 .1 .1 .1 .1 .1 .1 .1 .1 .1 .1 .1 .1 .1 .0 ∙ at .inv .9, c .before .before .before .before .before .before .before .before .before .before .before .before .before .before .before .before .before .before .before .before .fill-one .kept .1 .1 .1 .1 .1 .1 .1 .1 .1 .1 .1 .1 .1 .1 .1 .0 ∙ at .inv .10, c .before .before .before .before .before .before .before .before .before .before .before .before .before .before .before .before .before .before .before .before .fill-one .kept .1 .1 .1 .1 .1 .1 .1 .1 .1 .1 .1 .1 .1 .1 .1 .1 .0 ∙ at .inv .11, c .before .before .before .before .before .before .before .before .before .before .before .before .before .before .before .before .before .before .before .before .fill-one .kept .1 .1 .1 .1 .1 .1 .1 .1 .1 .1 .1 .1 .1 .1 .1 .1 .1 .0 ∙ at .inv .12, c .before .before .before .before .before .before .before .before .before .before .before .before .before .before .before .before .before .before .before .before .fill-one .kept .1 .1 .1 .1 .1 .1 .1 .1 .1 .1 .1 .1 .1 .1 .1 .1 .1 .1 .0 ∙ at .inv .13, tables-more E (ok s) (at .v) (c .before .before .before .before .before .before .before .before .before .before .before .before .before .before .before .before .before .before .before .before .before .before .before .before .before .before .before .before .before .before .before .before .if1 .taken) (at .inv .14) (o .1 .1))
+    (omega (arith, c .before .before .before .before .before .before .before .before .before .before .before .before .before .before .before .before .before .before .before .before .before .before .before .before .before .before .before .before .before .before .before .before .if1 .taken), o .weights-after ∙ ap (λ l. set l (at .v) (boundaryWeight (graphIn E) (weightsIn E) (at .v))) (at .inv .1) ∙ store-each (s .args .out-weight .now) (at .v) (boundaryWeight (graphIn E) (weightsIn E)), o .vertices-after ∙ ap (λ l. set l (at .v) (boundaryVertex (graphIn E) (weightsIn E) (at .v))) (at .inv .2) ∙ store-each (s .args .out-vertex .now) (at .v) (boundaryVertex (graphIn E) (weightsIn E)), c .before .before .before .before .before .before .before .before .before .before .before .before .before .before .before .before .before .before .before .before .fill-one .kept .1 .1 .1 .1 .1 .1 .1 .1 .0 ∙ at .inv .3, c .before .before .before .before .before .before .before .before .before .before .before .before .before .before .before .before .before .before .before .before .fill-one .kept .1 .1 .1 .1 .1 .1 .1 .1 .1 .0 ∙ at .inv .4, c .before .before .before .before .before .before .before .before .before .before .before .before .before .before .before .before .before .before .before .before .fill-one .kept .1 .1 .1 .1 .1 .1 .1 .1 .1 .1 .0 ∙ at .inv .5, c .before .before .before .before .before .before .before .before .before .before .before .before .before .before .before .before .before .before .before .before .fill-one .kept .1 .1 .1 .1 .1 .1 .1 .1 .1 .1 .1 .0 ∙ at .inv .6, c .before .before .before .before .before .before .before .before .before .before .before .before .before .before .before .before .before .before .before .before .fill-one .kept .1 .1 .1 .1 .1 .1 .1 .1 .1 .1 .1 .1 .0 ∙ at .inv .7, c .before .before .before .before .before .before .before .before .before .before .before .before .before .before .before .before .before .before .before .before .fill-one .kept .1 .1 .1 .1 .1 .1 .1 .1 .1 .1 .1 .1 .1 .0 ∙ at .inv .8, c .before .before .before .before .before .before .before .before .before .before .before .before .before .before .before .before .before .before .before .before .fill-one .kept .1 .1 .1 .1 .1 .1 .1 .1 .1 .1 .1 .1 .1 .1 .0 ∙ at .inv .9, c .before .before .before .before .before .before .before .before .before .before .before .before .before .before .before .before .before .before .before .before .fill-one .kept .1 .1 .1 .1 .1 .1 .1 .1 .1 .1 .1 .1 .1 .1 .1 .0 ∙ at .inv .10, c .before .before .before .before .before .before .before .before .before .before .before .before .before .before .before .before .before .before .before .before .fill-one .kept .1 .1 .1 .1 .1 .1 .1 .1 .1 .1 .1 .1 .1 .1 .1 .1 .0 ∙ at .inv .11, c .before .before .before .before .before .before .before .before .before .before .before .before .before .before .before .before .before .before .before .before .fill-one .kept .1 .1 .1 .1 .1 .1 .1 .1 .1 .1 .1 .1 .1 .1 .1 .1 .1 .0 ∙ at .inv .12, c .before .before .before .before .before .before .before .before .before .before .before .before .before .before .before .before .before .before .before .before .fill-one .kept .1 .1 .1 .1 .1 .1 .1 .1 .1 .1 .1 .1 .1 .1 .1 .1 .1 .1 .0 ∙ at .inv .13, tables-more E (ok s) (at .v) (c .before .before .before .before .before .before .before .before .before .before .before .before .before .before .before .before .before .before .before .before .before .before .before .before .before .before .before .before .before .before .before .before .if1 .taken) (at .inv .14) (o .table-after))
 
 returns : tie.Need-returns Inv-loop μ-loop
 returns c =
     let s = c .before .before .before .before .before .before .before .before .before .before .before .before .before .before .before .before .before .before in
     let at = c .before .before .loop in
     let E = engineIn (s .args .c) (s .args .ends-a) (s .args .ends-b) (s .args .weights) (s .args .boundary) (s .args .log-edges) (s .args .log-weights) in
-    let e : at .v ≡ s .args .c .vertices = omega arith in (
-      at .inv .1 ∙ ap (λ k. sets (s .args .out-weight .now) 0 (each k (boundaryWeight (graphIn E) (weightsIn E)))) e,
-      (
-        at .inv .2 ∙ ap (λ k. sets (s .args .out-vertex .now) 0 (each k (boundaryVertex (graphIn E) (weightsIn E)))) e,
-        subst (λ k. TablesInside E k (s .args .least .now) (at .least) (s .args .before .now) (at .before) (scratchIn (s .args .neighbor-numbers) (s .args .list-ends) (s .args .status) (s .args .weight) (s .args .previous) (s .args .node) (s .args .leaf)) (scratchOf (at .neighbor-numbers) (at .list-ends) (at .status) (at .weight) (at .previous) (at .node) (at .leaf))) e (at .inv .14),
-      ),
-    )
+    let e : at .v ≡ s .args .c .vertices = omega arith in
+    record {
+      weights-after = at .inv .1 ∙ ap (λ k. sets (s .args .out-weight .now) 0 (each k (boundaryWeight (graphIn E) (weightsIn E)))) e;
+      vertices-after = at .inv .2 ∙ ap (λ k. sets (s .args .out-vertex .now) 0 (each k (boundaryVertex (graphIn E) (weightsIn E)))) e;
+      tables-after = subst (λ k. TablesInside E k (s .args .least .now) (at .least) (s .args .before .now) (at .before) (scratchIn (s .args .neighbor-numbers) (s .args .list-ends) (s .args .status) (s .args .weight) (s .args .previous) (s .args .node) (s .args .leaf)) (scratchOf (at .neighbor-numbers) (at .list-ends) (at .status) (at .weight) (at .previous) (at .node) (at .leaf))) e (at .inv .14);
+    }
 
 pub fill-all-spec : {M : Type 1} → statement M
 fill-all-spec = tie.close (tie.spec Inv-loop μ-loop loop-holds fill-one-requires (λ c. search needs) (λ c. search needs) loop-again (λ c. c .before .before .loop .inv .3) (λ c. c .before .before .loop .inv .4) (λ c. c .before .before .loop .inv .5) (λ c. c .before .before .loop .inv .6) (λ c. c .before .before .loop .inv .7) (λ c. c .before .before .loop .inv .8) (λ c. c .before .before .loop .inv .9) (λ c. c .before .before .loop .inv .10) (λ c. c .before .before .loop .inv .11) (λ c. c .before .before .loop .inv .12) (λ c. c .before .before .loop .inv .13) returns)

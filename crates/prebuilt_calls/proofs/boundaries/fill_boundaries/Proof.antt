@@ -52,10 +52,10 @@ returns c = let t : tie.Then1 = c .before .before .before .before .before .befor
     let o = c .before .before .before .before .before .before .before .before .before .before .before .before .before .before .before .before .before .before .before .before .fill-all .ensures in
     record {
       answers = accepts-of z;
-      weights-after = o .0 ∙ sets-over (s .args .out-weight .now) (each (s .args .c .vertices) (boundaryWeight (graphIn (engine-of s)) (weightsIn (engine-of s)))) (omega (arith, length-each (s .args .c .vertices) (boundaryWeight (graphIn (engine-of s)) (weightsIn (engine-of s))), k .weights-fit)) ∙ sym (after-accepted (number-at s) (each (s .args .c .vertices) (boundaryWeight (graphIn (engine-of s)) (weightsIn (engine-of s)))) (s .args .out-weight .now) z);
-      vertices-after = o .1 .0 ∙ sets-over (s .args .out-vertex .now) (each (s .args .c .vertices) (boundaryVertex (graphIn (engine-of s)) (weightsIn (engine-of s)))) (omega (arith, length-each (s .args .c .vertices) (boundaryVertex (graphIn (engine-of s)) (weightsIn (engine-of s))), k .vertices-fit)) ∙ sym (after-accepted (number-at s) (each (s .args .c .vertices) (boundaryVertex (graphIn (engine-of s)) (weightsIn (engine-of s)))) (s .args .out-vertex .now) z);
-      scratch-after = tables-last (s .args .c .vertices)
-          (graph-says (s .args .c .vertices) (s .args .c .edges) (s .args .ends-a .now) (s .args .ends-b .now) (sound-of (engine-of s) (k .is-sound) .columns .graph) .some-vertex) (o .1 .1);
+      weights-after = o .weights-after ∙ sets-over (s .args .out-weight .now) (each (s .args .c .vertices) (boundaryWeight (graphIn (engine-of s)) (weightsIn (engine-of s)))) (omega (arith, length-each (s .args .c .vertices) (boundaryWeight (graphIn (engine-of s)) (weightsIn (engine-of s))), k .weights-fit)) ∙ sym (after-accepted (number-at s) (each (s .args .c .vertices) (boundaryWeight (graphIn (engine-of s)) (weightsIn (engine-of s)))) (s .args .out-weight .now) z);
+      vertices-after = o .vertices-after ∙ sets-over (s .args .out-vertex .now) (each (s .args .c .vertices) (boundaryVertex (graphIn (engine-of s)) (weightsIn (engine-of s)))) (omega (arith, length-each (s .args .c .vertices) (boundaryVertex (graphIn (engine-of s)) (weightsIn (engine-of s))), k .vertices-fit)) ∙ sym (after-accepted (number-at s) (each (s .args .c .vertices) (boundaryVertex (graphIn (engine-of s)) (weightsIn (engine-of s)))) (s .args .out-vertex .now) z);
+      table-after = tables-last (s .args .c .vertices)
+          (graph-says (s .args .c .vertices) (s .args .c .edges) (s .args .ends-a .now) (s .args .ends-b .now) (sound-of (engine-of s) (k .is-sound) .columns .graph) .some-vertex) (o .tables-after);
     }
 
 returns-2 : tie.Need-returns-2
@@ -67,7 +67,7 @@ returns-2 c = let s : tie.Start = c .before .before .before .before .before .bef
       answers = refuses-of d (c .if1 .left);
       weights-after = sym (after-refused (number-at s) (each (s .args .c .vertices) (boundaryWeight (graphIn (engine-of s)) (weightsIn (engine-of s)))) (s .args .out-weight .now) f);
       vertices-after = sym (after-refused (number-at s) (each (s .args .c .vertices) (boundaryVertex (graphIn (engine-of s)) (weightsIn (engine-of s)))) (s .args .out-vertex .now) f);
-      scratch-after = inside-kept (c .before .query-refusal .result) (engine-of s) (s .args .c .vertices - 1) (s .args .least .now) (s .args .before .now) (scratchIn (s .args .neighbor-numbers) (s .args .list-ends) (s .args .status) (s .args .weight) (s .args .previous) (s .args .node) (s .args .leaf)) (c .if1 .left)
+      table-after = inside-kept (c .before .query-refusal .result) (engine-of s) (s .args .c .vertices - 1) (s .args .least .now) (s .args .before .now) (scratchIn (s .args .neighbor-numbers) (s .args .list-ends) (s .args .status) (s .args .weight) (s .args .previous) (s .args .node) (s .args .leaf)) (c .if1 .left)
           (ap isFree d ∙ boundaries-kept (engine-of s) _ _ _ _ _ f);
     }
 

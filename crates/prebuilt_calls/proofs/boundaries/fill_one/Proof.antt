@@ -86,13 +86,12 @@ returns c = let s : tie.Start = c .before .before .before .before .before .befor
     let w = c .before .before .before .before .before .before .before .before .before .before .before .before .before .before .before .before .before .before .before .before .before .before .before .before .before .before .all-edges .ensures .weights-after ∙ after-accepted (number-at s) (table-at s) (s .args .least .now) (number-is s) in
     let f = cut-fits (table-at s) (s .args .least .now) (s .args .c .vertices) w (table-weights-length (graphIn (engine-of s)) (weightsIn (engine-of s)) (s .args .v) none) (k .weights-long) in
     let m = take (s .args .c .vertices) (s .args .boundary .now) in
-    let o = c .before .before .before .store-boundary .ensures in (
-      o .0 ∙ (λ i. set (s .args .out-weight .now) (s .args .v) (weightTo (f .2 i) (boundaryIn m (f .2 i) (f .1 i) (s .args .v)))),
-      (
-        o .1 ∙ (λ i. set (s .args .out-vertex .now) (s .args .v) (vertexTo (boundaryIn m (f .2 i) (f .1 i) (s .args .v)))),
-        inside-of 0 (c .before .before .before .before .before .before .before .before .before .before .before .before .before .before .before .before .before .before .before .before .before .before .before .before .before .before .all-edges .ensures) (c .before .before .before .before .before .before .before .before .before .before .before .before .before .before .before .before .before .before .before .before .before .before .before .before .before .before .all-edges .ensures .answers .number-is ∙ number-is s),
-      ),
-    )
+    let o = c .before .before .before .store-boundary .ensures in
+    record {
+      weights-after = o .0 ∙ (λ i. set (s .args .out-weight .now) (s .args .v) (weightTo (f .2 i) (boundaryIn m (f .2 i) (f .1 i) (s .args .v))));
+      vertices-after = o .1 ∙ (λ i. set (s .args .out-vertex .now) (s .args .v) (vertexTo (boundaryIn m (f .2 i) (f .1 i) (s .args .v))));
+      table-after = inside-of 0 (c .before .before .before .before .before .before .before .before .before .before .before .before .before .before .before .before .before .before .before .before .before .before .before .before .before .before .all-edges .ensures) (c .before .before .before .before .before .before .before .before .before .before .before .before .before .before .before .before .before .before .before .before .before .before .before .before .before .before .all-edges .ensures .answers .number-is ∙ number-is s);
+    }
 
 pub fill-one-spec : {M : Type 1} → statement M
 fill-one-spec = tie.close (tie.spec (λ c κs. tt) (λ c. search needs) slice-aggregate-store-boundary slice-reshare-prefix-store-boundary slice-aggregate-store-boundary-2 store-boundary-requires (λ c. c .before .before .out-weight .given) (λ c. c .before .out-vertex .given) (λ c. c .before .before .before .before .before .before .before .before .before .before .before .before .before .before .before .before .before .before .before .before .before .before .before .before .before .least .given) (λ c. c .before .before .before .before .before .before .before .before .before .before .before .before .before .before .before .before .before .before .before .before .before .before .before .before .before2 .given) (λ c. c .before .before .before .before .before .before .before .before .before .before .before .before .before .before .before .before .before .before .before .before .before .before .neighbor-numbers .given) (λ c. c .before .before .before .before .before .before .before .before .before .before .before .before .before .before .before .before .before .before .before .before .list-ends .given) (λ c. c .before .before .before .before .before .before .before .before .before .before .before .before .before .before .before .before .before .before .status .given) (λ c. c .before .before .before .before .before .before .before .before .before .before .before .before .before .before .before .before .weight .given) (λ c. c .before .before .before .before .before .before .before .before .before .before .before .before .before .before .previous .given) (λ c. c .before .before .before .before .before .before .before .before .before .before .before .before .node .given) (λ c. c .before .before .before .before .before .before .before .before .before .before .leaf .given) returns)

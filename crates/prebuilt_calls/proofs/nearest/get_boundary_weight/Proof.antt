@@ -104,7 +104,7 @@ returns c =
     let b = c .before .before .before .before .before .before .before .before .before .before .before .before .before .before .before .before .before .before .before .before .before .before .before .all-edges in
     record {
       answers = rw r (accepts-of z);
-      scratch-after = inside-of (nearestSaid (c .boundary-answer .result) .number) (b .ensures) (b .ensures .answers .number-is ∙ z ∙ sym (ap (λ x. x .number) r));
+      table-after = inside-of (nearestSaid (c .boundary-answer .result) .number) (b .ensures) (b .ensures .answers .number-is ∙ z ∙ sym (ap (λ x. x .number) r));
     }
 
 returns-2 : tie.Need-returns-2
@@ -113,7 +113,7 @@ returns-2 c =
     let s : tie.Start = c .before .before .before .before .before .before .before .before .before .before .before .before .before .before .before .before .before .before .before .before .before .before .before .before .before .before .before .before .before .before .before .before .before .before .before .before .before .before .before .before .before .before .before in
     let b = c .before .before .before .before .before .before .before .before .before .before .before .before .before .before .before .before .before .before .before .all-edges in
     let d : c .before .number .result ≡ number-at s = c .before .number .ensures ∙ b .ensures .answers .number-is in
-    record { answers = refuses-of d (c .if1 .left); scratch-after = inside-of (c .before .number .result) (b .ensures) (sym (c .before .number .ensures)) }
+    record { answers = refuses-of d (c .if1 .left); table-after = inside-of (c .before .number .result) (b .ensures) (sym (c .before .number .ensures)) }
 
 pub get-boundary-weight-spec : {M : Type 1} → statement M
 get-boundary-weight-spec = tie.close (tie.spec (λ c κs. tt) (λ c κs. tt) (λ c. search needs) slice-aggregate-boundary-answer slice-reshare-prefix-boundary-answer slice-aggregate-boundary-answer-2 boundary-answer-requires (λ c. c .before .before .before .before .before .before .before .before .before .before .before .before .before .before .before .before .before .before .before .before .before .before .least .given) (λ c. c .before .before .before .before .before .before .before .before .before .before .before .before .before .before .before .before .before .before .before .before .before .before2 .given) (λ c. c .before .before .before .before .before .before .before .before .before .before .before .before .before .before .before .before .before .before .before .neighbor-numbers .given) (λ c. c .before .before .before .before .before .before .before .before .before .before .before .before .before .before .before .before .before .list-ends .given) (λ c. c .before .before .before .before .before .before .before .before .before .before .before .before .before .before .before .status .given) (λ c. c .before .before .before .before .before .before .before .before .before .before .before .before .before .weight .given) (λ c. c .before .before .before .before .before .before .before .before .before .before .before .previous .given) (λ c. c .before .before .before .before .before .before .before .before .before .node .given) (λ c. c .before .before .before .before .before .before .before .leaf .given) returns (λ c. c .before .before .before .before .before .before .before .before .before .before .before .before .before .before .before .before .before .before .least .given) (λ c. c .before .before .before .before .before .before .before .before .before .before .before .before .before .before .before .before .before .before2 .given) (λ c. c .before .before .before .before .before .before .before .before .before .before .before .before .before .before .before .neighbor-numbers .given) (λ c. c .before .before .before .before .before .before .before .before .before .before .before .before .before .list-ends .given) (λ c. c .before .before .before .before .before .before .before .before .before .before .before .status .given) (λ c. c .before .before .before .before .before .before .before .before .before .weight .given) (λ c. c .before .before .before .before .before .before .before .previous .given) (λ c. c .before .before .before .before .before .node .given) (λ c. c .before .before .before .leaf .given) returns-2)

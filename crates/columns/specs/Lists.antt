@@ -5,12 +5,12 @@ use mathlib.Core.List.{List, [], _∷_, _++_}
 use lib.ListN.{length, drop}
 use lib.Dec.{eqb}
 
--- Records, a column by its places: a list by counting: f 0, f 1, up to f (n - 1).
+-- Records, on columns: a list by counting, f 0, f 1, up to f (n - 1).
 unfoldable pub each : {A : Type 0} → ℕ → (ℕ → A) → List A
 each zero f = []
 each (suc n) f = each n f ++ (f n ∷ [])
 
--- Records, a column by its places: lists by counting: f 0, f 1, up to f (n - 1), one after another.
+-- Records, on columns: lists by counting, f 0, f 1, up to f (n - 1), one after another.
 unfoldable pub joined : {A : Type 0} → ℕ → (ℕ → List A) → List A
 joined zero f = []
 joined (suc n) f = joined n f ++ f n
@@ -19,7 +19,7 @@ joined (suc n) f = joined n f ++ f n
 unfoldable pub layered : {A : Type 0} → ℕ → (layer gap : ℕ → List A) → List A
 layered rounds layer gap = joined rounds (λ t. layer t ++ gap t) ++ layer rounds
 
--- Six builders, Edge order, an edge that only some places have: a part of a list: the element alone where the test holds, else nothing.
+-- Six builders, Edge order: a part of a list, the element alone where the test holds, else nothing.
 abbrev pub when : {A : Type 0} → Bool → A → List A
 when b x = cond b (x ∷ []) []
 

@@ -5,15 +5,15 @@ use lib.ListN.{getD}
 use lib.Ieee.{Float, binary64, ofBits}
 use Rattle.columns.specs.declared.VisualizePosition.{VisualizePosition}
 
--- Records, on vertices and edges, numbers that are f64: the f64 0, by its bits.
+-- Six builders, on new edges, sentence 1: the f64 0, by its bits.
 abbrev pub zeroFloat : Float
 zeroFloat = ofBits binary64 0
 
--- Records, on vertices and edges, numbers that are f64: the f64 1, by its bits.
+-- Questions at the door, 9: the f64 1, by its bits.
 abbrev pub one : Float
 one = ofBits binary64 0x3ff0_0000_0000_0000
 
--- Records, on vertices and edges, numbers that are f64: the f64 0.5, by its bits.
+-- Questions at the door, 9: the f64 0.5, by its bits.
 abbrev pub half : Float
 half = ofBits binary64 0x3fe0_0000_0000_0000
 

@@ -17,11 +17,12 @@ isSet byte = not (eqb byte 0)
 unfoldable pub listed : ℕ → List ℕ → List ℕ
 listed n column = chosen n (λ k. isSet (getD column k 0))
 
--- Sampling, syndromes, reordering, paragraph 2, sentence 4: such a list goes on: where its first places hold the numbers below `from` whose byte is set, they hold those below `to` afterwards.
+-- Sampling, syndromes, reordering, paragraph 2, sentence 4: such a list goes on; where its first places hold the numbers
+-- below `from` whose byte is set, they hold those below `to` afterwards.
 abbrev pub Continued : (column : List ℕ) (from to : ℕ) (list₀ list : List ℕ) → Type 0
 Continued column from to list₀ list = (l : List ℕ) → list₀ ≡ sets l 0 (listed from column) → list ≡ sets l 0 (listed to column)
 
--- Records, on vertices and on edges: whether a list names the number k.
+-- Taken over, the trait `ExampleCode`: whether a list names the number k.
 unfoldable pub names : List ℕ → ℕ → Bool
 names [] k = false
 names (x ∷ list) k = eqb x k || names list k

@@ -24,7 +24,7 @@ lists a b e n = joined n (λ v. neighbors a b e v)
 unfoldable pub degrees : (a b : List ℕ) (e n : ℕ) → List ℕ
 degrees a b e n = each n (λ v. length (neighbors a b e v))
 
--- Records, on neighbour lists: the numbers below n for which a test holds, ascending.
+-- Sampling, syndromes, reordering, paragraph 2, sentence 4: the numbers below n for which a test holds, ascending.
 unfoldable pub chosen : ℕ → (ℕ → Bool) → List ℕ
 chosen n test = joined n (λ k. when (test k) k)
 

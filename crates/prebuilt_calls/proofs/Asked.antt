@@ -16,7 +16,6 @@ use Rattle.query_search.proofs.Asked.{query-of}
 use Rattle.query_search.proofs.Scratch.{query-kept}
 use Rattle.prebuilt_calls.specs.Steps.{Fillable}
 use Rattle.prebuilt_calls.specs.Boundaries.{boundariesRefusal}
-use Rattle.query_questions.specs.Scratch.{ScratchLengths}
 
 module _ (e : Engine) (weights vertices least before : ℕ) (l : ScratchLengths) where
   abbrev scratch : Bool

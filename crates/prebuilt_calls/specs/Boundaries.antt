@@ -41,7 +41,7 @@ boundariesRefusal e scratch weights vertices least before =
     queryRefusal e (leb (e .counts .vertices) weights && (leb (e .counts .vertices) vertices && (leb (e .counts .vertices) least && (leb (e .counts .vertices) before && scratch)))) true 0
 
 -- complete_graph.rs, `PrebuiltCompleteGraph`: the answer of `fill_boundaries`, and both columns. The columns of the table, which serve as scratch, and scratch hold
--- what the table from the last vertex leaves.
+-- what the table from the last vertex leaves. A refused call leaves them as they were.
 pub record FilledBoundaries (e : Engine) (answer : Done) (weights₀ weights : List ℤ) (vertices₀ vertices : List ℕ) (least₀ least : List ℤ) (before₀ before : List ℕ)
     (scratch₀ scratch : ScratchColumns) : Type 0 where
   pub answers : Answered (doneSaid answer) (boundariesRefusal e (scratchFits (e .counts) scratch₀) (length weights₀) (length vertices₀) (length least₀) (length before₀)) tt tt

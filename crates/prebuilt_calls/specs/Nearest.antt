@@ -34,6 +34,7 @@ BoundarySaid q g w v r =
     Answered (nearestSaid r) q (boundaryFound (table g w v none .weights) (boundaryIn (g .boundary) (table g w v none .weights) (g .vertices) v)) (0, 0, 0)
 
 -- complete_graph.rs, `get_boundary_weight`: the answer; the columns of the table, which serve as scratch, and scratch hold what the table from v leaves.
+-- A refused call leaves them as they were.
 pub record GotBoundaryWeight (e : Engine) (v : ℕ) (answer : BoundaryAnswer) (least₀ least : List ℤ) (before₀ before : List ℕ) (scratch₀ scratch : ScratchColumns) : Type 0 where
   pub answers : BoundarySaid (tableRefusal e (scratchFits (e .counts) scratch₀) v None (length least₀) (length before₀)) (graphIn e) (weightsIn e) v answer
   pub table-after : TableInside (nearestSaid answer .number) e v least₀ least before₀ before scratch₀ scratch

@@ -11,8 +11,7 @@ use Rattle.engine_columns.specs.Records.{Engine}
 use Rattle.engine_columns.specs.Questions.{engineLong, engineSound}
 use Rattle.query_questions.specs.Queries.{graphIn, weightsIn}
 use Rattle.prebuilt_calls.specs.Boundaries.{boundaryWeight, boundaryVertex}
-use Rattle.query_questions.specs.Scratch.{ScratchLengths, scratchLong}
-use Rattle.query_questions.specs.Scratch.{ScratchColumns}
+use Rattle.query_questions.specs.Scratch.{ScratchColumns, ScratchLengths, scratchLong}
 use Rattle.query_tables.specs.Tables.{TableInside}
 
 -- Questions at the door, 6 and 7: an engine graph that they accept, with room in every column lent.

@@ -7,7 +7,7 @@ use lib.Dec.{ltb, eqb}
 use lib.IntN.{ℤ, pos, negsuc}
 use Rattle.engine_walks.specs.Answers.{weightIn}
 
--- complete_graph.rs, a weight or none: a weight of 0 or more counts one more than itself, -1 for none counts 0.
+-- complete_graph.rs, `PrebuiltCompleteGraph`: a weight of 0 or more counts one more than itself, -1 for none counts 0.
 abbrev pub rank : ℤ → ℕ
 rank (pos k) = suc k
 rank (negsuc n) = 0

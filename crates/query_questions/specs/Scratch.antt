@@ -43,7 +43,7 @@ pub record ScratchLengths : Type 0 where
   pub node : ℕ
   pub leaf : ℕ
 
--- Questions at the door, 6: those of the columns lent.
+-- Questions at the door, 6: the lengths of the columns lent.
 abbrev pub scratchLengths : ScratchColumns → ScratchLengths
 scratchLengths s = record {
   neighborNumbers = length (s .neighborNumbers);

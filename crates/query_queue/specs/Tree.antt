@@ -27,7 +27,7 @@ Tree node leaf n = (k : ℕ) → 0 < k → k < n → Inner node leaf n k
 abbrev pub TreeBut : List ℕ → List ℕ → ℕ → ℕ → Type 0
 TreeBut node leaf n i = (k : ℕ) → 0 < k → k < n → (k ≡ i → ⊥) → Inner node leaf n k
 
--- Engine, Settling, sentence 1: the columns have room for n numbers.
+-- Questions at the door, 6: the columns have room for n numbers.
 abbrev pub TreeRoom : List ℕ → List ℕ → ℕ → Type 0
 TreeRoom node leaf n = (n ≤ length node) × (n ≤ length leaf)
 

@@ -20,7 +20,6 @@ use Rattle.engine_columns.proofs.Refusals.{ColumnsLong, Long, long-of, ColumnsS
 use Rattle.query_questions.specs.Queries.{queryRefusal}
 use Rattle.query_search.specs.Search.{Searchable}
 use Rattle.query_questions.specs.Scratch.{scratchOf, scratchLengths, scratchLong, ScratchLengths}
-use Rattle.query_questions.specs.Scratch.{ScratchLengths}
 use Rattle.columns.proofs.Refusals.{met, goes-on}
 
 pub record ScratchLong (c : EngineCounts) (l : ScratchLengths) : Type 0 where

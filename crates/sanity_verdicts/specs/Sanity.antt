@@ -52,7 +52,7 @@ unfoldable pub firstOf : ℕ → (ℕ → Verdict) → Verdict
 firstOf zero f = Sound
 firstOf (suc n) f = orElse (firstOf n f) (f n)
 
--- Six builders, sanity_check, sentence 2: a finding where the test holds, else Sound.
+-- Six builders, sanity_check, sentence 1: a finding where the test holds, else Sound.
 abbrev pub foundIf : Bool → Verdict → Verdict
 foundIf b finding = cond b finding Sound
 

@@ -12,13 +12,12 @@ use borrow.Author.Tests.{leb-true, eqb-true}
 use Rattle.columns.proofs.Tests.{and-both}
 use Rattle.codes_layers.specs.Counts.{vertexNum, edgeNum}
 use Rattle.codes_layers.specs.Accepts.{Buildable}
-use Rattle.codes_layers.proofs.Accepted.{Accepted, accepted, buildable, ask-zero}
+use Rattle.codes_layers.proofs.Accepted.{Accepted, accepted, buildable, ask-zero, edges-six}
 use Rattle.weights_calls.specs.Calls.{isLargestHalfWeight}
 use Rattle.columns.specs.Limits.{halfWeightLimit}
 use Rattle.text_numbers.specs.Text.{ended, refusalLine, graphLine, vertexLines, edgeLines, crossingLine, listing}
 use Rattle.text_numbers.proofs.Sizes.{ended-few, vertex-lines-few, edge-lines-few}
 use Rattle.text_listing.specs.Listing.{listRefusal, weightsOf, crossingOf, withCrossing, listingOf, codeText}
-use Rattle.codes_layers.proofs.Accepted.{edges-six}
 
 -- what an accepted line says
 pub record ListOpen (kind d rounds max : ℕ) : Type 0 where

@@ -3,7 +3,6 @@ use mathlib.Core.Path.{_≡_}
 use Prim.Native.Nat.{_*_}
 use native.Mathlib.Omega.{arith}
 use Rattle.codes_layers.specs.Codes.{rows, width}
-use Prim.Native.Nat.{_*_}
 use borrow.Author.Needs.{needs}
 use Rattle.codes_edges.proofs.layer_size.Statement.{statement}
 use Rattle.codes_edges.proofs.layer_size.Tie as tie

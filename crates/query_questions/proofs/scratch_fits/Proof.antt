@@ -6,7 +6,6 @@ use Rattle.query_questions.specs.Scratch.{scratchLong}
 use borrow.Author.Needs.{needs}
 use Rattle.query_questions.proofs.scratch_fits.Statement.{statement}
 use Rattle.query_questions.proofs.scratch_fits.Tie as tie
-use Rattle.query_questions.specs.Scratch.{scratchLong}
 
 returns : tie.Need-returns
 unfolding scratchLong

@@ -10,11 +10,6 @@ use Rattle.query_read_back.specs.Path.{entryOf, stepBack}
 use Rattle.query_read_back.specs.declared.TableEntry.the-variants.{Previous, None}
 use Rattle.query_read_back.proofs.Back.{entry-none, entry-some, count-none, count-more, count-end, count-start}
 -- `query_read_back::path_length` meets its contract. Invariant: j steps were read back, to v. Assumes nothing.
-use mathlib.Core.Path.{_≡_, sym, _∙_}
-use Prim.Native.Nat.{ℕ, zero, suc, _+_, _*_, _-_, _<_, _≤_}
-use native.Mathlib.Omega.{arith}
-use mathlib.Core.List.{List}
-use lib.ListN.{length}
 use borrow.Author.Needs.{needs}
 use Rattle.query_read_back.proofs.path_length.Statement.{statement}
 use Rattle.query_read_back.proofs.path_length.Tie as tie

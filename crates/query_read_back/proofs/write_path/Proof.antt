@@ -2,9 +2,8 @@
 use mathlib.Core.Path.{_≡_, refl, sym, _∙_, subst}
 use Prim.Native.Nat.{suc, _-_, _≤_}
 use native.Mathlib.Omega.{arith}
-use lib.ListN.{length, getD}
+use lib.ListN.{length, getD, set, length-set}
 use Rattle.query_relaxing.specs.Ready.{stateOf}
-use lib.ListN.{set, length-set}
 use Rattle.query_read_back.proofs.Back.{Written, written-start, written-more, written-vertices, written-steps}
 use borrow.Author.Needs.{needs}
 use Rattle.query_read_back.proofs.write_path.Statement.{statement}

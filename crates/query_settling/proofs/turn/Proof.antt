@@ -3,8 +3,7 @@ use mathlib.Core.Path.{_≡_, refl, sym, ap, _∙_}
 use Prim.Native.Nat.{ℕ, zero, suc, _+_, _*_, _-_, _%_, _<_, _≤_}
 use native.Mathlib.Omega.{arith}
 use mathlib.Core.Bool.{true≢false}
-use lib.ListN.{length, length-set}
-use lib.ListN.{set}
+use lib.ListN.{length, length-set, set}
 use Rattle.engine_walks.specs.Settling.{takeChosen}
 use Rattle.query_relaxing.specs.Ready.{stateOf, graphOf, weighs}
 use Rattle.query_relaxing.proofs.Keys.{ready-as, ready-takes}

@@ -1,7 +1,7 @@
 -- `weights_diagonal::abs` meets its contract: x < 0 changes its sign, x equal to 0 gives 0 without a sign, any other x has no sign. Assumes nothing.
 use mathlib.Core.Path.{_≡_, refl, sym, ap, _∙_, subst}
 use mathlib.Core.Bool.{Bool, true, false, _&&_, _||_, Bool·beq, true≢false, false≢true}
-use lib.Ieee.{Float, nan, inf, fin, binary64, lt, eq, neg, ofBits}
+use lib.Ieee.{Float, nan, inf, fin, binary64, lt, eq, neg, ofBits, up, down, fits}
 use Prim.Native.Nat.{ℕ, zero, suc, _+_, _*_, _≤_, _<_}
 use native.Mathlib.Nat.{zero-mul}
 use lib.IntN.{ℤ}
@@ -9,7 +9,6 @@ use lib.Dec.{T, ltb, eqb, eqb→eq}
 use borrow.Author.Tests.{ltb-true, ltb-false, eq-eqb}
 use native.Mathlib.Omega.{arith}
 use lib.Ieee.Back.{whole-unique}
-use lib.Ieee.{up, down, binary64, fits}
 use lib.Ieee.Fits.{and-l}
 use Rattle.columns.specs.Places.{zeroFloat}
 use Rattle.weights_diagonal.specs.Diagonal.{absolute}

@@ -3,9 +3,8 @@ use mathlib.Core.Path.{ap, _∙_}
 use lib.ListN.{set}
 use mir.Syntax.{w32}
 use mir.Facts.{toZ-ofZ}
-use borrow.Author.Needs.{sfits-of}
+use borrow.Author.Needs.{sfits-of, needs}
 use Rattle.prebuilt_entries.proofs.Places.{place-says}
-use borrow.Author.Needs.{needs}
 use Rattle.prebuilt_entries.proofs.boundaries.store_boundary.Statement.{statement}
 use Rattle.prebuilt_entries.proofs.boundaries.store_boundary.Tie as tie
 

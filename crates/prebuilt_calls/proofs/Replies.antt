@@ -23,7 +23,7 @@ use Rattle.engine_walks.proofs.Turns.{Fits, settle-valid}
 use Rattle.engine_walks.proofs.TableAndPath.{only-source}
 use Rattle.query_relaxing.specs.Ready.{keyOf}
 use Rattle.query_questions.specs.Queries.{graphIn, weightsIn}
-use Rattle.query_questions.specs.Scratch.{ScratchColumns, isFree, SearchLeft, ScratchAfter}
+use Rattle.query_questions.specs.Scratch.{ScratchColumns, isFree, SearchAfter, ScratchAfter}
 use Rattle.query_search.proofs.Scratch.{scratch-free, scratch-kept}
 use Rattle.query_tables.specs.declared.End.the-variants.{None}
 use Rattle.query_tables.specs.Tables.{FoundTable, TableInside}
@@ -54,7 +54,7 @@ inside-kept number e v least before s f k = record {
 over-again : {A : Type 0} (xs ys column : List A) → length xs ≡ length ys → over xs (over ys column) ≡ over xs column
 over-again xs ys column e = ap (λ d. xs ++ d) (drop-over ys column (length xs) (sym e))
 
-search-again : {g : Graph} {s t : State} {a b c : ScratchColumns} → Fits (g .vertices) s → Fits (g .vertices) t → SearchLeft g s a b → SearchLeft g t b c → SearchLeft g t a c
+search-again : {g : Graph} {s t : State} {a b c : ScratchColumns} → Fits (g .vertices) s → Fits (g .vertices) t → SearchAfter g s a b → SearchAfter g t b c → SearchAfter g t a c
 search-again {g} {s} {t} {a} f h p q =
     let numbers = lists (g .endsA) (g .endsB) (edges g) (g .vertices) in
     let ends = each (g .vertices) (λ v. length (lists (g .endsA) (g .endsB) (edges g) (v + 1))) in

@@ -74,7 +74,7 @@ isFree n = eqb n 0 || (eqb n 17 || eqb n 18)
 -- Engine, Crossing, last sentence: what holds of scratch after a search of the graph g that settled in the state s. The first places hold: the neighbour lists, one
 -- after another, and where each ends; the state's columns; the keys of the vertices that wait, in a tree of least keys. The places past the vertices, and past the
 -- lists, which are twice the edges, are as they were.
-pub record SearchLeft (g : Graph) (s : State) (scratch₀ scratch : ScratchColumns) : Type 0 where
+pub record SearchAfter (g : Graph) (s : State) (scratch₀ scratch : ScratchColumns) : Type 0 where
   pub neighborNumbers-after : scratch .neighborNumbers ≡ over (lists (g .endsA) (g .endsB) (edges g) (g .vertices)) (scratch₀ .neighborNumbers)
   pub listEnds-after : scratch .listEnds ≡ over (each (g .vertices) (λ v. length (lists (g .endsA) (g .endsB) (edges g) (v + 1)))) (scratch₀ .listEnds)
   pub status-after : scratch .status ≡ over (s .status) (scratch₀ .status)
@@ -86,5 +86,5 @@ pub record SearchLeft (g : Graph) (s : State) (scratch₀ scratch : ScratchColum
 
 -- Engine, Crossing, last sentence: scratch after an answer with this number: where it is free, what a search leaves; else as it was.
 pub record ScratchAfter (number : ℕ) (g : Graph) (s : State) (scratch₀ scratch : ScratchColumns) : Type 0 where
-  pub free : isFree number ≡ true → SearchLeft g s scratch₀ scratch
+  pub free : isFree number ≡ true → SearchAfter g s scratch₀ scratch
   pub kept : isFree number ≡ false → scratch ≡ scratch₀

@@ -7,10 +7,10 @@ use Rattle.columns.proofs.Columns.{take-over}
 use Rattle.engine_walks.specs.Graph.{Graph}
 use Rattle.engine_walks.specs.Settling.{State}
 use Rattle.query_relaxing.specs.Ready.{stateOf, sumLimit}
-use Rattle.query_questions.specs.Scratch.{ScratchColumns, SearchLeft}
+use Rattle.query_questions.specs.Scratch.{ScratchColumns, SearchAfter}
 use Rattle.query_search.specs.Search.{Settles}
 
-module _ {g : Graph} {s : State} {scratch₀ scratch : ScratchColumns} (h : SearchLeft g s scratch₀ scratch) (ok : Settles (g .vertices) s) where
+module _ {g : Graph} {s : State} {scratch₀ scratch : ScratchColumns} (h : SearchAfter g s scratch₀ scratch) (ok : Settles (g .vertices) s) where
   pub status-read : take (g .vertices) (scratch .status) ≡ s .status
   status-read = ap (take (g .vertices)) (h .status-after) ∙ take-over (s .status) (scratch₀ .status) (g .vertices) (ok .status-fits)
 

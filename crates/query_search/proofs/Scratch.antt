@@ -21,7 +21,7 @@ use Rattle.columns.specs.Questions.{ask}
 use Rattle.engine_columns.specs.Records.{Engine}
 use Rattle.engine_columns.specs.Questions.{engineLong, engineSound}
 use Rattle.query_questions.specs.Queries.{queryRefusal}
-use Rattle.query_questions.specs.Scratch.{ScratchColumns, scratchOf, isFree, SearchLeft, ScratchAfter}
+use Rattle.query_questions.specs.Scratch.{ScratchColumns, scratchOf, isFree, SearchAfter, ScratchAfter}
 use Rattle.query_search.specs.Search.{Searched, stateFrom}
 
 -- the same number of vertices by another name
@@ -53,7 +53,7 @@ module _ (node leaf x y : List ℕ) (n : ℕ) (p : length node ≡ n) (q : lengt
 
 pub search-left : (g : Graph) (s : State) (scratch₀ : ScratchColumns) {numbers ends status weight previous node leaf : List ℕ}
     → length ends ≡ g .vertices → length node ≡ g .vertices → Searched g s (scratch₀ .neighborNumbers) numbers ends status weight previous node leaf
-    → SearchLeft g s scratch₀
+    → SearchAfter g s scratch₀
     (scratchOf numbers (ends ++ drop (g .vertices) (scratch₀ .listEnds)) (status ++ drop (g .vertices) (scratch₀ .status)) (weight ++ drop (g .vertices) (scratch₀ .weight))
     (previous ++ drop (g .vertices) (scratch₀ .previous)) (node ++ drop (g .vertices) (scratch₀ .node)) (leaf ++ drop (g .vertices) (scratch₀ .leaf)))
 search-left g s scratch₀ {ends = ends} {status} {weight} {previous} {node} {leaf} e d f =
@@ -71,7 +71,7 @@ search-left g s scratch₀ {ends = ends} {status} {weight} {previous} {node} {le
     }
 
 -- by the number of the answer
-pub scratch-free : (number : ℕ) (g : Graph) (s : State) (scratch₀ scratch : ScratchColumns) → isFree number ≡ true → SearchLeft g s scratch₀ scratch
+pub scratch-free : (number : ℕ) (g : Graph) (s : State) (scratch₀ scratch : ScratchColumns) → isFree number ≡ true → SearchAfter g s scratch₀ scratch
     → ScratchAfter number g s scratch₀ scratch
 scratch-free number g s scratch₀ scratch e h = record { free = λ z. h; kept = λ z. absurd (let q : _≡_ {A = ℕ} 0 1 = cc in omega arith) }
 

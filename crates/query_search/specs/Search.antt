@@ -13,7 +13,7 @@ use Rattle.engine_walks.specs.Settling.{State, weightAt, settled}
 use Rattle.engine_walks.specs.Answers.{only, fromLeft}
 use Rattle.query_relaxing.specs.Ready.{stateOf, Ready, endOf, sumLimit}
 use Rattle.query_questions.specs.Queries.{graphIn, weightsIn}
-use Rattle.query_questions.specs.Scratch.{ScratchColumns, SearchLeft}
+use Rattle.query_questions.specs.Scratch.{ScratchColumns, SearchAfter}
 use Rattle.query_search.specs.declared.Origin.{Origin}
 use Rattle.query_search.specs.declared.Origin.the-variants.{At, Left}
 
@@ -65,7 +65,7 @@ pub record Settles (n : ℕ) (s : State) : Type 0 where
 
 -- Engine, Settling: what a search of the engine graph e leaves in scratch, and that the state it settled in fits.
 pub record SearchDone (e : Engine) (origin : Origin) (scratch₀ scratch : ScratchColumns) : Type 0 where
-  pub scratch-after : SearchLeft (graphIn e) (stateFrom origin (graphIn e) (weightsIn e)) scratch₀ scratch
+  pub scratch-after : SearchAfter (graphIn e) (stateFrom origin (graphIn e) (weightsIn e)) scratch₀ scratch
   pub settles : Settles (e .counts .vertices) (stateFrom origin (graphIn e) (weightsIn e))
 
 -- Engine, Settling: columns cut to their counts, after a search of the graph g that settled in the state s.

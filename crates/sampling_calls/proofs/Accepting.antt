@@ -27,7 +27,7 @@ use Rattle.sampling_calls.specs.Records.{SyndromeColumns, syndromeLong}
 use Rattle.columns_marks.specs.Marks.{isSet, listed}
 use Rattle.sampling_flips.specs.Flip.{flipEach}
 use Rattle.columns_answers.proofs.Said.{accepts-of, refuses-of}
-use Rattle.sampling_calls.specs.Errors.{SyndromeLeft, errorsRefusal}
+use Rattle.sampling_calls.specs.Errors.{SyndromeAfter, errorsRefusal}
 use Rattle.sampling_calls.specs.Syndrome.{endsIn, isDefectOf, syndromeOf, syndromeRefusal, FoundSyndrome}
 use Rattle.sampling_flips.specs.Steps.{Fits}
 use Rattle.sampling_flips.proofs.Flipping.{length-flipEach, flipEach-front, flipEach-virtual}
@@ -119,7 +119,7 @@ flipEach-over v e a b m ks xs d l ra rb named =
 -- ---- what a call answers and leaves
 
 module _ (number v e : ℕ) (defects erasures : List ℕ) (before : SyndromeColumns) where
-  pub left-refused : {n : ℕ} → n ≡ number → (n ≡ 0 → ⊥) → SyndromeLeft number v e defects erasures before (syndrome.Refused n) before
+  pub left-refused : {n : ℕ} → n ≡ number → (n ≡ 0 → ⊥) → SyndromeAfter number v e defects erasures before (syndrome.Refused n) before
   left-refused {n} e f =
       let g : number ≡ 0 → ⊥ = λ z. f (e ∙ z) in
       record {
@@ -135,7 +135,7 @@ module _ (number v e : ℕ) (defects erasures : List ℕ) (before : SyndromeColu
       → last .defect ≡ over defects (before .defect) → last .erasure ≡ over erasures (before .erasure)
       → d ≡ length (listed v (last .defect)) → last .defectList ≡ over (listed v (last .defect)) (before .defectList)
       → s ≡ length (listed e (last .erasure)) → last .erasureList ≡ over (listed e (last .erasure)) (before .erasureList)
-      → SyndromeLeft number v e defects erasures before (syndrome.Counts d s) last
+      → SyndromeAfter number v e defects erasures before (syndrome.Counts d s) last
   left-accepted last {d} {s} z ld ls pd ps nd xd ns xs =
       let md : listed v (last .defect) ≡ listed v defects = ap (listed v) pd ∙ listed-over v defects (before .defect) ld in
       let ms : listed e (last .erasure) ≡ listed e erasures = ap (listed e) ps ∙ listed-over e erasures (before .erasure) ls in

@@ -21,7 +21,7 @@ use Rattle.columns_room.specs.Graph.{CodeGraph}
 use Rattle.sampling_calls.specs.Records.{SyndromeColumns}
 use Rattle.sampling_flips.specs.Flip.{flipEach}
 use Rattle.columns_answers.specs.Counts.{syndromeSaid}
-use Rattle.sampling_calls.specs.Errors.{SyndromeLeft}
+use Rattle.sampling_calls.specs.Errors.{SyndromeAfter}
 use Rattle.sampling_edges.specs.Draws.{drawNumber, isErased, errorProbability, hasError, sampledErasures, sampledErrors}
 use Rattle.sampling_calls.specs.Sampling.{samplingRefusal, GeneratedRandomErrors}
 use Rattle.sampling_calls.specs.Prefix.{SameBefore, SameMarksBefore}
@@ -31,7 +31,7 @@ use Rattle.sampling_calls.proofs.Inner.{flipEach-inner}
 use Rattle.columns_marks.proofs.Listing.{when-few, chosen-below, chosen-same}
 use Rattle.sampling_calls.proofs.Draws.{length-sampledErasures}
 
-pub accepted-number : {q v e : ℕ} {ds es : List ℕ} {before last : SyndromeColumns} {r : SyndromeCounts} → SyndromeLeft q v e ds es before r last → syndromeSaid r .number ≡ 0 → q ≡ 0
+pub accepted-number : {q v e : ℕ} {ds es : List ℕ} {before last : SyndromeColumns} {r : SyndromeCounts} → SyndromeAfter q v e ds es before r last → syndromeSaid r .number ≡ 0 → q ≡ 0
 accepted-number {q} {v} {e} {ds} {es} {before} {last} {r} s z = sym (s .answers .number-is) ∙ z
 
 -- ---- two samplings with one seed

@@ -16,7 +16,7 @@ use Rattle.columns_answers.specs.Counts.{syndromeSaid}
 
 -- Sampling, syndromes, reordering, paragraph 2, sentence 4: what a call that generates errors answers and leaves: `number` is the question's, 0 where all are met;
 -- then the defect and erasure bytes are those given, and both lists name the bytes that are set, here those that are 1, ascending.
-pub record SyndromeLeft (number v e : ℕ) (defects erasures : List ℕ) (s₀ : SyndromeColumns) (answer : SyndromeCounts) (s : SyndromeColumns) : Type 0 where
+pub record SyndromeAfter (number v e : ℕ) (defects erasures : List ℕ) (s₀ : SyndromeColumns) (answer : SyndromeCounts) (s : SyndromeColumns) : Type 0 where
   pub answers : Answered (syndromeSaid answer) number (length (listed v defects), length (listed e erasures)) (0, 0)
   pub defect-after : s .defect ≡ after number defects (s₀ .defect)
   pub erasure-after : s .erasure ≡ after number erasures (s₀ .erasure)
@@ -35,6 +35,6 @@ errorsRefusal g list s =
 -- Sampling, syndromes, reordering, paragraph 2, sentence 1: an error on each listed edge, over the standing defects; the erasures stay.
 abbrev pub GeneratedErrors : CodeGraph → List ℕ → SyndromeColumns → SyndromeCounts → SyndromeColumns → Type 0
 GeneratedErrors g list s₀ answer s =
-    SyndromeLeft (errorsRefusal g list s₀) (g .vertices) (g .edges)
+    SyndromeAfter (errorsRefusal g list s₀) (g .vertices) (g .edges)
     (flipEach (g .endsA) (g .endsB) (g .boundary) list (take (g .vertices) (s₀ .defect))) (take (g .edges) (s₀ .erasure))
     s₀ answer s

@@ -14,7 +14,7 @@ use Rattle.columns_answers.specs.declared.SyndromeCounts.{SyndromeCounts}
 use Rattle.columns_room.specs.Room.{twoLong}
 use Rattle.columns_room.specs.Graph.{CodeGraph, graphLong, codeSound}
 use Rattle.sampling_calls.specs.Records.{SyndromeColumns, syndromeLong}
-use Rattle.sampling_calls.specs.Errors.{SyndromeLeft}
+use Rattle.sampling_calls.specs.Errors.{SyndromeAfter}
 
 -- Sampling, syndromes, reordering, paragraph 1, sentence 5: the defect bytes: errors on the edges that the draws say, over no defects.
 unfoldable pub sampledDefects : DeterministicRng → CodeGraph → (p pe : List Float) → List ℕ
@@ -35,6 +35,6 @@ samplingRefusal g p pe s =
 -- Sampling, syndromes, reordering, paragraph 1, sentences 1 and 5: defects and erasures by the draws of the seeded generator.
 abbrev pub GeneratedRandomErrors : (seed : ℕ) → CodeGraph → (p pe : List Float) → SyndromeColumns → SyndromeCounts → SyndromeColumns → Type 0
 GeneratedRandomErrors seed g p pe s₀ answer s =
-    SyndromeLeft (samplingRefusal g p pe s₀) (g .vertices) (g .edges)
+    SyndromeAfter (samplingRefusal g p pe s₀) (g .vertices) (g .edges)
     (sampledDefects (seedFromU64 seed) g p pe) (sampledErasures (seedFromU64 seed) pe (g .edges))
     s₀ answer s

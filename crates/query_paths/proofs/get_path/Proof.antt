@@ -14,7 +14,7 @@ use Rattle.engine_walks.specs.Settling.{State, settled}
 use Rattle.engine_walks.specs.Answers.{only, path}
 use Rattle.query_relaxing.specs.Ready.{stateOf}
 use Rattle.query_questions.specs.Queries.{graphIn, weightsIn}
-use Rattle.query_questions.specs.Scratch.{ScratchColumns, scratchOf, isFree, SearchLeft, scratchIn, scratchLengths, scratchFits}
+use Rattle.query_questions.specs.Scratch.{ScratchColumns, scratchOf, isFree, SearchAfter, scratchIn, scratchLengths, scratchFits}
 use Rattle.query_search.specs.Search.{Settles}
 use Rattle.query_search.proofs.Asked.{ScratchLong, scratch-of}
 use Rattle.query_search.proofs.Scratch.{scratch-free, scratch-kept}
@@ -64,12 +64,12 @@ before-it s = scratchIn (s .args .neighbor-numbers) (s .args .list-ends) (s .arg
 after-it : tie.After-search → ScratchColumns
 after-it c = let l = c .search .last .1 .1 .1 .1 .1 .1 in scratchOf (l .0) (l .1 .0) (l .1 .1 .0) (l .1 .1 .1 .0) (l .1 .1 .1 .1 .0) (l .1 .1 .1 .1 .1 .0) (l .1 .1 .1 .1 .1 .1 .0)
 
-left : (c : tie.After-search) → SearchLeft (graphIn (engine-of (c .before .before .before .before .before .before .before .before .before .before .before .before .before .before .before .before .before .before .before .before .before .before .before .before .before .before .before .before .before .before .before .before .before .before .before .before .before .before .before .before .before .before .before .before .before .before))) (state-at (c .before .before .before .before .before .before .before .before .before .before .before .before .before .before .before .before .before .before .before .before .before .before .before .before .before .before .before .before .before .before .before .before .before .before .before .before .before .before .before .before .before .before .before .before .before .before)) (before-it (c .before .before .before .before .before .before .before .before .before .before .before .before .before .before .before .before .before .before .before .before .before .before .before .before .before .before .before .before .before .before .before .before .before .before .before .before .before .before .before .before .before .before .before .before .before .before)) (after-it c)
+left : (c : tie.After-search) → SearchAfter (graphIn (engine-of (c .before .before .before .before .before .before .before .before .before .before .before .before .before .before .before .before .before .before .before .before .before .before .before .before .before .before .before .before .before .before .before .before .before .before .before .before .before .before .before .before .before .before .before .before .before .before))) (state-at (c .before .before .before .before .before .before .before .before .before .before .before .before .before .before .before .before .before .before .before .before .before .before .before .before .before .before .before .before .before .before .before .before .before .before .before .before .before .before .before .before .before .before .before .before .before .before)) (before-it (c .before .before .before .before .before .before .before .before .before .before .before .before .before .before .before .before .before .before .before .before .before .before .before .before .before .before .before .before .before .before .before .before .before .before .before .before .before .before .before .before .before .before .before .before .before .before)) (after-it c)
 unfolding engine-of state-at before-it after-it number-at
 left c =
     let s = c .before .before .before .before .before .before .before .before .before .before .before .before .before .before .before .before .before .before .before .before .before .before .before .before .before .before .before .before .before .before .before .before .before .before .before .before .before .before .before .before .before .before .before .before .before .before in
     let e = engine-of s in
-    subst (λ k. SearchLeft (graphIn e) (settled (graphIn e) (weightsIn e) (only (s .args .a .0)) (cond k (some (s .args .b .0)) none)) (before-it s) (after-it c)) (lt-ltb (s .args .b .0) (s .args .c .vertices) (asked-at s (number-then (c .before .before .before .before .before .before .before .before)) .b-in))
+    subst (λ k. SearchAfter (graphIn e) (settled (graphIn e) (weightsIn e) (only (s .args .a .0)) (cond k (some (s .args .b .0)) none)) (before-it s) (after-it c)) (lt-ltb (s .args .b .0) (s .args .c .vertices) (asked-at s (number-then (c .before .before .before .before .before .before .before .before)) .b-in))
     (c .search .ensures .scratch-after)
 
 settles : (c : tie.After-search) → Settles (c .before .before .before .before .before .before .before .before .before .before .before .before .before .before .before .before .before .before .before .before .before .before .before .before .before .before .before .before .before .before .before .before .before .before .before .before .before .before .before .before .before .before .before .before .before .before .args .c .vertices) (state-at (c .before .before .before .before .before .before .before .before .before .before .before .before .before .before .before .before .before .before .before .before .before .before .before .before .before .before .before .before .before .before .before .before .before .before .before .before .before .before .before .before .before .before .before .before .before .before))

@@ -14,7 +14,7 @@ use Rattle.engine_walks.specs.Settling.{State, settled}
 use Rattle.engine_walks.specs.Answers.{only, tableWeight, tablePrevious, table}
 use Rattle.query_relaxing.specs.Ready.{endOf}
 use Rattle.query_questions.specs.Queries.{graphIn, weightsIn}
-use Rattle.query_questions.specs.Scratch.{ScratchColumns, scratchOf, isFree, SearchLeft, scratchIn, scratchLengths, scratchFits}
+use Rattle.query_questions.specs.Scratch.{ScratchColumns, scratchOf, isFree, SearchAfter, scratchIn, scratchLengths, scratchFits}
 use Rattle.query_search.specs.Search.{Settles}
 use Rattle.query_search.proofs.Asked.{ScratchLong, scratch-of}
 use Rattle.query_search.proofs.Scratch.{scratch-free, scratch-kept}
@@ -72,9 +72,9 @@ state-is c =
     let w = weightsIn (engine-of s) in
     ap (λ k. settled g w (only (s .args .source .0)) (endOf (s .args .c .vertices) k)) (c .before .before .before .before .before .before .before .before .stop-of .ensures) ∙ stop-same g w (s .args .source .0) (s .args .end) (asked-at s (number-then (c .before .before .before .before .before .before .before .before .before)) .end-in)
 
-left : (c : tie.After-search) → SearchLeft (graphIn (engine-of (c .before .before .before .before .before .before .before .before .before .before .before .before .before .before .before .before .before .before .before .before .before .before .before .before .before .before .before .before .before .before .before .before .before .before .before .before .before .before .before .before .before .before))) (state-at (c .before .before .before .before .before .before .before .before .before .before .before .before .before .before .before .before .before .before .before .before .before .before .before .before .before .before .before .before .before .before .before .before .before .before .before .before .before .before .before .before .before .before)) (before-it (c .before .before .before .before .before .before .before .before .before .before .before .before .before .before .before .before .before .before .before .before .before .before .before .before .before .before .before .before .before .before .before .before .before .before .before .before .before .before .before .before .before .before)) (after-it c)
+left : (c : tie.After-search) → SearchAfter (graphIn (engine-of (c .before .before .before .before .before .before .before .before .before .before .before .before .before .before .before .before .before .before .before .before .before .before .before .before .before .before .before .before .before .before .before .before .before .before .before .before .before .before .before .before .before .before))) (state-at (c .before .before .before .before .before .before .before .before .before .before .before .before .before .before .before .before .before .before .before .before .before .before .before .before .before .before .before .before .before .before .before .before .before .before .before .before .before .before .before .before .before .before)) (before-it (c .before .before .before .before .before .before .before .before .before .before .before .before .before .before .before .before .before .before .before .before .before .before .before .before .before .before .before .before .before .before .before .before .before .before .before .before .before .before .before .before .before .before)) (after-it c)
 unfolding engine-of before-it after-it
-left c = subst (λ x. SearchLeft (graphIn (engine-of (c .before .before .before .before .before .before .before .before .before .before .before .before .before .before .before .before .before .before .before .before .before .before .before .before .before .before .before .before .before .before .before .before .before .before .before .before .before .before .before .before .before .before))) x (before-it (c .before .before .before .before .before .before .before .before .before .before .before .before .before .before .before .before .before .before .before .before .before .before .before .before .before .before .before .before .before .before .before .before .before .before .before .before .before .before .before .before .before .before)) (after-it c)) (state-is c) (c .search .ensures .scratch-after)
+left c = subst (λ x. SearchAfter (graphIn (engine-of (c .before .before .before .before .before .before .before .before .before .before .before .before .before .before .before .before .before .before .before .before .before .before .before .before .before .before .before .before .before .before .before .before .before .before .before .before .before .before .before .before .before .before))) x (before-it (c .before .before .before .before .before .before .before .before .before .before .before .before .before .before .before .before .before .before .before .before .before .before .before .before .before .before .before .before .before .before .before .before .before .before .before .before .before .before .before .before .before .before)) (after-it c)) (state-is c) (c .search .ensures .scratch-after)
 
 settles : (c : tie.After-search) → Settles (c .before .before .before .before .before .before .before .before .before .before .before .before .before .before .before .before .before .before .before .before .before .before .before .before .before .before .before .before .before .before .before .before .before .before .before .before .before .before .before .before .before .before .args .c .vertices) (state-at (c .before .before .before .before .before .before .before .before .before .before .before .before .before .before .before .before .before .before .before .before .before .before .before .before .before .before .before .before .before .before .before .before .before .before .before .before .before .before .before .before .before .before))
 unfolding engine-of

@@ -6,6 +6,7 @@ use Prim.Native.Nat.{ℕ, _≤_, _<_}
 use lib.ListN.{length, getD}
 use lib.Dec.{leb}
 use borrow.Author.Tests.{leb-true}
+use Rattle.columns.specs.Limits.{halfWeightLimit}
 use Rattle.columns.specs.Questions.{allBelow, halfWeightsSound}
 use Rattle.columns.proofs.Tests.{and-both, within-first, below-at}
 use Rattle.columns_room.specs.Graph.{codeGraph, codeSound}
@@ -27,7 +28,7 @@ pub record InitializerMet (v e : ℕ) (c : Code) (to : Initializer) : Type 0 whe
   pub to-weight : e ≤ length (to .weight)
   pub boundary : v ≤ length (c .boundary)
   pub to-virtual : v ≤ length (to .virtual)
-  pub halves : (k : ℕ) → k < e → getD (c .halfWeight) k 0 ≤ 250000
+  pub halves : (k : ℕ) → k < e → getD (c .halfWeight) k 0 ≤ halfWeightLimit
 
 pub initializer-met : (v e : ℕ) (c : Code) (to : Initializer) → initializerRefusal v e c to ≡ 0 → InitializerMet v e c to
 unfolding initializerLong initializerSound
@@ -49,7 +50,7 @@ initializer-met v e c to z =
       to-weight = into .2;
       boundary = last .0;
       to-virtual = last .1;
-      halves = within-first 250000 e (c .halfWeight) h (from .2);
+      halves = within-first halfWeightLimit e (c .halfWeight) h (from .2);
     }
 
 -- ---- set_defect_vertices, set_erasures

@@ -20,18 +20,18 @@ pub enum Truth {
 }
 
 // Whether the byte of a vertex is set; `sound` is question 7 of the bytes.
-fn is_marked(sound: bool, vertex_num: u32, column: &[u8], vertex: u32) -> Truth
-    ensures { λ r. ⌜ IsMarked sound «vertex_num» (now (column .entry)) vertex r ⌝ }
+fn is_marked(sound: bool, vertex_num: u32, column: &[u8], vertex: VertexIndex) -> Truth
+    ensures { λ r. ⌜ IsMarked sound «vertex_num» (now (column .entry)) (vertex .0) r ⌝ }
 {
     let long = at_most(vertex_num as usize, column.len());
     let both_sound = both(vertex_count_sound(vertex_num), sound);
     let number = asked(
         long,
         6,
-        asked(both_sound, 7, asked(vertex < vertex_num, 13, 0)),
+        asked(both_sound, 7, asked(vertex.0 < vertex_num, 13, 0)),
     );
     if number == 0 {
-        let i = vertex as usize;
+        let i = vertex.0 as usize;
         return Truth::Is(is_set(column[i]));
     }
     Truth::Refused(number)
@@ -45,7 +45,7 @@ pub fn is_virtual(vertex_num: u32, boundary: &[u8], vertex: VertexIndex) -> Trut
         boundaries_sound(boundary, vertex_num as usize),
         vertex_num,
         boundary,
-        vertex.0,
+        vertex,
     )
 }
 
@@ -57,6 +57,6 @@ pub fn is_defect(vertex_num: u32, defect: &[u8], vertex: VertexIndex) -> Truth
         marks_sound(defect, vertex_num as usize),
         vertex_num,
         defect,
-        vertex.0,
+        vertex,
     )
 }

@@ -4,6 +4,7 @@ ghost use Rattle.codes_calls.specs.CreateCode.{CreateCode};
 ghost use Rattle.codes_calls.specs.Columns.{codeIn};
 use super::reports::created_report;
 use c_reports::TwoCounts;
+use columns::Weight;
 
 // Builds a code: questions 2 to 6, then every column's first places.
 #[no_mangle]
@@ -15,7 +16,7 @@ pub extern "C" fn moldingcress_create_code(
     ends_b: &mut [u32],
     p: &mut [f64],
     pe: &mut [f64],
-    half_weight: &mut [u32],
+    half_weight: &mut [Weight],
     erasure: &mut [u8],
     pos_i: &mut [f64],
     pos_j: &mut [f64],

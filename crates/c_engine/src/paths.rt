@@ -4,6 +4,7 @@ use super::query_reports::crossing_report;
 use super::query_reports::path_report;
 use c_reports::OneCount;
 use c_reports::TwoCounts;
+use columns::TableWeight;
 use columns::VertexIndex;
 use columns::Weight;
 use engine_columns::EngineCounts;
@@ -83,7 +84,7 @@ pub extern "C" fn moldingcress_crossing(
     boundary: &[u8],
     log_edges: &[u32],
     log_weights: &[Weight],
-    out_weight: &mut [i32],
+    out_weight: &mut [TableWeight],
     neighbor_numbers: &mut [u32],
     list_ends: &mut [u32],
     status: &mut [u8],

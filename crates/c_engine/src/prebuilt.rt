@@ -3,6 +3,7 @@
 use super::prebuilt_reports::BoundaryReport;
 use super::prebuilt_reports::boundary_report;
 use c_reports::done_number;
+use columns::TableWeight;
 use columns::VertexIndex;
 use columns::Weight;
 use engine_columns::EngineCounts;
@@ -28,8 +29,8 @@ pub extern "C" fn moldingcress_fill_row(
     log_edges: &[u32],
     log_weights: &[Weight],
     vertex: u32,
-    nearest: &[i32],
-    out: &mut [i32],
+    nearest: &[TableWeight],
+    out: &mut [TableWeight],
     before: &mut [u32],
     neighbor_numbers: &mut [u32],
     list_ends: &mut [u32],
@@ -83,7 +84,7 @@ pub extern "C" fn moldingcress_get_boundary_weight(
     log_edges: &[u32],
     log_weights: &[Weight],
     vertex: u32,
-    least: &mut [i32],
+    least: &mut [TableWeight],
     before: &mut [u32],
     neighbor_numbers: &mut [u32],
     list_ends: &mut [u32],
@@ -135,9 +136,9 @@ pub extern "C" fn moldingcress_fill_boundaries(
     boundary: &[u8],
     log_edges: &[u32],
     log_weights: &[Weight],
-    out_weight: &mut [i32],
+    out_weight: &mut [TableWeight],
     out_vertex: &mut [u32],
-    least: &mut [i32],
+    least: &mut [TableWeight],
     before: &mut [u32],
     neighbor_numbers: &mut [u32],
     list_ends: &mut [u32],

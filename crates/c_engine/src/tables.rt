@@ -5,6 +5,7 @@ ghost use Rattle.query_questions.specs.Scratch.{scratchIn};
 ghost use Rattle.engine_columns.specs.Records.{counts, engineIn};
 use c_reports::done_number;
 use c_reports::engine::end_of;
+use columns::TableWeight;
 use columns::VertexIndex;
 use columns::Weight;
 use engine_columns::EngineCounts;
@@ -26,7 +27,7 @@ pub extern "C" fn moldingcress_all_edges_with_terminate(
     source: u32,
     has_end: u8,
     end: u32,
-    out_weight: &mut [i32],
+    out_weight: &mut [TableWeight],
     out_previous: &mut [u32],
     neighbor_numbers: &mut [u32],
     list_ends: &mut [u32],
@@ -80,7 +81,7 @@ pub extern "C" fn moldingcress_all_edges(
     log_edges: &[u32],
     log_weights: &[Weight],
     source: u32,
-    out_weight: &mut [i32],
+    out_weight: &mut [TableWeight],
     out_previous: &mut [u32],
     neighbor_numbers: &mut [u32],
     list_ends: &mut [u32],

@@ -23,7 +23,7 @@ use Rattle.codes_layers.specs.Counts.{layerVertexNum, layerEdgeNum, gapEdgeNum}
 use Rattle.codes_layers.specs.Accepts.{kindKnown, distanceSound, roundsSound, codeRefusal}
 use Rattle.weights_calls.specs.Calls.{isLargestHalfWeight, halfWeights, largestWeight, computeRefusal, someAbove, edgeWeights}
 use Rattle.weights_recipe.specs.Probabilities.{isProbability}
-use Rattle.columns.specs.Limits.{edgeLimit}
+use Rattle.columns.specs.Limits.{edgeLimit, halfWeightLimit}
 use Rattle.codes_questions.specs.declared.Count.the-variants.{Refused}
 use Rattle.columns_answers.proofs.Said.{accepts-of, refuses-of}
 use Rattle.codes_questions.specs.Answers.{CountsVertices}
@@ -54,9 +54,9 @@ same-map (suc n) f x e = λ i. e i ∷ same-map n f x e i
 zeros : (max n : ℕ) → isLargestHalfWeight max ≡ true → halfWeights max (replicate n zeroFloat) ≡ replicate n 1
 zeros max zero h = refl
 zeros max (suc n) h =
-    let (a, b) = and-both (leb 1 max) (leb max 250000) h in
+    let (a, b) = and-both (leb 1 max) (leb max halfWeightLimit) h in
     same-map (suc n) (λ p. halfWeight max (edgeWeight p) (largestWeight (replicate (suc n) zeroFloat))) zeroFloat
-    (zero-among max (replicate (suc n) zeroFloat) 0 (omega (arith, leb-true max 250000 b)) (omega (arith, length-replicate (suc n) zeroFloat)) (getD-replicate (suc n) 0 zeroFloat zeroFloat (omega arith)) (edgeWeight zeroFloat))
+    (zero-among max (replicate (suc n) zeroFloat) 0 (omega (arith, leb-true max halfWeightLimit b)) (omega (arith, length-replicate (suc n) zeroFloat)) (getD-replicate (suc n) 0 zeroFloat zeroFloat (omega arith)) (edgeWeight zeroFloat))
 
 -- question 9 is met by each p, question 10 by the first weight, which is +infinity
 all-zero : (n : ℕ) → all isProbability (replicate n zeroFloat) ≡ true

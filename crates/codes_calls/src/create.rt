@@ -10,12 +10,13 @@ use super::Created;
 use codes_questions::code_refusal;
 use codes_questions::distance_within;
 use codes_questions::rounds_within;
+use columns::Weight;
 use columns::questions::asked;
 use columns::questions::lesser;
 use columns_room::long_enough;
 use columns_stores::fill_f64;
 use columns_stores::fill_u8;
-use columns_stores::fill_u32;
+use columns_stores::fill_weights;
 
 // The least of six lengths.
 pub fn shortest_of(a: usize, b: usize, c: usize, d: usize, e: usize, f: usize) -> usize
@@ -52,7 +53,7 @@ fn fill_edges(
     ends_b: &mut [u32],
     p: &mut [f64],
     pe: &mut [f64],
-    half_weight: &mut [u32],
+    half_weight: &mut [Weight],
     erasure: &mut [u8],
 ) -> usize
     requires { ⌜ Buildable kind d rounds ⌝ }
@@ -62,7 +63,7 @@ fn fill_edges(
     let n = codes_edges::code_edges(ends_a, ends_b, kind, d, rounds);
     fill_f64(p, n, 0.0);
     fill_f64(pe, n, 0.0);
-    fill_u32(half_weight, n, 0);
+    fill_weights(half_weight, n, 0);
     fill_u8(erasure, n, 0);
     n
 }
@@ -96,7 +97,7 @@ fn create_in(
     ends_b: &mut [u32],
     p: &mut [f64],
     pe: &mut [f64],
-    half_weight: &mut [u32],
+    half_weight: &mut [Weight],
     erasure: &mut [u8],
     pos_i: &mut [f64],
     pos_j: &mut [f64],
@@ -163,7 +164,7 @@ pub fn create_code(
     ends_b: &mut [u32],
     p: &mut [f64],
     pe: &mut [f64],
-    half_weight: &mut [u32],
+    half_weight: &mut [Weight],
     erasure: &mut [u8],
     pos_i: &mut [f64],
     pos_j: &mut [f64],

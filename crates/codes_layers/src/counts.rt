@@ -55,7 +55,7 @@ fn gap_edge_num(kind: u32, d: u64) -> u64
 
 pub fn edge_num(kind: u32, d: u32, rounds: u32) -> u64
     requires { ⌜ (3 ≤ d) × ((d ≤ 4095) × (rounds ≤ 4095)) ⌝ }
-    ensures { λ r. ⌜ (r ≡ edgeNum kind d rounds) × (r ≤ 500000000000) ⌝ }
+    ensures { λ r. ⌜ (r ≡ edgeNum kind d rounds) × (r ≤ 999999999999) ⌝ }
 {
     let layer = layer_edge_num(kind, d as u64);
     let gap = gap_edge_num(kind, d as u64);

@@ -1,5 +1,5 @@
 -- The limits of document 01's "Records".
-use Prim.Native.Nat.{ℕ}
+use Prim.Native.Nat.{ℕ, _+_, _*_}
 
 -- Records, last sentence: a graph has at most 4,096 vertices.
 abbrev pub vertexLimit : ℕ
@@ -16,6 +16,14 @@ halfWeightLimit = 250000
 -- Records, on engine graphs: the greatest weight of an edge.
 abbrev pub weightLimit : ℕ
 weightLimit = 500000
+
+-- Records, last sentence: more than any sum along a walk that meets no vertex twice: at most one weight for each vertex.
+abbrev pub sumLimit : ℕ
+sumLimit = vertexLimit * weightLimit + 1
+
+-- Records, last sentence: what 32 signed bits hold, the width of a weight in a table, is below this.
+abbrev pub tableBound : ℕ
+tableBound = 2147483648
 
 -- Records, on vertices: the boundary byte of an inner vertex.
 abbrev pub inner : ℕ

@@ -15,8 +15,10 @@ pub struct VertexIndex(pub u32);
 
 pub struct EdgeIndex(pub u32);
 
-// The width of a stored weight.
+// The width of a stored weight, and of a weight in a table, where -1 stands for none. specs/Limits.antt and proofs/Widths.antt say the second for contracts and proofs.
 pub type Weight = u32;
+
+pub type TableWeight = i32;
 
 // The limits of document 01's Records.
 pub const VERTEX_LIMIT: u32 = 4096;
@@ -26,6 +28,9 @@ pub const EDGE_LIMIT: u32 = 32768;
 pub const HALF_WEIGHT_LIMIT: Weight = 250_000;
 
 pub const WEIGHT_LIMIT: Weight = 500_000;
+
+// More than any sum along a walk that meets no vertex twice: at most one weight for each vertex.
+pub const SUM_LIMIT: Weight = (VERTEX_LIMIT as Weight) * WEIGHT_LIMIT + 1;
 
 // Boundary bytes.
 pub const INNER: u8 = 0;

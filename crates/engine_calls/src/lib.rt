@@ -5,6 +5,7 @@ ghost use Rattle.engine_columns.specs.Open.{Opened, graphColumns};
 use columns::Weight;
 use columns_stores::copy_u8;
 use columns_stores::copy_u32;
+use columns_stores::copy_weights;
 use engine_columns::EngineAnswer;
 use engine_columns::EngineCounts;
 use engine_log::erase_all;
@@ -153,7 +154,7 @@ pub fn open(
         let n = edges as usize;
         copy_u32(ends_a, in_a, n);
         copy_u32(ends_b, in_b, n);
-        copy_u32(weights, in_weights, n);
+        copy_weights(weights, in_weights, n);
         copy_u8(boundary, in_boundary, vertices as usize);
         return EngineAnswer::Counts(EngineCounts {
             vertices,

@@ -3,6 +3,7 @@ ghost use mathlib.Core.Path.{_≡_};
 ghost use Prim.Native.Nat.{ℕ, _<_, _≤_};
 ghost use lib.ListN.{length, set, getD};
 ghost use Rattle.engine_log.specs.Load.{loaded, earlier, named, undone, erased, given};
+use columns::EdgeIndex;
 use columns::Weight;
 use columns::wide;
 
@@ -12,17 +13,17 @@ fn set_weight(
     log_edges: &mut [u32],
     log_weights: &mut [Weight],
     i: usize,
-    e: u32,
+    e: EdgeIndex,
     x: Weight,
 )
-    requires { ⌜ (e < length (now weights)) × (i < length (now «log_edges»)) × (i < length (now «log_weights»)) ⌝ }
-    ensures { λ _. ⌜ now (weights .exit) ≡ set (now (weights .entry)) e x ⌝ }
-    ensures { λ _. ⌜ now («log_edges» .exit) ≡ set (now («log_edges» .entry)) i e ⌝ }
-    ensures { λ _. ⌜ now («log_weights» .exit) ≡ set (now («log_weights» .entry)) i (getD (now (weights .entry)) e 0) ⌝ }
+    requires { ⌜ (e .0 < length (now weights)) × (i < length (now «log_edges»)) × (i < length (now «log_weights»)) ⌝ }
+    ensures { λ _. ⌜ now (weights .exit) ≡ set (now (weights .entry)) (e .0) x ⌝ }
+    ensures { λ _. ⌜ now («log_edges» .exit) ≡ set (now («log_edges» .entry)) i (e .0) ⌝ }
+    ensures { λ _. ⌜ now («log_weights» .exit) ≡ set (now («log_weights» .entry)) i (getD (now (weights .entry)) (e .0) 0) ⌝ }
 {
-    let at = e as usize;
+    let at = e.0 as usize;
     let earlier = weights[at];
-    log_edges[i] = e;
+    log_edges[i] = e.0;
     log_weights[i] = earlier;
     weights[at] = x;
 }
@@ -42,7 +43,7 @@ pub fn erase_all(
 {
     let mut i = 0;
     while i < list.len() {
-        set_weight(weights, log_edges, log_weights, i, list[i], 0);
+        set_weight(weights, log_edges, log_weights, i, EdgeIndex(list[i]), 0);
         i += 1;
     }
 }
@@ -63,7 +64,14 @@ pub fn weigh_all(
 {
     let mut i = 0;
     while i < list.len() {
-        set_weight(weights, log_edges, log_weights, i, list[i], values[i]);
+        set_weight(
+            weights,
+            log_edges,
+            log_weights,
+            i,
+            EdgeIndex(list[i]),
+            values[i],
+        );
         i += 1;
     }
 }

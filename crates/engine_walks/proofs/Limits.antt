@@ -9,6 +9,7 @@ use native.Mathlib.Nat.{mul-le-mul-right}
 use native.Mathlib.Decide.{ℕ-discrete}
 use native.Mathlib.Omega.{arith}
 use lib.ListN.{length}
+use Rattle.columns.specs.Limits.{weightLimit}
 use Rattle.engine_walks.specs.Lists.{sum, All, Distinct}
 use Rattle.engine_walks.specs.Graph.{Graph, edges, GraphInRange}
 use Rattle.engine_walks.specs.Settling.{State, statusAt, weightAt, settle}
@@ -97,4 +98,4 @@ module _ {g : Graph} (ok : GraphInRange g) (w : ℕ → ℕ) where
   }
 
 pub sums-fit : SumsFit
-sums-fit g w ok = (sums-within ok w, λ h m. sums-widen ok w (omega arith) (omega arith) (sums-within ok w 500000 m))
+sums-fit g w ok = (sums-within ok w, λ h m. (sums-widen ok w (omega arith) (omega arith) (sums-within ok w weightLimit m), omega arith))

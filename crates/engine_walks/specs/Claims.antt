@@ -7,6 +7,7 @@ use mathlib.Core.Option.{Option, some, none}
 use Prim.Native.Nat.{ℕ, suc, _+_, _-_, _*_, _^_, _≤_, _<_, min}
 use lib.ListN.{getD, length}
 use lib.IntN.{ℤ, pos, negsuc}
+use Rattle.columns.specs.Limits.{vertexLimit, weightLimit, tableBound}
 use Rattle.engine_walks.specs.Lists.{sum, Distinct}
 use Rattle.engine_walks.specs.Graph.{Graph, edges, endA, endB, boundaryAt, GraphInRange, Left, Right, Joins, Walk, Joined, CrossingSet, LeastWeight, CrossingWeight}
 use Rattle.engine_walks.specs.Settling.{State, statusAt, weightAt, settle, settled}
@@ -119,12 +120,13 @@ pub record SumsAtMost (g : Graph) (w : ℕ → ℕ) (kept offered : ℕ) : Type 
   pub offers : (source : ℕ → Bool) (end : Option ℕ) (k v e : ℕ) → k < g .vertices → e < edges g
       → statusAt (settle g w source end k) v ≡ 1 → weightAt (settle g w source end k) v + w e ≤ offered
 
--- Records, last sentence: under any limit on the weights, one limit for each vertex but one; under the limits given there, below 2³¹.
+-- Records, last sentence: under any limit on the weights, one limit for each vertex but one; under the limits given there, one for each vertex
+-- that a graph may have, which fits 32 signed bits.
 abbrev pub SumsFit : Type 0
 SumsFit =
     (g : Graph) (w : ℕ → ℕ) → GraphInRange g
     → ((limit : ℕ) → ((e : ℕ) → e < edges g → w e ≤ limit) → SumsAtMost g w ((g .vertices - 1) * limit) (g .vertices * limit))
-    × (g .vertices ≤ 4096 → ((e : ℕ) → e < edges g → w e ≤ 500000) → SumsAtMost g w (2 ^ 31 - 1) (2 ^ 31 - 1))
+    × (g .vertices ≤ vertexLimit → ((e : ℕ) → e < edges g → w e ≤ weightLimit) → SumsAtMost g w (vertexLimit * weightLimit) (vertexLimit * weightLimit) × (vertexLimit * weightLimit < tableBound))
 
 -- ---- the crossing
 

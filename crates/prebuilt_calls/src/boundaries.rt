@@ -6,6 +6,7 @@ ghost use Rattle.query_questions.specs.Scratch.{scratchIn, scratchLengths};
 ghost use Rattle.prebuilt_calls.specs.Boundaries.{FilledBoundaries};
 ghost use Rattle.prebuilt_calls.specs.Steps.{Fillable, OneFilled, AllFilled};
 use columns::Done;
+use columns::TableWeight;
 use columns::VertexIndex;
 use columns::Weight;
 use columns::questions::at_most;
@@ -25,10 +26,10 @@ fn fill_one(
     boundary: &[u8],
     log_edges: &[u32],
     log_weights: &[Weight],
-    v: u32,
-    out_weight: &mut [i32],
+    v: VertexIndex,
+    out_weight: &mut [TableWeight],
     out_vertex: &mut [u32],
-    least: &mut [i32],
+    least: &mut [TableWeight],
     before: &mut [u32],
     neighbor_numbers: &mut [u32],
     list_ends: &mut [u32],
@@ -39,8 +40,8 @@ fn fill_one(
     leaf: &mut [u64],
 )
     requires { ⌜ Fillable (engineIn c «ends_a» «ends_b» weights boundary «log_edges» «log_weights») (length (now «out_weight»)) (length (now «out_vertex»)) (length (now least)) (length (now before)) (scratchLengths (scratchIn «neighbor_numbers» «list_ends» status weight previous node leaf)) ⌝ }
-    requires { ⌜ v < c .vertices ⌝ }
-    ensures { λ _. ⌜ OneFilled (engineIn c («ends_a» .entry) («ends_b» .entry) (weights .entry) (boundary .entry) («log_edges» .entry) («log_weights» .entry)) v
+    requires { ⌜ v .0 < c .vertices ⌝ }
+    ensures { λ _. ⌜ OneFilled (engineIn c («ends_a» .entry) («ends_b» .entry) (weights .entry) (boundary .entry) («log_edges» .entry) («log_weights» .entry)) (v .0)
         (now («out_weight» .entry)) (now («out_weight» .exit)) (now («out_vertex» .entry)) (now («out_vertex» .exit)) (now (least .entry)) (now (least .exit)) (now (before .entry)) (now (before .exit))
         (scratchIn («neighbor_numbers» .entry) («list_ends» .entry) (status .entry) (weight .entry) (previous .entry) (node .entry) (leaf .entry))
         (scratchIn («neighbor_numbers» .exit) («list_ends» .exit) (status .exit) (weight .exit) (previous .exit) (node .exit) (leaf .exit)) ⌝ }
@@ -53,7 +54,7 @@ fn fill_one(
         boundary,
         log_edges,
         log_weights,
-        VertexIndex(v),
+        v,
         least,
         before,
         neighbor_numbers,
@@ -68,7 +69,7 @@ fn fill_one(
     store_boundary(
         &boundary[..n],
         &least[..n],
-        v as usize,
+        v.0 as usize,
         out_weight,
         out_vertex,
     );
@@ -83,9 +84,9 @@ fn fill_all(
     boundary: &[u8],
     log_edges: &[u32],
     log_weights: &[Weight],
-    out_weight: &mut [i32],
+    out_weight: &mut [TableWeight],
     out_vertex: &mut [u32],
-    least: &mut [i32],
+    least: &mut [TableWeight],
     before: &mut [u32],
     neighbor_numbers: &mut [u32],
     list_ends: &mut [u32],
@@ -111,7 +112,7 @@ fn fill_all(
             boundary,
             log_edges,
             log_weights,
-            v,
+            VertexIndex(v),
             out_weight,
             out_vertex,
             least,
@@ -138,9 +139,9 @@ pub fn fill_boundaries(
     boundary: &[u8],
     log_edges: &[u32],
     log_weights: &[Weight],
-    out_weight: &mut [i32],
+    out_weight: &mut [TableWeight],
     out_vertex: &mut [u32],
-    least: &mut [i32],
+    least: &mut [TableWeight],
     before: &mut [u32],
     neighbor_numbers: &mut [u32],
     list_ends: &mut [u32],

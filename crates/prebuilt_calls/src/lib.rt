@@ -9,6 +9,7 @@ ghost use Rattle.engine_columns.specs.Records.{engineIn};
 ghost use Rattle.query_questions.specs.Scratch.{scratchIn};
 ghost use Rattle.prebuilt_calls.specs.Rows.{FilledRow};
 use columns::Done;
+use columns::TableWeight;
 use columns::VertexIndex;
 use columns::Weight;
 use columns::questions::at_most;
@@ -30,8 +31,8 @@ pub fn fill_row(
     log_edges: &[u32],
     log_weights: &[Weight],
     vertex: VertexIndex,
-    nearest: &[i32],
-    out: &mut [i32],
+    nearest: &[TableWeight],
+    out: &mut [TableWeight],
     before: &mut [u32],
     neighbor_numbers: &mut [u32],
     list_ends: &mut [u32],
@@ -93,7 +94,7 @@ pub fn fill_row(
             node,
             leaf,
         );
-        write_row(&boundary[..v], nearest, vertex.0, out);
+        write_row(&boundary[..v], nearest, vertex, out);
         return Done::Accepted;
     }
     Done::Refused(no)

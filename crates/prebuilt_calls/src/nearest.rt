@@ -9,6 +9,7 @@ ghost use Rattle.query_questions.specs.Scratch.{scratchIn};
 ghost use Rattle.prebuilt_entries.specs.Nearest.{boundaryIn};
 ghost use Rattle.prebuilt_calls.specs.Nearest.{nearestSaid, boundaryFound, GotBoundaryWeight};
 use columns::Done;
+use columns::TableWeight;
 use columns::VertexIndex;
 use columns::Weight;
 use engine_columns::EngineCounts;
@@ -24,11 +25,11 @@ pub enum BoundaryAnswer {
 }
 
 // The answer for vertex v, from its table.
-fn boundary_answer(boundary: &[u8], least: &[i32], v: u32) -> BoundaryAnswer
-    requires { ⌜ (length (now boundary) ≡ length (now least)) × (v < length (now boundary)) × (length (now least) ≤ 4096) ⌝ }
-    ensures { λ r. ⌜ nearestSaid r ≡ accepts (boundaryFound (now (least .entry)) (boundaryIn (now (boundary .entry)) (now (least .entry)) (length (now (least .entry))) v)) ⌝ }
+fn boundary_answer(boundary: &[u8], least: &[TableWeight], v: VertexIndex) -> BoundaryAnswer
+    requires { ⌜ (length (now boundary) ≡ length (now least)) × (v .0 < length (now boundary)) × (length (now least) ≤ 4096) ⌝ }
+    ensures { λ r. ⌜ nearestSaid r ≡ accepts (boundaryFound (now (least .entry)) (boundaryIn (now (boundary .entry)) (now (least .entry)) (length (now (least .entry))) (v .0))) ⌝ }
 {
-    let at = v as usize;
+    let at = v.0 as usize;
     if boundary[at] != 0 {
         return BoundaryAnswer::NoBoundary;
     }
@@ -59,7 +60,7 @@ pub fn get_boundary_weight(
     log_edges: &[u32],
     log_weights: &[Weight],
     vertex: VertexIndex,
-    least: &mut [i32],
+    least: &mut [TableWeight],
     before: &mut [u32],
     neighbor_numbers: &mut [u32],
     list_ends: &mut [u32],
@@ -96,7 +97,7 @@ pub fn get_boundary_weight(
     let no = number(done);
     if no == 0 {
         let v = c.vertices as usize;
-        return boundary_answer(&boundary[..v], &least[..v], vertex.0);
+        return boundary_answer(&boundary[..v], &least[..v], vertex);
     }
     BoundaryAnswer::Refused(no)
 }

@@ -2,13 +2,13 @@
 use mathlib.Core.Path.{_≡_, refl, sym, _∙_}
 use mathlib.Core.Logic.{_≢_}
 use mathlib.Core.Bool.{Bool, true, false, cond}
-use Prim.Native.Nat.{ℕ, zero, suc, _+_, _<_, _≤_}
-use native.Mathlib.Decide.{decLt}
+use Prim.Native.Nat.{ℕ, zero, suc, _+_, _-_, _<_, _≤_}
 use native.Mathlib.Omega.{arith}
 use lib.Dec.{T, ltb}
 use lib.IntN.{ℤ, pos, negsuc, natAbs}
 use lib.Signed.{mag, ltZ, nonNeg}
-use borrow.Author.Tests.{ltb-true, lt-ltb, le-ltb}
+use borrow.Author.Tests.{ltb-true}
+use Rattle.columns.specs.Limits.{tableBound}
 use Rattle.prebuilt_entries.specs.Entries.{rank, inTheMiddle, entryBy}
 
 pub below-zero : (x : ℤ) → ltZ x (pos 0) ≡ true → 0 ≡ rank x
@@ -23,7 +23,7 @@ pub rank-is : (x : ℤ) → ltZ x (pos 0) ≡ false → natAbs x + 1 ≡ rank x
 rank-is (pos k) h = omega arith
 rank-is (negsuc n) h = absurd (let z : _≡_ {A = ℕ} 0 1 = cc in omega arith)
 
-pub rank-small : (x : ℤ) → mag x < 2147483648 → (natAbs x < 2147483649) × (rank x < 2147483650)
+pub rank-small : (x : ℤ) → mag x < tableBound → (natAbs x ≤ tableBound) × (rank x ≤ tableBound)
 rank-small (pos k) h = (omega (arith, h), omega (arith, h))
 rank-small (negsuc n) h = (omega (arith, h), omega arith)
 
@@ -36,19 +36,25 @@ peer-none (pos a) (pos b) x e = absurd (omega (arith, e))
 peer-none (pos a) (negsuc n) x e = refl
 peer-none (negsuc n) peer x e = refl
 
-pub by-ranks : (own peer x : ℤ) → rank own ≢ 0 → rank peer ≢ 0 → ltb (rank own + rank peer) (rank x + 1) ≡ inTheMiddle own peer x
-by-ranks (pos a) (pos b) (pos k) f g = elim (decLt (a + b) k) [
-  | yes h ↦ lt-ltb (suc a + suc b) (suc k + 1) (omega (arith, h)) ∙ sym (lt-ltb (a + b) k h)
-  | no h ↦ le-ltb (suc a + suc b) (suc k + 1) (omega (arith, h)) ∙ sym (le-ltb (a + b) k (omega (arith, h)))
-]
-by-ranks (pos a) (pos b) (negsuc n) f g = le-ltb (suc a + suc b) (0 + 1) (omega arith)
-by-ranks (pos a) (negsuc n) x f g = absurd (g refl)
-by-ranks (negsuc n) peer x f g = absurd (f refl)
+pub edge-none : (own peer x : ℤ) → rank x ≡ 0 → false ≡ inTheMiddle own peer x
+edge-none (pos a) (pos b) (pos k) e = absurd (omega (arith, e))
+edge-none (pos a) (pos b) (negsuc n) e = refl
+edge-none (pos a) (negsuc n) x e = refl
+edge-none (negsuc n) peer x e = refl
 
-pub entry-fits : (hidden : Bool) (own peer x : ℤ) → mag x < 2147483648 → mag (entryBy hidden own peer x) < 2147483648
+-- the amounts are compared: the sum of two ranks may not fit
+pub by-amounts : (own peer x : ℤ) → rank own ≢ 0 → rank peer ≢ 0 → rank x ≢ 0 → ltb ((rank own - 1) + (rank peer - 1)) (rank x - 1) ≡ inTheMiddle own peer x
+by-amounts (pos a) (pos b) (pos k) f g h =
+    let less : (n : ℕ) → suc n - 1 ≡ n = λ n. omega arith in
+    λ i. ltb (less a i + less b i) (less k i)
+by-amounts (pos a) (pos b) (negsuc n) f g h = absurd (h refl)
+by-amounts (pos a) (negsuc n) x f g h = absurd (g refl)
+by-amounts (negsuc n) peer x f g h = absurd (f refl)
+
+pub entry-fits : (hidden : Bool) (own peer x : ℤ) → mag x < tableBound → mag (entryBy hidden own peer x) < tableBound
 entry-fits true own peer x f = omega arith
 entry-fits false own peer x f = go (inTheMiddle own peer x)
   where
-    go : (b : Bool) → mag (cond b (negsuc 0) x) < 2147483648
+    go : (b : Bool) → mag (cond b (negsuc 0) x) < tableBound
     go true = omega arith
     go false = f

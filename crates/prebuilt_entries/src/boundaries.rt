@@ -8,9 +8,10 @@ ghost use Rattle.engine_walks.specs.Answers.{weightIn};
 ghost use Rattle.engine_walks.specs.Lists.{foundOr};
 ghost use Rattle.prebuilt_entries.specs.Nearest.{boundaryIn, weightTo, vertexTo};
 use super::nearest::nearest_place;
+use columns::TableWeight;
 
 // The nearest virtual vertex of v in its table; the column's length stands for none.
-fn boundary_place(boundary: &[u8], least: &[i32], v: usize) -> usize
+fn boundary_place(boundary: &[u8], least: &[TableWeight], v: usize) -> usize
     requires { ⌜ (length (now boundary) ≡ length (now least)) × (v < length (now boundary)) ⌝ }
     ensures { λ r. ⌜ r ≡ foundOr (length (now (least .entry))) (boundaryIn (now (boundary .entry)) (now (least .entry)) (length (now (least .entry))) v) ⌝ }
 {
@@ -21,7 +22,7 @@ fn boundary_place(boundary: &[u8], least: &[i32], v: usize) -> usize
 }
 
 // The weight of u in a table, -1 past its end.
-fn weight_at(least: &[i32], u: usize) -> i32
+fn weight_at(least: &[TableWeight], u: usize) -> TableWeight
     ensures { λ r. ⌜ r ≡ weightIn (now (least .entry)) u ⌝ }
 {
     if u < least.len() {
@@ -44,9 +45,9 @@ fn number_of(place: usize, n: usize) -> u32
 // The weight and the number of the nearest virtual vertex of v, from its table.
 pub fn store_boundary(
     boundary: &[u8],
-    least: &[i32],
+    least: &[TableWeight],
     v: usize,
-    out_weight: &mut [i32],
+    out_weight: &mut [TableWeight],
     out_vertex: &mut [u32],
 )
     requires { ⌜ (length (now boundary) ≡ length (now least)) × (v < length (now boundary)) × (length (now least) ≤ 4096) × (v < length (now «out_weight»)) × (v < length (now «out_vertex»)) ⌝ }

@@ -7,21 +7,22 @@ ghost use Rattle.engine_walks.specs.Answers.{weightIn};
 ghost use Rattle.engine_walks.specs.Lists.{foundOr};
 ghost use Rattle.prebuilt_entries.specs.Nearest.{isReached, amount, nearestIn};
 use super::rows::rank_of;
+use columns::TableWeight;
 use columns::Weight;
 
 // How much a weight of a table is, 0 for none.
-fn amount_of(x: i32) -> Weight
+fn amount_of(x: TableWeight) -> Weight
     ensures { λ r. ⌜ r ≡ amount x ⌝ }
 {
     let rank = rank_of(x);
     if rank == 0 {
         return 0;
     }
-    (rank - 1) as u32
+    rank - 1
 }
 
 // The same of the weight of u, none past the column's end.
-pub fn amount_at(least: &[i32], u: usize) -> Weight
+pub fn amount_at(least: &[TableWeight], u: usize) -> Weight
     ensures { λ r. ⌜ r ≡ amount (weightIn (now (least .entry)) u) ⌝ }
 {
     if u < least.len() {
@@ -31,7 +32,7 @@ pub fn amount_at(least: &[i32], u: usize) -> Weight
 }
 
 // Whether a table reaches u.
-fn is_reached(least: &[i32], u: usize) -> bool
+fn is_reached(least: &[TableWeight], u: usize) -> bool
     ensures { λ r. ⌜ r ≡ isReached (weightIn (now (least .entry)) u) ⌝ }
 {
     if u < least.len() {
@@ -41,7 +42,7 @@ fn is_reached(least: &[i32], u: usize) -> bool
 }
 
 // The nearer of u and the best vertex before it; the column's length stands for none.
-fn nearer(byte: u8, least: &[i32], u: usize, best: usize) -> usize
+fn nearer(byte: u8, least: &[TableWeight], u: usize, best: usize) -> usize
     requires { ⌜ u < length (now least) ⌝ }
     ensures { λ r. ⌜ ((bytes : List ℕ) → getD bytes u 0 ≡ byte → best ≡ foundOr (length (now (least .entry))) (nearestIn bytes (now (least .entry)) u) → r ≡ foundOr (length (now (least .entry))) (nearestIn bytes (now (least .entry)) (u + 1))) ⌝ }
 {
@@ -61,7 +62,7 @@ fn nearer(byte: u8, least: &[i32], u: usize, best: usize) -> usize
 }
 
 // The nearest virtual vertex in a table; the column's length stands for none.
-pub fn nearest_place(boundary: &[u8], least: &[i32]) -> usize
+pub fn nearest_place(boundary: &[u8], least: &[TableWeight]) -> usize
     requires { ⌜ length (now boundary) ≡ length (now least) ⌝ }
     ensures { λ r. ⌜ r ≡ foundOr (length (now (least .entry))) (nearestIn (now (boundary .entry)) (now (least .entry)) (length (now (least .entry)))) ⌝ }
 {

@@ -5,9 +5,9 @@ use mathlib.Core.Option.{Option, some, none}
 use Prim.Native.Nat.{ℕ, suc, _<_}
 use lib.Dec.{ltb}
 use borrow.Author.Tests.{lt-ltb}
+use Rattle.columns.specs.Limits.{sumLimit}
 use Rattle.engine_walks.specs.Settling.{State, weightAt, lesser, firstLeast}
 use Rattle.engine_walks.specs.Answers.{weightOf}
-use Rattle.query_relaxing.specs.Ready.{sumLimit}
 use Rattle.query_crossing_answer.specs.Codes.{codeOf}
 
 module _ (s : State) (test : ℕ → Bool) where

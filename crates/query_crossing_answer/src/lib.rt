@@ -5,12 +5,14 @@ ghost use mathlib.Core.List.{List};
 ghost use Prim.Native.Nat.{ℕ, _<_};
 ghost use lib.ListN.{length, getD};
 ghost use lib.Dec.{eqb, ltb};
+ghost use Rattle.columns.specs.Limits.{sumLimit};
 ghost use Rattle.engine_columns.specs.Records.{engineIn};
 ghost use Rattle.engine_walks.specs.Settling.{firstLeast, weightAt};
 ghost use Rattle.engine_walks.specs.Answers.{taken, weightOf};
-ghost use Rattle.query_relaxing.specs.Ready.{stateOf, sumLimit};
+ghost use Rattle.query_relaxing.specs.Ready.{stateOf};
 ghost use Rattle.query_crossing_answer.specs.Codes.{codeOf};
 ghost use Rattle.query_crossing_answer.specs.Crossing.{crossingAsked};
+use columns::SUM_LIMIT;
 use columns::Weight;
 use columns::questions::at_most;
 use columns::questions::both;
@@ -24,7 +26,7 @@ pub enum CrossingReply {
 }
 
 // A weight that no vertex has.
-pub const NO_WEIGHT: Weight = 2147483648;
+pub const NO_WEIGHT: Weight = SUM_LIMIT;
 
 // The lesser of two weights where the second is that of a right vertex that was taken, else the first.
 fn nearer(best: Weight, boundary: u8, status: u8, weight: Weight) -> Weight
@@ -85,7 +87,7 @@ pub fn crossing_asked(
 
 // 18, or the crossing weight that was found.
 pub fn reply(found: Weight) -> CrossingReply
-    ensures { λ r. ⌜ r ≡ cond (eqb found 2147483648) (CrossingReply.Refused 18) (CrossingReply.Crossed found) ⌝ }
+    ensures { λ r. ⌜ r ≡ cond (eqb found sumLimit) (CrossingReply.Refused 18) (CrossingReply.Crossed found) ⌝ }
 {
     if found == NO_WEIGHT {
         return CrossingReply::Refused(18);

@@ -12,6 +12,7 @@ use lib.Seq.{sets}
 use lib.Dec.{leb, eqb}
 use lib.IntN.{ℤ}
 use borrow.Author.Tests.{leb-true, eq-eqb, ne-eqb}
+use Rattle.columns.specs.Limits.{sumLimit}
 use Rattle.columns.specs.Lists.{each, after}
 use Rattle.columns.specs.Questions.{ask}
 use Rattle.columns.proofs.Counting.{length-each}
@@ -25,7 +26,6 @@ use Rattle.engine_columns.proofs.Refusals.{Long, long-of, Sound, sound-of}
 use Rattle.engine_walks.specs.Graph.{Graph}
 use Rattle.engine_walks.specs.Settling.{State, weightAt, firstLeast}
 use Rattle.engine_walks.specs.Answers.{taken, tableWeight, weightOf, fromLeft, leastFromLeft, nearestRight, crossing}
-use Rattle.query_relaxing.specs.Ready.{sumLimit}
 use Rattle.query_crossing_answer.specs.declared.CrossingReply.the-variants.{Crossed, Refused}
 use Rattle.query_crossing_answer.specs.Crossing.{isJoined, weightFound, crossingSaid, crossingAsked}
 use Rattle.query_crossing_answer.specs.Codes.{codeOf}
@@ -35,8 +35,8 @@ use Rattle.columns.proofs.Refusals.{met, goes-on}
 
 -- r stands for a crossing weight or for none.
 abbrev pub Coded : ℕ → Option ℕ → Type 0
-Coded r none = r ≡ 2147483648
-Coded r (some weight) = (r ≡ weight) × (weight < 2147483648)
+Coded r none = r ≡ sumLimit
+Coded r (some weight) = (r ≡ weight) × (weight < sumLimit)
 
 -- the column where a weight was found, else unchanged.
 abbrev pub whereFound : Option ℕ → List ℤ → List ℤ → List ℤ
@@ -51,13 +51,13 @@ coded-of s (some v) h = (refl, h v)
 
 -- ---- what becomes of a code
 
-pub reply-of : (r : ℕ) (c : Option ℕ) → Coded r c → Answered (crossingSaid (cond (eqb r 2147483648) (Refused 18) (Crossed r))) (ask (isJoined c) 18 0) (weightFound c) 0
-reply-of r none e = rw (eq-eqb r 2147483648 e) (refuses-of refl (λ q. absurd (omega arith)))
-reply-of r (some w) (e, h) = rw (ne-eqb r 2147483648 (λ q. omega arith), e) (accepts-of refl)
+pub reply-of : (r : ℕ) (c : Option ℕ) → Coded r c → Answered (crossingSaid (cond (eqb r sumLimit) (Refused 18) (Crossed r))) (ask (isJoined c) 18 0) (weightFound c) 0
+reply-of r none e = rw (eq-eqb r sumLimit e) (refuses-of refl (λ q. absurd (omega arith)))
+reply-of r (some w) (e, h) = rw (ne-eqb r sumLimit (λ q. omega arith), e) (accepts-of refl)
 
-pub column-of : (r : ℕ) (c : Option ℕ) (column weights₀ : List ℤ) → Coded r c → cond (eqb r 2147483648) weights₀ (sets weights₀ 0 column) ≡ whereFound c column weights₀
-column-of r none column weights₀ e = ap (λ b. cond b weights₀ (sets weights₀ 0 column)) (eq-eqb r 2147483648 e)
-column-of r (some w) column weights₀ (e, h) = ap (λ b. cond b weights₀ (sets weights₀ 0 column)) (ne-eqb r 2147483648 (λ q. omega arith))
+pub column-of : (r : ℕ) (c : Option ℕ) (column weights₀ : List ℤ) → Coded r c → cond (eqb r sumLimit) weights₀ (sets weights₀ 0 column) ≡ whereFound c column weights₀
+column-of r none column weights₀ e = ap (λ b. cond b weights₀ (sets weights₀ 0 column)) (eq-eqb r sumLimit e)
+column-of r (some w) column weights₀ (e, h) = ap (λ b. cond b weights₀ (sets weights₀ 0 column)) (ne-eqb r sumLimit (λ q. omega arith))
 
 pub column-after : (c : Option ℕ) (column weights₀ : List ℤ) → length column ≤ length weights₀ → whereFound c column weights₀ ≡ after (ask (isJoined c) 18 0) column weights₀
 column-after none column weights₀ h = refl
@@ -118,10 +118,10 @@ module _ (g : Graph) (w : ℕ → ℕ) (s : State) (state : s ≡ fromLeft g w) 
       (coded-of (fromLeft g w) (nearestRight g w) (subst (λ t. (v : ℕ) → weightAt t v < sumLimit) state (within-all s (g .vertices) fits within)))
 
   pub column-is : (r k : ℕ) (out₀ out : List ℤ) → k ≡ g .vertices → Coded r (crossing g w)
-      → out ≡ cond (eqb r 2147483648) out₀ (sets out₀ 0 (each k (tableWeight s))) → out ≡ whereFound (crossing g w) (leastFromLeft g w) out₀
+      → out ≡ cond (eqb r sumLimit) out₀ (sets out₀ 0 (each k (tableWeight s))) → out ≡ whereFound (crossing g w) (leastFromLeft g w) out₀
   unfolding leastFromLeft
   column-is r k out₀ out e coded q =
-      q ∙ (λ i. cond (eqb r 2147483648) out₀ (sets out₀ 0 (each (e i) (tableWeight (state i))))) ∙ column-of r (crossing g w) (leastFromLeft g w) out₀ coded
+      q ∙ (λ i. cond (eqb r sumLimit) out₀ (sets out₀ 0 (each (e i) (tableWeight (state i))))) ∙ column-of r (crossing g w) (leastFromLeft g w) out₀ coded
 
 pub left-length : (g : Graph) (w : ℕ → ℕ) → length (leastFromLeft g w) ≡ g .vertices
 unfolding leastFromLeft

@@ -6,12 +6,14 @@ ghost use Prim.Native.Nat.{ℕ, _<_, _≤_};
 ghost use lib.ListN.{length, getD};
 ghost use lib.Seq.{sets};
 ghost use lib.Dec.{eqb};
+ghost use Rattle.columns.specs.Limits.{sumLimit};
 ghost use Rattle.columns.specs.Lists.{each};
 ghost use Rattle.engine_columns.specs.Records.{engineIn};
 ghost use Rattle.engine_walks.specs.Answers.{tableWeight};
-ghost use Rattle.query_relaxing.specs.Ready.{stateOf, sumLimit};
+ghost use Rattle.query_relaxing.specs.Ready.{stateOf};
 ghost use Rattle.query_questions.specs.Scratch.{scratchIn};
 ghost use Rattle.query_crossing_answer.specs.Crossing.{FoundCrossing};
+use columns::TableWeight;
 use columns::Weight;
 use engine_columns::EngineCounts;
 use query_crossing_answer::CrossingReply;
@@ -25,9 +27,9 @@ use query_search::search;
 use query_search::write_weights;
 
 // The weight column, where a crossing weight was found.
-fn write_found(found: Weight, status: &[u8], weight: &[Weight], out: &mut [i32])
+fn write_found(found: Weight, status: &[u8], weight: &[Weight], out: &mut [TableWeight])
     requires { ⌜ (length (now weight) ≡ length (now status)) × (length (now status) ≤ length (now out)) × ((v : ℕ) → v < length (now status) → getD (now weight) v 0 < sumLimit) ⌝ }
-    ensures { λ _. ⌜ ((p : List ℕ) → now (out .exit) ≡ cond (eqb found 2147483648) (now (out .entry)) (sets (now (out .entry)) 0 (each (length (now (status .entry))) (tableWeight (stateOf (now (status .entry)) (now (weight .entry)) p))))) ⌝ }
+    ensures { λ _. ⌜ ((p : List ℕ) → now (out .exit) ≡ cond (eqb found sumLimit) (now (out .entry)) (sets (now (out .entry)) 0 (each (length (now (status .entry))) (tableWeight (stateOf (now (status .entry)) (now (weight .entry)) p))))) ⌝ }
 {
     if found == NO_WEIGHT {
         return;
@@ -45,7 +47,7 @@ pub fn crossing(
     boundary: &[u8],
     log_edges: &[u32],
     log_weights: &[Weight],
-    out_weight: &mut [i32],
+    out_weight: &mut [TableWeight],
     neighbor_numbers: &mut [u32],
     list_ends: &mut [u32],
     status: &mut [u8],

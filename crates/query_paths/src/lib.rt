@@ -16,7 +16,7 @@ use engine_columns::EngineCounts;
 use query_questions::query_refusal;
 use query_questions::scratch_fits;
 use query_read_back::is_taken;
-use query_read_back::load;
+use query_read_back::load_weight;
 use query_read_back::path_length;
 use query_read_back::write_path;
 use query_search::Origin;
@@ -33,15 +33,15 @@ fn found_path(
     status: &[u8],
     weight: &[Weight],
     previous: &[u32],
-    a: u32,
-    b: u32,
+    a: VertexIndex,
+    b: VertexIndex,
     out_vertices: &mut [u32],
     out_steps: &mut [Weight],
 ) -> PathAnswer
     requires { ⌜ (length (now status) ≤ 4096) × (length (now status) ≤ length (now «out_vertices»)) × (length (now status) ≤ length (now «out_steps»)) ⌝ }
-    ensures { λ r. ⌜ PathSaid 0 (pathOf (stateOf (now (status .entry)) (now (weight .entry)) (now (previous .entry))) (length (now (status .entry))) a b) r ⌝ }
-    ensures { λ r. ⌜ now («out_vertices» .exit) ≡ verticesAfter (pathOf (stateOf (now (status .entry)) (now (weight .entry)) (now (previous .entry))) (length (now (status .entry))) a b) (now («out_vertices» .entry)) ⌝ }
-    ensures { λ r. ⌜ now («out_steps» .exit) ≡ stepsAfter (pathOf (stateOf (now (status .entry)) (now (weight .entry)) (now (previous .entry))) (length (now (status .entry))) a b) (now («out_steps» .entry)) ⌝ }
+    ensures { λ r. ⌜ PathSaid 0 (pathOf (stateOf (now (status .entry)) (now (weight .entry)) (now (previous .entry))) (length (now (status .entry))) (a .0) (b .0)) r ⌝ }
+    ensures { λ r. ⌜ now («out_vertices» .exit) ≡ verticesAfter (pathOf (stateOf (now (status .entry)) (now (weight .entry)) (now (previous .entry))) (length (now (status .entry))) (a .0) (b .0)) (now («out_vertices» .entry)) ⌝ }
+    ensures { λ r. ⌜ now («out_steps» .exit) ≡ stepsAfter (pathOf (stateOf (now (status .entry)) (now (weight .entry)) (now (previous .entry))) (length (now (status .entry))) (a .0) (b .0)) (now («out_steps» .entry)) ⌝ }
 {
     if is_taken(status, b) {
         let count = path_length(status, previous, a, b);
@@ -55,7 +55,7 @@ fn found_path(
             out_vertices,
             out_steps,
         );
-        return PathAnswer::Found(count as u32, load(weight, b));
+        return PathAnswer::Found(count as u32, load_weight(weight, b));
     }
     PathAnswer::Refused(17)
 }
@@ -122,7 +122,7 @@ pub fn get_path(
             ends_b,
             weights,
             boundary,
-            Origin::At(a.0, b.0),
+            Origin::At(a, b),
             neighbor_numbers,
             list_ends,
             status,
@@ -135,8 +135,8 @@ pub fn get_path(
             &status[..v],
             &weight[..v],
             &previous[..v],
-            a.0,
-            b.0,
+            a,
+            b,
             out_vertices,
             out_steps,
         );

@@ -81,11 +81,11 @@ pub fn query_refusal(
 }
 
 // The number after which a search from the source stops, where an end is named: where that is the source, the number of vertices, which no vertex has.
-pub fn named_stop(b: VertexIndex, source: u32, vertices: u32) -> u32
-    ensures { λ r. ⌜ r ≡ cond (eqb (b .0) source) vertices (b .0) ⌝ }
+pub fn named_stop(b: VertexIndex, source: VertexIndex, vertices: u32) -> VertexIndex
+    ensures { λ r. ⌜ r .0 ≡ cond (eqb (b .0) (source .0)) vertices (b .0) ⌝ }
 {
-    if b.0 == source {
-        return vertices;
+    if b.0 == source.0 {
+        return VertexIndex(vertices);
     }
-    b.0
+    b
 }

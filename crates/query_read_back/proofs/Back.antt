@@ -83,7 +83,7 @@ sets-before xs i y j [] h = refl
 sets-before xs i y j (z ∷ ys) h =
     ap (λ (l : List ℕ). sets l (suc j) ys) (set-comm xs i j y z (λ e. omega (arith, h, e))) ∙ sets-before (set xs j z) i y (suc j) ys (omega (arith, h))
 
-step-some : (s : State) (a v p : ℕ) → stepBack s a v ≡ some p → p ≡ previousAt s v
+pub step-some : (s : State) (a v p : ℕ) → stepBack s a v ≡ some p → p ≡ previousAt s v
 step-some s a v p e = go (eqb v a) (taken s v) e
   where
     go : (x y : Bool) → cond x none (cond y (some (previousAt s v)) none) ≡ some p → p ≡ previousAt s v
@@ -132,6 +132,14 @@ module _ (s : State) (a n b : ℕ) (vertices₀ steps₀ : List ℕ) where
           let q = ap (λ r. length (readBack s a r v)) e ∙ ap length (back-zero s a v) in
           let c = w .count in absurd (omega (arith, q, c))
       by-room (suc m) e = by-step m e (stepBack s a v) refl
+
+  -- while places are left, there is a step back
+  pub step-there : (i v : ℕ) (vertices steps : List ℕ) → Written s a n b (suc i) v vertices₀ vertices steps₀ steps → stepBack s a v ≡ none → ⊥
+  step-there i v vertices steps w e = by-room (w .room) refl
+    where
+      by-room : (r : ℕ) → w .room ≡ r → ⊥
+      by-room zero q = let c = w .count in absurd (omega (arith, ap (λ r. length (readBack s a r v)) q ∙ ap length (back-zero s a v), c))
+      by-room (suc m) q = let c = w .count in absurd (omega (arith, ap (λ r. length (readBack s a r v)) q ∙ ap length (back-none s a m v e), c))
 
   all-read : (v : ℕ) (vertices steps : List ℕ) (w : Written s a n b 0 v vertices₀ vertices steps₀ steps) → w .rest ≡ readBack s a n b
   all-read v vertices steps w = sym (w .reads ∙ ap (λ r. r ++ w .rest) (none-left (readBack s a (w .room) v) (w .count)))

@@ -1,7 +1,7 @@
 // A path read back from its last vertex in a settled state.
 ghost use mathlib.Core.Path.{_≡_};
 ghost use mathlib.Core.List.{List, map};
-ghost use Prim.Native.Nat.{ℕ, _≤_};
+ghost use Prim.Native.Nat.{ℕ, _-_, _≤_};
 ghost use lib.ListN.{length, getD};
 ghost use lib.Seq.{sets};
 ghost use Rattle.engine_walks.specs.Answers.{entry, readBack, stepInto, taken};
@@ -17,46 +17,54 @@ pub enum TableEntry {
 }
 
 // The entry of vertex v.
-fn entry_at(status: &[u8], previous: &[u32], v: u32) -> TableEntry
-    ensures { λ r. ⌜ ((w : List ℕ) → r ≡ entryOf (entry (stateOf (now (status .entry)) w (now (previous .entry))) v)) ⌝ }
+fn entry_at(status: &[u8], previous: &[u32], v: VertexIndex) -> TableEntry
+    ensures { λ r. ⌜ ((w : List ℕ) → r ≡ entryOf (entry (stateOf (now (status .entry)) w (now (previous .entry))) (v .0))) ⌝ }
 {
-    let at = v as usize;
+    let at = v.0 as usize;
     if status.len() <= at {
         return TableEntry::None;
     }
     if status[at] != 2 {
         return TableEntry::None;
     }
-    TableEntry::Previous(VertexIndex(load(previous, v)))
+    TableEntry::Previous(VertexIndex(load_previous(previous, v)))
 }
 
-// What a column holds for v, 0 past its end.
-pub fn load(column: &[u32], v: u32) -> u32
-    ensures { λ r. ⌜ r ≡ getD (now (column .entry)) v 0 ⌝ }
+// The previous vertex of v, 0 past the column's end.
+fn load_previous(previous: &[u32], v: VertexIndex) -> u32
+    ensures { λ r. ⌜ r ≡ getD (now (previous .entry)) (v .0) 0 ⌝ }
 {
-    let at = v as usize;
-    if at < column.len() {
-        return column[at];
+    let at = v.0 as usize;
+    if at < previous.len() {
+        return previous[at];
+    }
+    0
+}
+
+// The weight of v, 0 past the column's end.
+pub fn load_weight(weight: &[Weight], v: VertexIndex) -> Weight
+    ensures { λ r. ⌜ r ≡ getD (now (weight .entry)) (v .0) 0 ⌝ }
+{
+    let at = v.0 as usize;
+    if at < weight.len() {
+        return weight[at];
     }
     0
 }
 
 // One step back from v on the way to a: none at a, and where v was not taken.
-fn step_back(status: &[u8], previous: &[u32], a: u32, v: u32) -> TableEntry
-    ensures { λ r. ⌜ ((w : List ℕ) → r ≡ entryOf (stepBack (stateOf (now (status .entry)) w (now (previous .entry))) a v)) ⌝ }
+fn step_back(status: &[u8], previous: &[u32], a: VertexIndex, v: VertexIndex) -> TableEntry
+    ensures { λ r. ⌜ ((w : List ℕ) → r ≡ entryOf (stepBack (stateOf (now (status .entry)) w (now (previous .entry))) (a .0) (v .0))) ⌝ }
 {
-    if v == a {
+    if v.0 == a.0 {
         return TableEntry::None;
     }
-    let TableEntry::Previous(p) = entry_at(status, previous, v) else {
-        return TableEntry::None;
-    };
-    TableEntry::Previous(p)
+    entry_at(status, previous, v)
 }
 
 // How many vertices the path from a to b has.
-pub fn path_length(status: &[u8], previous: &[u32], a: u32, b: u32) -> usize
-    ensures { λ r. ⌜ ((w : List ℕ) → r ≡ length (readBack (stateOf (now (status .entry)) w (now (previous .entry))) a (length (now (status .entry))) b)) ⌝ }
+pub fn path_length(status: &[u8], previous: &[u32], a: VertexIndex, b: VertexIndex) -> usize
+    ensures { λ r. ⌜ ((w : List ℕ) → r ≡ length (readBack (stateOf (now (status .entry)) w (now (previous .entry))) (a .0) (length (now (status .entry))) (b .0))) ⌝ }
 {
     let n = status.len();
     let mut v = b;
@@ -65,18 +73,18 @@ pub fn path_length(status: &[u8], previous: &[u32], a: u32, b: u32) -> usize
         let TableEntry::Previous(p) = step_back(status, previous, a, v) else {
             return j;
         };
-        v = p.0;
+        v = p;
         j += 1;
     }
     j
 }
 
-// The weight of the last step to v.
-fn step_into(weight: &[Weight], previous: &[u32], v: u32) -> Weight
-    ensures { λ r. ⌜ ((t : List ℕ) → r ≡ stepInto (stateOf t (now (weight .entry)) (now (previous .entry))) v) ⌝ }
+// The weight of the step from p to v, 0 where v weighs less.
+fn step_weight(weight: &[Weight], p: VertexIndex, v: VertexIndex) -> Weight
+    ensures { λ r. ⌜ r ≡ getD (now (weight .entry)) (v .0) 0 - getD (now (weight .entry)) (p .0) 0 ⌝ }
 {
-    let at = load(weight, v);
-    let before = load(weight, load(previous, v));
+    let at = load_weight(weight, v);
+    let before = load_weight(weight, p);
     if at < before {
         return 0;
     }
@@ -88,31 +96,34 @@ pub fn write_path(
     status: &[u8],
     weight: &[Weight],
     previous: &[u32],
-    a: u32,
-    b: u32,
+    a: VertexIndex,
+    b: VertexIndex,
     count: usize,
     out_vertices: &mut [u32],
     out_steps: &mut [Weight],
 )
-    requires { ⌜ (count ≡ length (readBack (stateOf (now status) (now weight) (now previous)) a (length (now status)) b)) × (count ≤ length (now «out_vertices»)) × (count ≤ length (now «out_steps»)) ⌝ }
-    ensures { λ _. ⌜ now («out_vertices» .exit) ≡ sets (now («out_vertices» .entry)) 0 (readBack (stateOf (now (status .entry)) (now (weight .entry)) (now (previous .entry))) a (length (now (status .entry))) b) ⌝ }
-    ensures { λ _. ⌜ now («out_steps» .exit) ≡ sets (now («out_steps» .entry)) 0 (map (stepInto (stateOf (now (status .entry)) (now (weight .entry)) (now (previous .entry)))) (readBack (stateOf (now (status .entry)) (now (weight .entry)) (now (previous .entry))) a (length (now (status .entry))) b)) ⌝ }
+    requires { ⌜ (count ≡ length (readBack (stateOf (now status) (now weight) (now previous)) (a .0) (length (now status)) (b .0))) × (count ≤ length (now «out_vertices»)) × (count ≤ length (now «out_steps»)) ⌝ }
+    ensures { λ _. ⌜ now («out_vertices» .exit) ≡ sets (now («out_vertices» .entry)) 0 (readBack (stateOf (now (status .entry)) (now (weight .entry)) (now (previous .entry))) (a .0) (length (now (status .entry))) (b .0)) ⌝ }
+    ensures { λ _. ⌜ now («out_steps» .exit) ≡ sets (now («out_steps» .entry)) 0 (map (stepInto (stateOf (now (status .entry)) (now (weight .entry)) (now (previous .entry)))) (readBack (stateOf (now (status .entry)) (now (weight .entry)) (now (previous .entry))) (a .0) (length (now (status .entry))) (b .0))) ⌝ }
 {
     let mut v = b;
     let mut i = count;
     while 0 < i {
+        let TableEntry::Previous(p) = step_back(status, previous, a, v) else {
+            return;
+        };
         i -= 1;
-        out_vertices[i] = v;
-        out_steps[i] = step_into(weight, previous, v);
-        v = load(previous, v);
+        out_vertices[i] = v.0;
+        out_steps[i] = step_weight(weight, p, v);
+        v = p;
     }
 }
 
 // Whether v was taken.
-pub fn is_taken(status: &[u8], v: u32) -> bool
-    ensures { λ r. ⌜ ((w p : List ℕ) → r ≡ taken (stateOf (now (status .entry)) w p) v) ⌝ }
+pub fn is_taken(status: &[u8], v: VertexIndex) -> bool
+    ensures { λ r. ⌜ ((w p : List ℕ) → r ≡ taken (stateOf (now (status .entry)) w p) (v .0)) ⌝ }
 {
-    let at = v as usize;
+    let at = v.0 as usize;
     if at < status.len() {
         return status[at] == 2;
     }

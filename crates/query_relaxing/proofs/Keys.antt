@@ -10,12 +10,13 @@ use lib.ListN.{length, getD, set, length-set}
 use lib.Seq.{getD-set-same, getD-set-other}
 use lib.Dec.{eqb}
 use borrow.Author.Tests.{eq-eqb, ne-eqb}
+use Rattle.columns.specs.Limits.{sumLimit}
 use Rattle.query_queue.specs.Tree.{Tree}
 use Rattle.query_queue.specs.Tree as Q
 use Rattle.engine_walks.specs.Graph.{Graph, endA, endB}
 use Rattle.engine_walks.specs.Settling.{State, statusAt, weightAt, previousAt, changes, waits, mark, byStatus, offer, relaxEdge}
 use Rattle.engine_walks.proofs.TurnCases.{edge-from-a, edge-from-b}
-use Rattle.query_relaxing.specs.Ready.{keyOf, takesUp, Ready, Listed, sumLimit}
+use Rattle.query_relaxing.specs.Ready.{keyOf, takesUp, Ready, Listed}
 
 -- a store into one place, read at any place
 stored : (l : List ℕ) (u x v : ℕ) → u < length l → ((v ≡ u) × (getD (set l u x) v 0 ≡ x)) ⊎ ((v ≡ u → ⊥) × (getD (set l u x) v 0 ≡ getD l v 0))

@@ -7,6 +7,7 @@ use mathlib.Core.List.{List}
 use mathlib.Core.Option.{Option, some, none}
 use lib.ListN.{length, getD, take}
 use lib.Dec.{eqb, ltb}
+use Rattle.columns.specs.Limits.{weightLimit, sumLimit}
 use Rattle.columns.specs.Lists.{each}
 use Rattle.query_queue.specs.Tree.{Tree}
 use Rattle.query_queue.specs.Tree as Q
@@ -29,10 +30,6 @@ stateOf status weight previous = record { status = status; weight = weight; prev
 -- Engine, Settling, sentence 1: the key of vertex v: weight first, then number, so that the least key is that of the vertex to take; none where v does not wait.
 abbrev pub keyOf : (status weight v : ℕ) → ℕ
 keyOf status weight v = cond (eqb status 1) (weight * 4096 + v) Q.noKey
-
--- Records, last sentence: sums fit 32 signed bits, that is, they are below this limit.
-abbrev pub sumLimit : ℕ
-sumLimit = 2147483648
 
 -- Engine, Settling, sentence 4: whether an offer is taken up, by the status of the vertex.
 abbrev pub takesUp : ℕ → Bool → Bool
@@ -101,7 +98,7 @@ pub record Begun (status weight previous w : List ℕ) (stop : ℕ) : Type 0 whe
   pub bytes : (v : ℕ) → getD status v 0 ≤ 1
   pub no-weight : weight ≡ each (length status) (λ v. 0)
   pub own-previous : previous ≡ each (length status) (λ v. v)
-  pub weights-within : (e : ℕ) → e < length w → getD w e 0 ≤ 500000
+  pub weights-within : (e : ℕ) → e < length w → getD w e 0 ≤ weightLimit
   pub no-source : getD status stop 0 ≡ 1 → ⊥
 
 -- Engine, Settling, sentence 3: the first i leaves hold the keys of the vertices that wait with weight 0, the others none.

@@ -3,10 +3,11 @@ use mathlib.Core.Path.{_≡_, ap, _∙_}
 use Prim.Native.Nat.{ℕ, _<_}
 use native.Mathlib.Omega.{arith}
 use lib.ListN.{length, getD, take}
+use Rattle.columns.specs.Limits.{sumLimit}
 use Rattle.columns.proofs.Columns.{take-over}
 use Rattle.engine_walks.specs.Graph.{Graph}
 use Rattle.engine_walks.specs.Settling.{State}
-use Rattle.query_relaxing.specs.Ready.{stateOf, sumLimit}
+use Rattle.query_relaxing.specs.Ready.{stateOf}
 use Rattle.query_questions.specs.Scratch.{ScratchColumns, SearchAfter}
 use Rattle.query_search.specs.Search.{Settles}
 

@@ -3,6 +3,7 @@ use Prim.Native.Nat.{ℕ, _+_, _*_, _<_, _≤_}
 use mathlib.Core.Path.{_≡_}
 use mathlib.Core.List.{List}
 use lib.ListN.{length, getD, set, replicate}
+use Rattle.columns.specs.Limits.{weightLimit, sumLimit}
 use Rattle.columns.specs.Lists.{each, over}
 use Rattle.columns_neighbors.specs.Lists.{lists}
 use Rattle.columns_neighbors.specs.Sound.{SoundGraph}
@@ -11,7 +12,7 @@ use Rattle.engine_walks.specs.Graph.{Graph}
 use Rattle.engine_walks.specs.Lists.{delta}
 use Rattle.engine_walks.specs.Settling.{State, weightAt, settled}
 use Rattle.engine_walks.specs.Answers.{only, fromLeft}
-use Rattle.query_relaxing.specs.Ready.{stateOf, Ready, endOf, sumLimit}
+use Rattle.query_relaxing.specs.Ready.{stateOf, Ready, endOf}
 use Rattle.query_questions.specs.Queries.{graphIn, weightsIn}
 use Rattle.query_questions.specs.Scratch.{ScratchColumns, SearchAfter}
 use Rattle.query_search.specs.declared.Origin.{Origin}
@@ -22,7 +23,7 @@ pub record Searchable (n : ℕ) (a b w numbers ends weight previous node leaf : 
   pub graph : SoundGraph n (length a) a b
   pub same-b : length b ≡ length a
   pub same-w : length w ≡ length a
-  pub weights-within : (e : ℕ) → e < length w → getD w e 0 ≤ 500000
+  pub weights-within : (e : ℕ) → e < length w → getD w e 0 ≤ weightLimit
   pub numbers-fit : 2 * length a ≤ length numbers
   pub ends-fit : n ≤ length ends
   pub weight-fits : length weight ≡ n
@@ -37,22 +38,22 @@ pub record ListsBuilt (n : ℕ) (a b numbers₀ numbers ends : List ℕ) : Type 
 
 -- Engine, Settling, sentence 5: where a search begins: at a vertex that is not the one after which it stops.
 abbrev pub Starts : Origin → ℕ → Type 0
-Starts (At a stop) n = (a < n) × (stop ≡ a → ⊥)
+Starts (At a stop) n = (a .0 < n) × (stop .0 ≡ a .0 → ⊥)
 Starts Left n = Unit {0}
 
 -- Engine, Settling, sentence 3, and Crossing, sentence 1: the status bytes before the first turn; the sources wait.
 abbrev pub firstStatus : Origin → (boundary : List ℕ) (n : ℕ) → List ℕ
-firstStatus (At a stop) boundary n = set (replicate n 0) a 1
+firstStatus (At a stop) boundary n = set (replicate n 0) (a .0) 1
 firstStatus Left boundary n = each n (λ v. delta (getD boundary v 0) 1)
 
 -- Engine, Settling, sentence 5: the number after which the search stops; n is that of no vertex.
 abbrev pub stopIn : Origin → (n : ℕ) → ℕ
-stopIn (At a stop) n = stop
+stopIn (At a stop) n = stop .0
 stopIn Left n = n
 
 -- Engine, Settling, sentence 3, and Crossing, sentence 1: the state that the search leaves.
 abbrev pub stateFrom : Origin → Graph → (ℕ → ℕ) → State
-stateFrom (At a stop) g w = settled g w (only a) (endOf (g .vertices) stop)
+stateFrom (At a stop) g w = settled g w (only (a .0)) (endOf (g .vertices) (stop .0))
 stateFrom Left g w = fromLeft g w
 
 -- Records, last sentence: a state of n vertices, few enough, whose weights fit.

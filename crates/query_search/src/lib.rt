@@ -9,20 +9,23 @@ ghost use lib.ListN.{length, getD};
 ghost use lib.Seq.{sets};
 ghost use lib.Dec.{eqb};
 ghost use lib.IntN.{pos, negsuc};
+ghost use Rattle.columns.specs.Limits.{sumLimit};
 ghost use Rattle.columns.specs.Lists.{each};
 ghost use Rattle.engine_walks.specs.Answers.{tableWeight, tablePrevious};
-ghost use Rattle.query_relaxing.specs.Ready.{graphOf, weighs, stateOf, sumLimit};
+ghost use Rattle.query_relaxing.specs.Ready.{graphOf, weighs, stateOf};
 ghost use Rattle.engine_columns.specs.Records.{engineWithoutLog};
 ghost use Rattle.engine_columns.specs.Questions.{columnsLong, columnsSound};
 ghost use Rattle.query_questions.specs.Scratch.{scratchIn, scratchFits};
 ghost use Rattle.query_search.specs.Search.{Searchable, Searched, Starts, stateFrom, SearchDone};
+use columns::TableWeight;
+use columns::VertexIndex;
 use columns::Weight;
 use engine_columns::EngineCounts;
 
 // Where a search begins, and after which vertex it stops: at a vertex, with the number after which it stops, one that no vertex has for none; or at every
 // left vertex, with none.
 pub enum Origin {
-    At(u32, u32),
+    At(VertexIndex, VertexIndex),
     Left,
 }
 
@@ -116,18 +119,18 @@ pub fn search(
 }
 
 // The weight in the row of a vertex: -1 where it was not taken.
-fn row_weight(status: u8, weight: Weight) -> i32
+fn row_weight(status: u8, weight: Weight) -> TableWeight
     requires { ⌜ weight < sumLimit ⌝ }
     ensures { λ r. ⌜ r ≡ cond (eqb status 2) (pos weight) (negsuc 0) ⌝ }
 {
     if status == 2 {
-        return weight as i32;
+        return weight as TableWeight;
     }
     -1
 }
 
 // The weights of the table, from the column's start.
-pub fn write_weights(status: &[u8], weight: &[Weight], out: &mut [i32])
+pub fn write_weights(status: &[u8], weight: &[Weight], out: &mut [TableWeight])
     requires { ⌜ (length (now weight) ≡ length (now status)) × (length (now status) ≤ length (now out)) × ((v : ℕ) → v < length (now status) → getD (now weight) v 0 < sumLimit) ⌝ }
     ensures { λ _. ⌜ ((p : List ℕ) → now (out .exit) ≡ sets (now (out .entry)) 0 (each (length (now (status .entry))) (tableWeight (stateOf (now (status .entry)) (now (weight .entry)) p)))) ⌝ }
 {

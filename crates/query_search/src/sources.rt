@@ -10,15 +10,16 @@ ghost use Rattle.columns.specs.Lists.{each};
 ghost use Rattle.query_relaxing.specs.Ready.{stateOf, Ready, Keyed};
 ghost use Rattle.query_search.specs.Search.{firstStatus, stopIn};
 use super::Origin;
+use columns::VertexIndex;
 use columns::Weight;
 
 // Every vertex is absent but a, which waits.
-fn begin_at(status: &mut [u8], a: u32)
-    ensures { λ _. ⌜ now (status .exit) ≡ set (replicate (length (now (status .entry))) 0) a 1 ⌝ }
+fn begin_at(status: &mut [u8], a: VertexIndex)
+    ensures { λ _. ⌜ now (status .exit) ≡ set (replicate (length (now (status .entry))) 0) (a .0) 1 ⌝ }
 {
     let n = status.len();
     columns_stores::fill_u8(status, n, 0);
-    let at = a as usize;
+    let at = a.0 as usize;
     if at < n {
         status[at] = 1;
     }
@@ -55,12 +56,12 @@ pub fn begin_status(origin: Origin, status: &mut [u8], boundary: &[u8])
 }
 
 // The number after which the search stops: that of no vertex where it begins at the left.
-pub fn stop_in(origin: Origin, vertices: u32) -> u32
-    ensures { λ r. ⌜ r ≡ stopIn origin vertices ⌝ }
+pub fn stop_in(origin: Origin, vertices: u32) -> VertexIndex
+    ensures { λ r. ⌜ r .0 ≡ stopIn origin vertices ⌝ }
 {
     match origin {
         Origin::At(a, stop) => stop,
-        Origin::Left => vertices,
+        Origin::Left => VertexIndex(vertices),
     }
 }
 
@@ -117,7 +118,7 @@ pub fn begin(
     ensures { λ _. ⌜ now (previous .exit) ≡ each (length (now (status .entry))) (λ v. v) ⌝ }
 {
     let n = status.len();
-    columns_stores::fill_u32(weight, n, 0);
+    columns_stores::fill_weights(weight, n, 0);
     own_previous(previous);
     put_sources(status, node, leaf);
 }

@@ -12,6 +12,7 @@ use lib.ListN.{length, getD, take, drop, length-drop}
 use lib.Seq.{getD-take, getD-drop}
 use lib.Dec.{eqb}
 use borrow.Author.Tests.{eq-eqb, ne-eqb, eqb-true}
+use Rattle.columns.specs.Limits.{sumLimit}
 use Rattle.columns.specs.Lists.{joined}
 use Rattle.query_queue.specs.Tree.{Least}
 use Rattle.query_queue.specs.Tree as Q
@@ -22,7 +23,7 @@ use Rattle.engine_walks.specs.Settling as S
 use Rattle.engine_walks.specs.Settling.{State, statusAt, weightAt, previousAt, toTake, mark, relaxEdge, takeChosen, relaxAlong}
 use Rattle.engine_walks.proofs.FirstLeast.{first-least-one}
 use Rattle.engine_walks.proofs.Neighbors.{incident, incident-is, along-next, relax-incident}
-use Rattle.query_relaxing.specs.Ready.{keyOf, Ready, Listed, Along, Offers, sumLimit, graphOf, weighs, startIn}
+use Rattle.query_relaxing.specs.Ready.{keyOf, Ready, Listed, Along, Offers, graphOf, weighs, startIn}
 
 -- ---- the least key
 

@@ -57,7 +57,7 @@ module _ (n : ℕ) (a b w status weight previous : List ℕ) (stop : ℕ) (len :
     offers-fit l few h v e p k =
         let g = graphOf n a b [] in
         let ok : GraphInRange g = record { a-in = l .in-a; b-in = l .in-b; byte = λ v h. omega arith } in
-        let q = sums-fit g (weighs w) ok .1 few (λ e h. begun .weights-within e (omega (arith, l .same-w))) .offers source end t v e h (omega (arith, l .same-w)) (ap (λ z. statusAt z v) (sym (at [])) ∙ p) in
+        let q = sums-fit g (weighs w) ok .1 few (λ e h. begun .weights-within e (omega (arith, l .same-w))) .0 .offers source end t v e h (omega (arith, l .same-w)) (ap (λ z. statusAt z v) (sym (at [])) ∙ p) in
         omega (arith, ap (λ z. weightAt z v) (at []), q)
 
     -- the end was taken, or nothing waits: that was the last turn

@@ -8,6 +8,8 @@ ghost use lib.ListN.{length, getD, take, drop};
 ghost use lib.Dec.{eqb, ltb};
 ghost use Rattle.engine_walks.specs.Settling.{takeChosen, toTake, settled, relaxAlong};
 ghost use Rattle.query_relaxing.specs.Ready.{graphOf, weighs, stateOf, Ready, Listed, Along, Offers, sources, endOf, startIn, Begun};
+use columns::EdgeIndex;
+use columns::VertexIndex;
 use columns::Weight;
 use columns::wide;
 use query_relaxing::relax_edge;
@@ -25,13 +27,13 @@ fn relax_list(
     previous: &mut [u32],
     node: &mut [u64],
     leaf: &mut [u64],
-    a: u32,
-    q: u32,
+    a: VertexIndex,
+    q: VertexIndex,
     w: Weight,
 )
     requires { ⌜ Ready (length (now status)) (stateOf (now status) (now weight) (now previous)) (now node) (now leaf) ⌝ }
-    requires { ⌜ Along (length (now status)) (now «ends_a») (now «ends_b») (now weights) (now «neighbor_numbers») from to a w ⌝ }
-    ensures { λ _. ⌜ ((n : ℕ) (m : List ℕ) → stateOf (now (status .exit)) (now (weight .exit)) (now (previous .exit)) ≡ relaxAlong (graphOf n (now («ends_a» .entry)) (now («ends_b» .entry)) m) (weighs (now (weights .entry))) a q w (take (to - from) (drop from (now («neighbor_numbers» .entry)))) (stateOf (now (status .entry)) (now (weight .entry)) (now (previous .entry)))) ⌝ }
+    requires { ⌜ Along (length (now status)) (now «ends_a») (now «ends_b») (now weights) (now «neighbor_numbers») from to (a .0) w ⌝ }
+    ensures { λ _. ⌜ ((n : ℕ) (m : List ℕ) → stateOf (now (status .exit)) (now (weight .exit)) (now (previous .exit)) ≡ relaxAlong (graphOf n (now («ends_a» .entry)) (now («ends_b» .entry)) m) (weighs (now (weights .entry))) (a .0) (q .0) w (take (to - from) (drop from (now («neighbor_numbers» .entry)))) (stateOf (now (status .entry)) (now (weight .entry)) (now (previous .entry)))) ⌝ }
     ensures { λ _. ⌜ Ready (length (now (status .entry))) (stateOf (now (status .exit)) (now (weight .exit)) (now (previous .exit))) (now (node .exit)) (now (leaf .exit)) ⌝ }
 {
     let mut i = from;
@@ -48,7 +50,7 @@ fn relax_list(
             a,
             q,
             w,
-            neighbor_numbers[i],
+            EdgeIndex(neighbor_numbers[i]),
         );
         i += 1;
     }
@@ -110,18 +112,18 @@ fn turn(
         previous,
         node,
         leaf,
-        a,
-        q,
+        VertexIndex(a),
+        VertexIndex(q),
         w,
     );
     true
 }
 
 // Whether the vertex after which settling stops has been taken; a number that is no vertex stops nothing.
-fn is_stopped(status: &[u8], stop: u32) -> bool
-    ensures { λ r. ⌜ r ≡ (ltb stop (length (now (status .entry))) && eqb (getD (now (status .entry)) stop 0) 2) ⌝ }
+fn is_stopped(status: &[u8], stop: VertexIndex) -> bool
+    ensures { λ r. ⌜ r ≡ (ltb (stop .0) (length (now (status .entry))) && eqb (getD (now (status .entry)) (stop .0) 0) 2) ⌝ }
 {
-    let at = stop as usize;
+    let at = stop.0 as usize;
     if at < status.len() {
         return status[at] == 2;
     }
@@ -140,12 +142,12 @@ pub fn settle(
     previous: &mut [u32],
     node: &mut [u64],
     leaf: &mut [u64],
-    stop: u32,
+    stop: VertexIndex,
 )
     requires { ⌜ Ready (length (now status)) (stateOf (now status) (now weight) (now previous)) (now node) (now leaf) ⌝ }
     requires { ⌜ Listed (length (now status)) (now «ends_a») (now «ends_b») (now weights) (now «neighbor_numbers») (now «list_ends») ⌝ }
-    requires { ⌜ Begun (now status) (now weight) (now previous) (now weights) stop ⌝ }
-    ensures { λ _. ⌜ ((m : List ℕ) → stateOf (now (status .exit)) (now (weight .exit)) (now (previous .exit)) ≡ settled (graphOf (length (now (status .entry))) (now («ends_a» .entry)) (now («ends_b» .entry)) m) (weighs (now (weights .entry))) (sources (now (status .entry))) (endOf (length (now (status .entry))) stop)) ⌝ }
+    requires { ⌜ Begun (now status) (now weight) (now previous) (now weights) (stop .0) ⌝ }
+    ensures { λ _. ⌜ ((m : List ℕ) → stateOf (now (status .exit)) (now (weight .exit)) (now (previous .exit)) ≡ settled (graphOf (length (now (status .entry))) (now («ends_a» .entry)) (now («ends_b» .entry)) m) (weighs (now (weights .entry))) (sources (now (status .entry))) (endOf (length (now (status .entry))) (stop .0))) ⌝ }
     ensures { λ _. ⌜ Ready (length (now (status .entry))) (stateOf (now (status .exit)) (now (weight .exit)) (now (previous .exit))) (now (node .exit)) (now (leaf .exit)) ⌝ }
 {
     let n = status.len();

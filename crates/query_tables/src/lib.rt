@@ -5,6 +5,7 @@ ghost use Rattle.query_tables.specs.Ends.{endInRange, stopOf};
 ghost use Rattle.query_tables.specs.Tables.{FoundTable};
 ghost use Rattle.query_questions.specs.Scratch.{scratchIn};
 use columns::Done;
+use columns::TableWeight;
 use columns::VertexIndex;
 use columns::Weight;
 use columns::questions::at_most;
@@ -35,11 +36,11 @@ fn end_in_range(end: End, vertices: u32) -> bool
 }
 
 // The number after which a search from the source stops: that of a named end which is not the source, else one that is no vertex.
-fn stop_of(end: End, source: u32, vertices: u32) -> u32
-    ensures { λ r. ⌜ r ≡ stopOf end source vertices ⌝ }
+fn stop_of(end: End, source: VertexIndex, vertices: u32) -> VertexIndex
+    ensures { λ r. ⌜ r .0 ≡ stopOf end (source .0) vertices ⌝ }
 {
     match end {
-        End::None => vertices,
+        End::None => VertexIndex(vertices),
         End::At(b) => named_stop(b, source, vertices),
     }
 }
@@ -56,7 +57,7 @@ pub fn all_edges_with_terminate(
     log_weights: &[Weight],
     source: VertexIndex,
     end: End,
-    out_weight: &mut [i32],
+    out_weight: &mut [TableWeight],
     out_previous: &mut [u32],
     neighbor_numbers: &mut [u32],
     list_ends: &mut [u32],
@@ -100,14 +101,14 @@ pub fn all_edges_with_terminate(
         0,
     );
     if no == 0 {
-        let stop = stop_of(end, source.0, c.vertices);
+        let stop = stop_of(end, source, c.vertices);
         search(
             c,
             ends_a,
             ends_b,
             weights,
             boundary,
-            Origin::At(source.0, stop),
+            Origin::At(source, stop),
             neighbor_numbers,
             list_ends,
             status,
@@ -133,7 +134,7 @@ pub fn all_edges(
     log_edges: &[u32],
     log_weights: &[Weight],
     source: VertexIndex,
-    out_weight: &mut [i32],
+    out_weight: &mut [TableWeight],
     out_previous: &mut [u32],
     neighbor_numbers: &mut [u32],
     list_ends: &mut [u32],

@@ -2,6 +2,7 @@
 ghost use Prim.Native.Nat.{_≤_};
 use codes_calls::Created;
 use codes_calls::create::create_code;
+use columns::Weight;
 use columns::questions::lesser;
 use test_numbers::bits;
 use test_numbers::checksum;
@@ -79,7 +80,7 @@ fn code_in(
     let mut ends_b = [0u32; 19685];
     let mut p = [0.5; 19685];
     let mut pe = [0.5; 19685];
-    let mut half_weight = [7u32; 19685];
+    let mut half_weight: [Weight; 19685] = [7; 19685];
     let mut erasure = [1u8; 19685];
     let mut pos_i = [0.5; 4096];
     let mut pos_j = [0.5; 4096];

@@ -1,5 +1,6 @@
 // What the test programs share: reading numbers, printing, checksums. A place past the end reads as 0 and is not written.
 use columns::Done;
+use columns::TableWeight;
 use columns::questions::lesser;
 use libc::STDIN_FILENO;
 use libc::STDOUT_FILENO;
@@ -212,7 +213,7 @@ pub fn show_bytes(bytes: &[u8], n: usize) {
 }
 
 // A least weight, or none.
-pub fn show_weight(w: i32) {
+pub fn show_weight(w: TableWeight) {
     if w < 0 {
         write(b"- ");
     } else {
@@ -220,7 +221,7 @@ pub fn show_weight(w: i32) {
     }
 }
 
-pub fn show_weights(list: &[i32], n: usize) {
+pub fn show_weights(list: &[TableWeight], n: usize) {
     let m = lesser(n, list.len());
     let mut i: usize = 0;
     while i < m {

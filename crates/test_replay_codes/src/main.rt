@@ -3,6 +3,7 @@
 // First the number of cases. A case: kind, d, rounds, seed, the places of p and pe in the table below, four edge numbers, an order of 24
 // vertices.
 use codes_calls::Created;
+use columns::Weight;
 use sampling_calls::ListCount;
 use sampling_calls::SyndromeCounts;
 use test_numbers::after;
@@ -209,7 +210,7 @@ fn replay_code(
     let mut ends_b = [0u32; EDGES];
     let mut p = [0.0; EDGES];
     let mut pe = [0.0; EDGES];
-    let mut half_weight = [0u32; EDGES];
+    let mut half_weight: [Weight; EDGES] = [0; EDGES];
     let mut erasure = [0u8; EDGES];
     let mut pos_i = [0.0; VERTICES];
     let mut pos_j = [0.0; VERTICES];

@@ -3,6 +3,7 @@
 // First the number of cases. A case: vertices, edges, queries; first ends, second ends, weights, boundary bytes; a list of four edges and their
 // weights; the queries, three numbers each. A query: 0 source 0, the table; 1 source end, the table up to the end; 2 0 0, load the list as
 // erasures; 3 0 0, load the list with its weights; 4 0 0, reset; 5 0 0, crossing; 6 a b, path. Queries after a refused open have the counts that it was asked for.
+use columns::TableWeight;
 use columns::VertexIndex;
 use columns::Weight;
 use engine_columns::EngineAnswer;
@@ -68,12 +69,12 @@ fn table(
     source: u32,
     end: u32,
 ) {
-    let mut out_weight = [7i32; VERTICES];
+    let mut out_weight: [TableWeight; VERTICES] = [7; VERTICES];
     let mut out_previous = [7u32; VERTICES];
     let mut numbers = [0u32; 2 * EDGES];
     let mut list_ends = [0u32; VERTICES];
     let mut status = [0u8; VERTICES];
-    let mut weight = [0u32; VERTICES];
+    let mut weight: [Weight; VERTICES] = [0; VERTICES];
     let mut previous = [0u32; VERTICES];
     let mut node = [0u64; VERTICES];
     let mut leaf = [0u64; VERTICES];
@@ -125,11 +126,11 @@ fn cross(
     log_edges: &[u32],
     log_weights: &[Weight],
 ) {
-    let mut out_weight = [7i32; VERTICES];
+    let mut out_weight: [TableWeight; VERTICES] = [7; VERTICES];
     let mut numbers = [0u32; 2 * EDGES];
     let mut list_ends = [0u32; VERTICES];
     let mut status = [0u8; VERTICES];
-    let mut weight = [0u32; VERTICES];
+    let mut weight: [Weight; VERTICES] = [0; VERTICES];
     let mut previous = [0u32; VERTICES];
     let mut node = [0u64; VERTICES];
     let mut leaf = [0u64; VERTICES];
@@ -175,11 +176,11 @@ fn path(
     b: u32,
 ) {
     let mut out_vertices = [7u32; VERTICES];
-    let mut out_steps = [7u32; VERTICES];
+    let mut out_steps: [Weight; VERTICES] = [7; VERTICES];
     let mut numbers = [0u32; 2 * EDGES];
     let mut list_ends = [0u32; VERTICES];
     let mut status = [0u8; VERTICES];
-    let mut weight = [0u32; VERTICES];
+    let mut weight: [Weight; VERTICES] = [0; VERTICES];
     let mut previous = [0u32; VERTICES];
     let mut node = [0u64; VERTICES];
     let mut leaf = [0u64; VERTICES];
@@ -392,10 +393,10 @@ fn case(numbers: &[u64], from: usize) -> usize {
     let count = size_at(numbers, after(from, 2));
     let mut in_a = [0u32; EDGES];
     let mut in_b = [0u32; EDGES];
-    let mut in_weights = [0u32; EDGES];
+    let mut in_weights: [Weight; EDGES] = [0; EDGES];
     let mut in_boundary = [0u8; VERTICES];
     let mut list = [0u32; NAMED];
-    let mut values = [0u32; NAMED];
+    let mut values: [Weight; NAMED] = [0; NAMED];
     let first_a = after(from, 3);
     let first_b = after(first_a, e);
     let first_weight = after(first_b, e);
@@ -441,10 +442,10 @@ fn run(
 ) {
     let mut ends_a = [0u32; EDGES];
     let mut ends_b = [0u32; EDGES];
-    let mut weights = [0u32; EDGES];
+    let mut weights: [Weight; EDGES] = [0; EDGES];
     let mut boundary = [0u8; VERTICES];
     let mut log_edges = [0u32; ENTRIES];
-    let mut log_weights = [0u32; ENTRIES];
+    let mut log_weights: [Weight; ENTRIES] = [0; ENTRIES];
     let answer = engine_calls::open(
         vertices,
         edges,

@@ -9,7 +9,7 @@ use lib.Seq.{getD-take}
 use lib.Ieee.{Float}
 use borrow.Author.Tests.{eq-eqb, ne-eqb}
 use Rattle.columns.specs.Lists.{each, over, after}
-use Rattle.columns.specs.Limits.{weightLimit}
+use Rattle.columns.specs.Limits.{weightLimit, halfWeightLimit}
 use Rattle.columns.specs.Places.{zeroFloat}
 use Rattle.columns.specs.Questions.{weightsSound, allWithin}
 use Rattle.columns.proofs.Columns.{after-accepted, take-over, getD-any}
@@ -100,7 +100,7 @@ module _ (kind d rounds : ℕ) (p : Float) (max v e : ℕ) (a b h m : List ℕ) 
   h-at : (k : ℕ) → k < e → getD h k 0 ≡ getD (halfWeights max ps) k 0
   h-at k l = sym (getD-take e h k 0 l) ∙ ap (λ (x : List ℕ). getD x k 0) (s .in-h)
 
-  half-few : (k : ℕ) → k < length ps → getD (halfWeights max ps) k 0 ≤ 250000
+  half-few : (k : ℕ) → k < length ps → getD (halfWeights max ps) k 0 ≤ halfWeightLimit
   half-few k l =
       let f : Float → ℕ = λ x. halfWeight max (edgeWeight x) (largestWeight ps) in
       let q : getD (halfWeights max ps) k 0 ≡ f (getD ps k zeroFloat) = getD-any (halfWeights max ps) k 0 (f zeroFloat) (omega (arith, length-map ps f)) ∙ List·getD-map f ps k zeroFloat in
@@ -112,7 +112,7 @@ module _ (kind d rounds : ℕ) (p : Float) (max v e : ℕ) (a b h m : List ℕ) 
       long-h : length ps ≡ edgeNum kind d rounds
       long-h = sized kind d rounds p (diagonalOf kind p) (Rattle.codes_layers.proofs.Accepted.accepted kind d rounds 0 (s .code) .0)
 
-  pub h-few : (k : ℕ) → k < e → getD h k 0 ≤ 250000
+  pub h-few : (k : ℕ) → k < e → getD h k 0 ≤ halfWeightLimit
   h-few k l = omega (arith, h-at k l, half-few k (omega (arith, long-ps)))
 
   pub h-long : e ≤ length h

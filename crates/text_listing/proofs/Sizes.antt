@@ -26,7 +26,7 @@ pub record ListOpen (kind d rounds max : ℕ) : Type 0 where
   pub vertices : vertexNum kind d rounds ≤ 1024
   pub edges : edgeNum kind d rounds ≤ 6144
   pub max-some : 1 ≤ max
-  pub max-few : max ≤ 250000
+  pub max-few : max ≤ halfWeightLimit
 
 pub list-opened : (kind d rounds : ℕ) (p : Float) (max : ℕ) → listRefusal kind d rounds p max ≡ 0 → ListOpen kind d rounds max
 unfolding listRefusal

@@ -5,6 +5,7 @@ use mathlib.Core.Bool.{true}
 use mathlib.Core.List.{List}
 use lib.ListN.{take}
 use lib.Ieee.{Float}
+use Rattle.columns.specs.Limits.{halfWeightLimit}
 use Rattle.codes_writers.specs.Edges.{firsts, seconds, boundaries}
 use Rattle.codes_layers.specs.Codes.{edgesOf, verticesOf}
 use Rattle.codes_layers.specs.Counts.{vertexNum, edgeNum}
@@ -40,7 +41,7 @@ pub record HoldsCode (kind d rounds : ℕ) (p : Float) (max v e : ℕ) (a b h m 
   pub edges : e ≡ edgeNum kind d rounds
   pub few-vertices : v ≤ 1024
   pub few-edges : e ≤ 6144
-  pub max-few : max ≤ 250000
+  pub max-few : max ≤ halfWeightLimit
   pub max-some : 1 ≤ max
   pub in-a : take e a ≡ firsts (edgesOf kind d rounds)
   pub in-b : take e b ≡ seconds (edgesOf kind d rounds)

@@ -7,6 +7,7 @@ ghost use Rattle.text_listing.specs.Listing.{listingOf};
 ghost use Rattle.text_listing.specs.Steps.{HoldsCode, HoldsWeights, ScratchRoom, Replied, replyText};
 ghost use Rattle.query_questions.specs.Scratch.{scratchIn, scratchLengths};
 use access_vertices::weights::store_weights;
+use columns::TableWeight;
 use columns::Weight;
 use engine_columns::EngineCounts;
 use query_crossing_answer::CrossingReply;
@@ -33,7 +34,7 @@ fn crossing_in(
     ends_b: &[u32],
     weights: &[Weight],
     boundary: &[u8],
-    out_weight: &mut [i32],
+    out_weight: &mut [TableWeight],
     neighbor_numbers: &mut [u32],
     list_ends: &mut [u32],
     status: &mut [u8],
@@ -47,7 +48,7 @@ fn crossing_in(
     ensures { λ r. ⌜ Replied (code .kind) (code .d) (code .rounds) (code .probability) (code .max) r ⌝ }
 {
     let log_edges = [0u32; 1];
-    let log_weights = [0u32; 1];
+    let log_weights: [Weight; 1] = [0; 1];
     let c = EngineCounts {
         vertices: v,
         edges: e,
@@ -85,11 +86,11 @@ fn crossing_of(
     requires { ⌜ HoldsWeights (code .kind) (code .d) (code .rounds) (code .probability) (code .max) v e (now «ends_a») (now «ends_b») (now weights) (now boundary) ⌝ }
     ensures { λ r. ⌜ Replied (code .kind) (code .d) (code .rounds) (code .probability) (code .max) r ⌝ }
 {
-    let mut out_weight = [0i32; 1024];
+    let mut out_weight: [TableWeight; 1024] = [0; 1024];
     let mut neighbor_numbers = [0u32; 12288];
     let mut list_ends = [0u32; 1024];
     let mut status = [0u8; 1024];
-    let mut weight = [0u32; 1024];
+    let mut weight: [Weight; 1024] = [0; 1024];
     let mut previous = [0u32; 1024];
     let mut node = [0u64; 1024];
     let mut leaf = [0u64; 1024];
@@ -183,7 +184,7 @@ pub fn write_built(
     requires { ⌜ HoldsCode (code .kind) (code .d) (code .rounds) (code .probability) (code .max) v e (now «ends_a») (now «ends_b») (now «half_weight») (now boundary) ⌝ }
     ensures { λ r. ⌜ Put (now (text .entry)) 0 (listingOf (code .kind) (code .d) (code .rounds) (code .probability) (code .max)) (now (text .exit)) r ⌝ }
 {
-    let mut weights = [0u32; 6144];
+    let mut weights: [Weight; 6144] = [0; 6144];
     write_weighed(
         code,
         v,

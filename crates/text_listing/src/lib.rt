@@ -39,7 +39,7 @@ pub fn write_code(code: CodeArguments, text: &mut [u8]) -> usize
     let mut ends_b = [0u32; 6144];
     let mut p = [0.0f64; 6144];
     let mut pe = [0.0f64; 6144];
-    let mut half_weight = [0u32; 6144];
+    let mut half_weight: [Weight; 6144] = [0; 6144];
     let mut erasure = [0u8; 6144];
     let mut pos_i = [0.0f64; 1024];
     let mut pos_j = [0.0f64; 1024];

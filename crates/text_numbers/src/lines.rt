@@ -1,6 +1,8 @@
 // The text that `codelist` prints. A text column that is too short keeps as much of it as it has places for.
 use super::put_byte;
 use super::put_field;
+use columns::EdgeIndex;
+use columns::VertexIndex;
 use columns::Weight;
 ghost use mathlib.Core.List.{[], _∷_};
 ghost use Prim.Native.Nat.{_≤_, _<_};
@@ -19,13 +21,13 @@ fn put_one(text: &mut [u8], at: usize, letter: u8, n: u32) -> usize
 }
 
 // The line of a vertex.
-fn put_vertex(text: &mut [u8], at: usize, boundary: &[u8], v: u32) -> usize
-    requires { ⌜ (at ≤ 10000000) × (v < length (now boundary)) ⌝ }
-    ensures { λ r. ⌜ Put (now (text .entry)) at (vertexLine (now (boundary .entry)) v) (now (text .exit)) r ⌝ }
+fn put_vertex(text: &mut [u8], at: usize, boundary: &[u8], v: VertexIndex) -> usize
+    requires { ⌜ (at ≤ 10000000) × (v .0 < length (now boundary)) ⌝ }
+    ensures { λ r. ⌜ Put (now (text .entry)) at (vertexLine (now (boundary .entry)) (v .0)) (now (text .exit)) r ⌝ }
 {
     let a = put_byte(text, at, b'v');
-    let b = put_field(text, a, v);
-    let c = put_field(text, b, boundary[v as usize] as u32);
+    let b = put_field(text, a, v.0);
+    let c = put_field(text, b, boundary[v.0 as usize] as u32);
     put_byte(text, c, b'\n')
 }
 
@@ -36,14 +38,14 @@ fn put_edge(
     ends_a: &[u32],
     ends_b: &[u32],
     weights: &[Weight],
-    e: u32,
+    e: EdgeIndex,
 ) -> usize
-    requires { ⌜ (at ≤ 10000000) × (e < length (now «ends_a»)) × (e < length (now «ends_b»)) × (e < length (now weights)) ⌝ }
-    ensures { λ r. ⌜ Put (now (text .entry)) at (edgeLine (now («ends_a» .entry)) (now («ends_b» .entry)) (now (weights .entry)) e) (now (text .exit)) r ⌝ }
+    requires { ⌜ (at ≤ 10000000) × (e .0 < length (now «ends_a»)) × (e .0 < length (now «ends_b»)) × (e .0 < length (now weights)) ⌝ }
+    ensures { λ r. ⌜ Put (now (text .entry)) at (edgeLine (now («ends_a» .entry)) (now («ends_b» .entry)) (now (weights .entry)) (e .0)) (now (text .exit)) r ⌝ }
 {
-    let k = e as usize;
+    let k = e.0 as usize;
     let a = put_byte(text, at, b'e');
-    let b = put_field(text, a, e);
+    let b = put_field(text, a, e.0);
     let c = put_field(text, b, ends_a[k]);
     let d = put_field(text, c, ends_b[k]);
     let f = put_field(text, d, weights[k]);
@@ -58,7 +60,7 @@ fn put_vertices(text: &mut [u8], at: usize, boundary: &[u8], n: u32) -> usize
     let mut next = at;
     let mut v: u32 = 0;
     while v < n {
-        next = put_vertex(text, next, boundary, v);
+        next = put_vertex(text, next, boundary, VertexIndex(v));
         v += 1;
     }
     next
@@ -79,7 +81,7 @@ fn put_edges(
     let mut next = at;
     let mut e: u32 = 0;
     while e < n {
-        next = put_edge(text, next, ends_a, ends_b, weights, e);
+        next = put_edge(text, next, ends_a, ends_b, weights, EdgeIndex(e));
         e += 1;
     }
     next
@@ -122,7 +124,7 @@ pub fn write_listing(
     ends_a: &[u32],
     ends_b: &[u32],
     weights: &[Weight],
-    crossing: u32,
+    crossing: Weight,
 ) -> usize
     requires { ⌜ (g .vertices ≤ 4096) × (g .vertices ≤ length (now boundary)) ⌝ }
     requires { ⌜ (g .edges ≤ 32768) × (g .edges ≤ length (now «ends_a»)) × (g .edges ≤ length (now «ends_b»)) × (g .edges ≤ length (now weights)) ⌝ }

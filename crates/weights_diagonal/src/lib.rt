@@ -1,6 +1,6 @@
 // The diagonal probability of kind 4.
 ghost use mathlib.Core.Path.{_≡_};
-ghost use Rattle.weights_diagonal.specs.Diagonal.{absolute, manhattanDistance, isDiagonal, replaced, edgeProbability, newDiagonal, isDiagonalProbability};
+ghost use Rattle.weights_diagonal.specs.Diagonal.{absolute, manhattanDistance, isDiagonal, newDiagonal, isDiagonalProbability};
 use columns::VisualizePosition;
 use weights_questions::is_probability;
 
@@ -52,30 +52,4 @@ pub fn is_diagonal(a: VisualizePosition, b: VisualizePosition) -> bool
     ensures { λ r. ⌜ r ≡ isDiagonal a b ⌝ }
 {
     manhattan_distance(a, b) > 1.0
-}
-
-// The diagonal probability where it is given and the edge is diagonal, else p.
-fn replaced_probability(d: DiagonalProbability, p: f64, diagonal: bool) -> f64
-    ensures { λ r. ⌜ r ≡ replaced d p diagonal ⌝ }
-{
-    if diagonal {
-        match d {
-            DiagonalProbability::Given(x) => x,
-            DiagonalProbability::None => p,
-        }
-    } else {
-        p
-    }
-}
-
-// The probability of an edge with these ends.
-pub fn edge_probability(
-    p: f64,
-    d: DiagonalProbability,
-    a: VisualizePosition,
-    b: VisualizePosition,
-) -> f64
-    ensures { λ r. ⌜ r ≡ edgeProbability p d a b ⌝ }
-{
-    replaced_probability(d, p, is_diagonal(a, b))
 }

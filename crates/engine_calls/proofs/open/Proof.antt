@@ -22,7 +22,7 @@ returns c =
       answers = accepts-of z;
       endsA-after = c .before .before .before .before .before .before .before .before .before .before .before .before .before .before .copy-u32 .ensures ∙ copy-after e (openRefusal v e h l) (a .ends-a .now) (a .in-a .now) z (o .from .endsA) (o .to .endsA);
       endsB-after = c .before .before .before .before .before .before .before .before .before .before .copy-u322 .ensures ∙ copy-after e (openRefusal v e h l) (a .ends-b .now) (a .in-b .now) z (o .from .endsB) (o .to .endsB);
-      weights-after = c .before .before .before .before .before .before .copy-u323 .ensures ∙ copy-after e (openRefusal v e h l) (a .weights .now) (a .in-weights .now) z (o .from .weights) (o .to .weights);
+      weights-after = c .before .before .before .before .before .before .copy-weights .ensures ∙ copy-after e (openRefusal v e h l) (a .weights .now) (a .in-weights .now) z (o .from .weights) (o .to .weights);
       boundary-after = c .before .before .copy-u8 .ensures ∙ copy-after v (openRefusal v e h l) (a .boundary .now) (a .in-boundary .now) z (o .from .boundary) (o .to .boundary);
     }
 

@@ -22,14 +22,14 @@ write-path-requires : tie.Need-write-path-requires
 write-path-requires c κs =
     let s = c .before .before .before .before .before .before .before .before .before .before in
     let e = c .before .before .path-length .ensures (s .args .weight .now) in
-    let l = read-short (stateOf (s .args .status .now) (s .args .weight .now) (s .args .previous .now)) (s .args .a) (length (s .args .status .now)) (s .args .b) in
+    let l = read-short (stateOf (s .args .status .now) (s .args .weight .now) (s .args .previous .now)) (s .args .a .0) (length (s .args .status .now)) (s .args .b .0) in
     (e, omega (arith, e, l, s .pre .1), omega (arith, e, l, s .pre .2))
 
 cast-t15 : tie.Need-cast-t15
 cast-t15 c =
     let s = c .before .before .before .before .before .before .before .before .before .before .before .before .before .before .before in
     let e = c .before .before .before .before .before .before .before .path-length .ensures (s .args .weight .now) in
-    let l = read-short (stateOf (s .args .status .now) (s .args .weight .now) (s .args .previous .now)) (s .args .a) (length (s .args .status .now)) (s .args .b) in
+    let l = read-short (stateOf (s .args .status .now) (s .args .weight .now) (s .args .previous .now)) (s .args .a .0) (length (s .args .status .now)) (s .args .b .0) in
     omega (arith, e, l, s .pre .0)
 
 returns : tie.Need-returns
@@ -37,15 +37,15 @@ returns c =
     let s = c .before .before .before .before .before .before .before .before .before .before .before .before .before .before .before .before in
     let st : State = stateOf (s .args .status .now) (s .args .weight .now) (s .args .previous .now) in
     let n = length (s .args .status .now) in
-    let vs : List ℕ = readBack st (s .args .a) n (s .args .b) in
+    let vs : List ℕ = readBack st (s .args .a .0) n (s .args .b .0) in
     let cs : List ℕ = map (stepInto st) vs in
     let e = c .before .before .before .before .before .before .before .before .path-length .ensures (s .args .weight .now) in
-    let l = read-short st (s .args .a) n (s .args .b) in
+    let l = read-short st (s .args .a .0) n (s .args .b .0) in
     let m = length-map vs (stepInto st) in
-    let t : taken st (s .args .b) ≡ true = sym (c .before .before .before .before .before .before .before .before .before .before .is-taken .ensures (s .args .weight .now) (s .args .previous .now)) ∙ c .before .before .before .before .before .before .before .before .before .if1 .taken in
-    let p : pathOf st n (s .args .a) (s .args .b) ≡ some (record { vertices = vs; steps = cs; total = weightAt st (s .args .b) }) =
-    ap (λ k. cond k (some (record { vertices = vs; steps = cs; total = weightAt st (s .args .b) })) none) t in (
-      subst (λ o. PathSaid 0 o (Found (c .before .before .before .before .before .before .before .before .path-length .result) (c .load .result))) (sym p) (rw (e, c .load .ensures) (accepts-of refl)),
+    let t : taken st (s .args .b .0) ≡ true = sym (c .before .before .before .before .before .before .before .before .before .before .is-taken .ensures (s .args .weight .now) (s .args .previous .now)) ∙ c .before .before .before .before .before .before .before .before .before .if1 .taken in
+    let p : pathOf st n (s .args .a .0) (s .args .b .0) ≡ some (record { vertices = vs; steps = cs; total = weightAt st (s .args .b .0) }) =
+    ap (λ k. cond k (some (record { vertices = vs; steps = cs; total = weightAt st (s .args .b .0) })) none) t in (
+      subst (λ o. PathSaid 0 o (Found (c .before .before .before .before .before .before .before .before .path-length .result) (c .load-weight .result))) (sym p) (rw (e, c .load-weight .ensures) (accepts-of refl)),
       (c .before .before .before .before .before .write-path .ensures .0 ∙ sets-over (s .args .out-vertices .now) vs (omega (arith, l, s .pre .1)) ∙ sym (ap (λ o. verticesAfter o (s .args .out-vertices .now)) p), c .before .before .before .before .before .write-path .ensures .1 ∙ sets-over (s .args .out-steps .now) cs (omega (arith, l, m, s .pre .2)) ∙ sym (ap (λ o. stepsAfter o (s .args .out-steps .now)) p)),
     )
 
@@ -54,9 +54,9 @@ returns-2 c =
     let s = c .before .before .before .before .before .before .before in
     let st : State = stateOf (s .args .status .now) (s .args .weight .now) (s .args .previous .now) in
     let n = length (s .args .status .now) in
-    let t : taken st (s .args .b) ≡ false = sym (c .before .is-taken .ensures (s .args .weight .now) (s .args .previous .now)) ∙ c .if1 .left in
-    let p : none ≡ pathOf st n (s .args .a) (s .args .b) =
-    ap (λ k. cond k (some (record { vertices = readBack st (s .args .a) n (s .args .b); steps = map (stepInto st) (readBack st (s .args .a) n (s .args .b)); total = weightAt st (s .args .b) })) none) (sym t) in
+    let t : taken st (s .args .b .0) ≡ false = sym (c .before .is-taken .ensures (s .args .weight .now) (s .args .previous .now)) ∙ c .if1 .left in
+    let p : none ≡ pathOf st n (s .args .a .0) (s .args .b .0) =
+    ap (λ k. cond k (some (record { vertices = readBack st (s .args .a .0) n (s .args .b .0); steps = map (stepInto st) (readBack st (s .args .a .0) n (s .args .b .0)); total = weightAt st (s .args .b .0) })) none) (sym t) in
     (subst (λ o. PathSaid 0 o (Refused 17)) p (refuses-of refl (λ z. absurd (omega arith))), (ap (λ o. verticesAfter o (s .args .out-vertices .now)) p, ap (λ o. stepsAfter o (s .args .out-steps .now)) p))
 
 pub found-path-spec : {M : Type 1} → statement M

@@ -12,13 +12,13 @@ use Rattle.query_read_back.proofs.entry_at.Statement.{statement}
 use Rattle.query_read_back.proofs.entry_at.Tie as tie
 
 returns : tie.Need-returns
-returns c = let s = c .before .before .before in λ w. ap (λ b. entryOf (cond b (some (getD (s .args .previous .now) (s .args .v) 0)) none)) (sym (ne-eqb (getD (s .args .status .now) (s .args .v) 0) 2 (λ q. omega (arith, List·getD-eq-default (s .args .status .now) 0 {n = s .args .v} (c .if1 .taken)))))
+returns c = let s = c .before .before .before .before in λ w. ap (λ b. entryOf (cond b (some (getD (s .args .previous .now) (s .args .v .0) 0)) none)) (sym (ne-eqb (getD (s .args .status .now) (s .args .v .0) 0) 2 (λ q. omega (arith, List·getD-eq-default (s .args .status .now) 0 {n = s .args .v .0} (c .if1 .taken)))))
 
 returns-2 : tie.Need-returns-2
-returns-2 c = let s = c .before .before .before .before .before in λ w. ap (λ b. entryOf (cond b (some (getD (s .args .previous .now) (s .args .v) 0)) none)) (sym (ne-eqb (getD (s .args .status .now) (s .args .v) 0) 2 (c .if2 .taken)))
+returns-2 c = let s = c .before .before .before .before .before .before in λ w. ap (λ b. entryOf (cond b (some (getD (s .args .previous .now) (s .args .v .0) 0)) none)) (sym (ne-eqb (getD (s .args .status .now) (s .args .v .0) 0) 2 (c .if2 .taken)))
 
 returns-3 : tie.Need-returns-3
-returns-3 c = let s = c .before .before .before .before .before .before in λ w. ap (λ x. entryOf (some x)) (c .load .ensures) ∙ ap (λ b. entryOf (cond b (some (getD (s .args .previous .now) (s .args .v) 0)) none)) (sym (eq-eqb (getD (s .args .status .now) (s .args .v) 0) 2 (c .before .if2 .left)))
+returns-3 c = let s = c .before .before .before .before .before .before .before in λ w. ap (λ x. entryOf (some x)) (c .load-previous .ensures) ∙ ap (λ b. entryOf (cond b (some (getD (s .args .previous .now) (s .args .v .0) 0)) none)) (sym (eq-eqb (getD (s .args .status .now) (s .args .v .0) 0) 2 (c .before .if2 .left)))
 
 pub entry-at-spec : {M : Type 1} → statement M
-entry-at-spec = tie.close (tie.spec returns (λ c. search needs) returns-2 (λ c κs. tt) returns-3)
+entry-at-spec = tie.close (tie.spec (λ c. search needs) returns (λ c. search needs) returns-2 (λ c κs. tt) returns-3)

@@ -9,7 +9,7 @@ use Rattle.query_read_back.proofs.is_taken.Statement.{statement}
 use Rattle.query_read_back.proofs.is_taken.Tie as tie
 
 returns-2 : tie.Need-returns-2
-returns-2 c = let s = c .before in let h : length (s .args .status .now) ≤ s .args .v = omega (arith, c .if1 .left) in λ w p. ap (λ k. eqb k 2) (sym (List·getD-eq-default (s .args .status .now) 0 {n = s .args .v} h))
+returns-2 c = let s = c .before .before in let h : length (s .args .status .now) ≤ s .args .v .0 = omega (arith, c .if1 .left) in λ w p. ap (λ k. eqb k 2) (sym (List·getD-eq-default (s .args .status .now) 0 {n = s .args .v .0} h))
 
 pub is-taken-spec : {M : Type 1} → statement M
-is-taken-spec = tie.close (tie.spec (λ c. search needs) (λ c. search needs) returns-2)
+is-taken-spec = tie.close (tie.spec (λ c. search needs) (λ c. search needs) (λ c. search needs) returns-2)

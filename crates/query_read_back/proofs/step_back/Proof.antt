@@ -12,16 +12,10 @@ use Rattle.query_read_back.proofs.step_back.Statement.{statement}
 use Rattle.query_read_back.proofs.step_back.Tie as tie
 
 returns : tie.Need-returns
-returns c = let s = c .before .before .before in λ w. ap (λ b. entryOf (cond b none (entry (stateOf (s .args .status .now) w (s .args .previous .now)) (s .args .v)))) (sym (eq-eqb (s .args .v) (s .args .a) (c .if1 .taken)))
-
-enum-told : tie.Need-enum-told
-enum-told c = search needs
+returns c = let s = c .before .before .before .before .before in λ w. ap (λ b. entryOf (cond b none (entry (stateOf (s .args .status .now) w (s .args .previous .now)) (s .args .v .0)))) (sym (eq-eqb (s .args .v .0) (s .args .a .0) (c .if1 .taken)))
 
 returns-2 : tie.Need-returns-2
-returns-2 c = let s = c .before .before .before .before .before .before in λ w. sym (c .enum-told .given .1) ∙ c .before .before .entry-at .ensures w ∙ ap (λ b. entryOf (cond b none (entry (stateOf (s .args .status .now) w (s .args .previous .now)) (s .args .v)))) (sym (ne-eqb (s .args .v) (s .args .a) (c .before .before .before .if1 .left)))
-
-returns-3 : tie.Need-returns-3
-returns-3 c = let s = c .before .before .before .before .before .before .before in λ w. sym (c .before .p .given .1) ∙ c .before .before .before .entry-at .ensures w ∙ ap (λ b. entryOf (cond b none (entry (stateOf (s .args .status .now) w (s .args .previous .now)) (s .args .v)))) (sym (ne-eqb (s .args .v) (s .args .a) (c .before .before .before .before .if1 .left)))
+returns-2 c = let s = c .before .before .before .before .before .before in λ w. c .entry-at .ensures w ∙ ap (λ b. entryOf (cond b none (entry (stateOf (s .args .status .now) w (s .args .previous .now)) (s .args .v .0)))) (sym (ne-eqb (s .args .v .0) (s .args .a .0) (c .before .if1 .left)))
 
 pub step-back-spec : {M : Type 1} → statement M
-step-back-spec = tie.close (tie.spec returns (λ c κs. tt) (λ c. search needs) enum-told returns-2 returns-3)
+step-back-spec = tie.close (tie.spec returns (λ c κs. tt) returns-2)

@@ -5,7 +5,7 @@ use native.Mathlib.Omega.{arith}
 use mathlib.Core.List.{List}
 use lib.ListN.{length, set, length-set}
 use lib.Seq.{sets}
-use mir.Syntax.{w32}
+use Rattle.columns.proofs.Widths.{tableWidth}
 use mir.Facts.{toZ-ofZ}
 use Rattle.columns.specs.Lists.{each}
 use Rattle.columns.proofs.Counting.{store-each}
@@ -38,7 +38,7 @@ loop-again : tie.Need-loop-again Inv-loop μ-loop
 loop-again c =
     let s = c .before .before .before .before .before .before .before in
     let at = c .before .before .before .before .loop in
-    (search needs, simp length-set (at .inv .1), λ p. ap (λ z. set (at .out) (at .v) z) (toZ-ofZ {w = w32} (sfits-of (c .row-weight .ok))) ∙ (λ i. set (at .inv .2 p i) (at .v) (c .row-weight .ensures i)) ∙ store-each (s .args .out .now) (at .v) (tableWeight (stateOf (s .args .status .now) (s .args .weight .now) p)))
+    (search needs, simp length-set (at .inv .1), λ p. ap (λ z. set (at .out) (at .v) z) (toZ-ofZ {w = tableWidth} (sfits-of (c .row-weight .ok))) ∙ (λ i. set (at .inv .2 p i) (at .v) (c .row-weight .ensures i)) ∙ store-each (s .args .out .now) (at .v) (tableWeight (stateOf (s .args .status .now) (s .args .weight .now) p)))
 
 returns : tie.Need-returns Inv-loop μ-loop
 returns c =

@@ -16,20 +16,20 @@ abbrev Inv-loop : tie.InvT-loop
 Inv-loop ends-a ends-b weights numbers from to status₀ weight₀ previous₀ node₀ leaf₀ a q w i₀ status weight previous node leaf i =
     (from ≤ i) × (i ≤ to) × (length status ≡ length status₀)
     × Ready (length status₀) (stateOf status weight previous) node leaf
-    × ((n : ℕ) (m : List ℕ) → stateOf status weight previous ≡ relaxAlong (graphOf n ends-a ends-b m) (weighs weights) a q w (take (i - from) (drop from numbers)) (stateOf status₀ weight₀ previous₀))
+    × ((n : ℕ) (m : List ℕ) → stateOf status weight previous ≡ relaxAlong (graphOf n ends-a ends-b m) (weighs weights) (a .0) (q .0) w (take (i - from) (drop from numbers)) (stateOf status₀ weight₀ previous₀))
     × (length node ≡ length node₀)
 
 abbrev μ-loop : tie.MeasureT-loop
 μ-loop ends-a ends-b weights numbers from to status₀ weight₀ previous₀ node₀ leaf₀ a q w i₀ status weight previous node leaf i = to - i
 
 loop-holds : tie.Need-loop-holds Inv-loop μ-loop
-loop-holds c = let s = c .before .before .before .before .before .before .before .before .before in (omega arith, s .pre .1 .ordered, refl, s .pre .0, λ n m. sym (along-none (graphOf n (s .args .ends-a .now) (s .args .ends-b .now) m) (weighs (s .args .weights .now)) (s .args .a) (s .args .q) (s .args .w) (s .args .neighbor-numbers .now) (s .args .from) _), refl)
+loop-holds c = let s = c .before .before .before .before .before .before .before .before .before in (omega arith, s .pre .1 .ordered, refl, s .pre .0, λ n m. sym (along-none (graphOf n (s .args .ends-a .now) (s .args .ends-b .now) m) (weighs (s .args .weights .now)) (s .args .a .0) (s .args .q .0) (s .args .w) (s .args .neighbor-numbers .now) (s .args .from) _), refl)
 
-mul-relax-edge : tie.Need-mul-relax-edge Inv-loop μ-loop
-mul-relax-edge c = omega (arith, c .before .before .before .before .before .before .before .before .before .before .before .before .before .before .before .before .pre .1 .inside)
+mul-t28 : tie.Need-mul-t28 Inv-loop μ-loop
+mul-t28 c = omega (arith, c .before .before .before .before .before .before .before .before .before .before .before .before .before .before .before .before .pre .1 .inside)
 
-shared-slice-read-relax-edge : tie.Need-shared-slice-read-relax-edge Inv-loop μ-loop
-shared-slice-read-relax-edge c = omega (arith, c .before .before .before .before .before .before .before .before .before .before .before .before .before .before .before .before .before .pre .1 .inside)
+shared-slice-read-t30 : tie.Need-shared-slice-read-t30 Inv-loop μ-loop
+shared-slice-read-t30 c = omega (arith, c .before .before .before .before .before .before .before .before .before .before .before .before .before .before .before .before .before .pre .1 .inside)
 
 relax-edge-requires : tie.Need-relax-edge-requires Inv-loop μ-loop
 relax-edge-requires c κs =
@@ -49,12 +49,12 @@ loop-again c =
     let s = c .before .before .before .before .before .before .before .before .before .before .before .before .before .before .before .before .before .before .before .before .before .before .before .before .before .before .before .before in
     let at = c .before .before .before .before .before .before .before .before .before .before .before .before .before .before .before .before .before .before .loop in
     let o = c .before .before .before .before .before .before .before .before .before .before .relax-edge .ensures in (
-      omega arith,
-      omega arith,
+      omega (arith, at .inv .0),
+      omega (arith, c .before .before .before .before .before .before .before .before .before .before .before .before .before .before .before .before .before .loop-test .taken),
       c .before .before .before .before .before .before .before .before .before .before .relax-edge .kept .1 .1 .1 .0 ∙ at .inv .2,
       ready-as (at .inv .2) (o .1),
-      (λ n m. o .0 n m ∙ ap (relaxEdge (graphOf n (s .args .ends-a .now) (s .args .ends-b .now) m) (weighs (s .args .weights .now)) (s .args .a) (s .args .q) (s .args .w) (getD (s .args .neighbor-numbers .now) (at .i) 0)) (at .inv .4 n m)
-          ∙ sym (along-more (graphOf n (s .args .ends-a .now) (s .args .ends-b .now) m) (weighs (s .args .weights .now)) (s .args .a) (s .args .q) (s .args .w) (s .args .neighbor-numbers .now) (s .args .from) (at .i) _ (at .inv .0) (omega (arith, s .pre .1 .inside)))),
+      (λ n m. o .0 n m ∙ ap (relaxEdge (graphOf n (s .args .ends-a .now) (s .args .ends-b .now) m) (weighs (s .args .weights .now)) (s .args .a .0) (s .args .q .0) (s .args .w) (getD (s .args .neighbor-numbers .now) (at .i) 0)) (at .inv .4 n m)
+          ∙ sym (along-more (graphOf n (s .args .ends-a .now) (s .args .ends-b .now) m) (weighs (s .args .weights .now)) (s .args .a .0) (s .args .q .0) (s .args .w) (s .args .neighbor-numbers .now) (s .args .from) (at .i) _ (at .inv .0) (omega (arith, s .pre .1 .inside, c .before .before .before .before .before .before .before .before .before .before .before .before .before .before .before .before .before .loop-test .taken)))),
       c .before .before .before .before .before .before .before .before .before .before .relax-edge .kept .1 .1 .1 .1 .1 .1 .0 ∙ at .inv .5,
     )
 
@@ -72,7 +72,7 @@ returns c =
     let at = c .before .loop in
     let s = c .before .before .before .before .before .before .before .before .before .before .before in
     let e : at .i ≡ s .args .to = omega arith in
-    ((λ n m. at .inv .4 n m ∙ ap (λ k. relaxAlong (graphOf n (s .args .ends-a .now) (s .args .ends-b .now) m) (weighs (s .args .weights .now)) (s .args .a) (s .args .q) (s .args .w) (take (k - s .args .from) (drop (s .args .from) (s .args .neighbor-numbers .now))) (stateOf (s .args .status .now) (s .args .weight .now) (s .args .previous .now))) e), at .inv .3)
+    ((λ n m. at .inv .4 n m ∙ ap (λ k. relaxAlong (graphOf n (s .args .ends-a .now) (s .args .ends-b .now) m) (weighs (s .args .weights .now)) (s .args .a .0) (s .args .q .0) (s .args .w) (take (k - s .args .from) (drop (s .args .from) (s .args .neighbor-numbers .now))) (stateOf (s .args .status .now) (s .args .weight .now) (s .args .previous .now))) e), at .inv .3)
 
 pub relax-list-spec : {M : Type 1} → statement M
-relax-list-spec = tie.close (tie.spec Inv-loop μ-loop loop-holds mul-relax-edge shared-slice-read-relax-edge relax-edge-requires add-i (λ c. search needs) loop-again (λ c. c .before .loop .inv .2) same-length-2 same-length-3 (λ c. c .before .loop .inv .5) same-length-5 returns)
+relax-list-spec = tie.close (tie.spec Inv-loop μ-loop loop-holds mul-t28 shared-slice-read-t30 relax-edge-requires add-i (λ c. search needs) loop-again (λ c. c .before .loop .inv .2) same-length-2 same-length-3 (λ c. c .before .loop .inv .5) same-length-5 returns)

@@ -64,7 +64,7 @@ before-it s = scratchIn (s .args .neighbor-numbers) (s .args .list-ends) (s .arg
 after-it : tie.After-search → ScratchColumns
 after-it c = let l = c .search .last .1 .1 .1 .1 .1 .1 in scratchOf (l .0) (l .1 .0) (l .1 .1 .0) (l .1 .1 .1 .0) (l .1 .1 .1 .1 .0) (l .1 .1 .1 .1 .1 .0) (l .1 .1 .1 .1 .1 .1 .0)
 
-state-is : (c : tie.After-search) → let s = c .before .before .before .before .before .before .before .before .before .before .before .before .before .before .before .before .before .before .before .before .before .before .before .before .before .before .before .before .before .before .before .before .before .before .before .before .before .before .before .before .before .before in settled (graphIn (engine-of s)) (weightsIn (engine-of s)) (only (s .args .source .0)) (endOf (s .args .c .vertices) (c .before .before .before .before .before .before .before .before .stop-of .result)) ≡ state-at s
+state-is : (c : tie.After-search) → let s = c .before .before .before .before .before .before .before .before .before .before .before .before .before .before .before .before .before .before .before .before .before .before .before .before .before .before .before .before .before .before .before .before .before .before .before .before .before .before .before .before .before .before in settled (graphIn (engine-of s)) (weightsIn (engine-of s)) (only (s .args .source .0)) (endOf (s .args .c .vertices) (c .before .before .before .before .before .before .before .before .stop-of .result .0)) ≡ state-at s
 unfolding engine-of state-at number-at
 state-is c =
     let s = c .before .before .before .before .before .before .before .before .before .before .before .before .before .before .before .before .before .before .before .before .before .before .before .before .before .before .before .before .before .before .before .before .before .before .before .before .before .before .before .before .before .before in

@@ -33,7 +33,7 @@ returns c =
       in-b = written (λ (e : Ends). e .1) (edgesOf (s .kind) (s .d) (s .rounds)) _ (w .in-b) (omega (arith, l .long-b));
       in-p = filled zeroFloat _ _ (c .before .before .before .before .before .before .before .before .before .before .before .before .before .before .fill-f64 .ensures) count (l .long-p);
       in-pe = filled zeroFloat _ _ (c .before .before .before .before .before .before .before .before .before .before .fill-f642 .ensures) count (l .long-pe);
-      in-h = filled 0 _ _ (c .before .before .before .before .before .before .fill-u32 .ensures) count (l .long-h);
+      in-h = filled 0 _ _ (c .before .before .before .before .before .before .fill-weights .ensures) count (l .long-h);
       in-er = filled 0 _ _ (c .before .before .fill-u8 .ensures) count (l .long-er);
       count = count;
     }

@@ -3,7 +3,7 @@ use mathlib.Core.Path.{sym, _∙_}
 use native.Mathlib.Omega.{arith}
 use lib.ListN.{getD, List·getD-eq-default}
 use lib.IntN.{pos, negsuc}
-use mir.Syntax.{w32}
+use Rattle.columns.proofs.Widths.{tableWidth}
 use mir.ValLaws.{toZ-ofZ}
 use Rattle.columns.proofs.Columns.{getD-any}
 use borrow.Author.Needs.{needs}
@@ -11,7 +11,7 @@ use Rattle.prebuilt_entries.proofs.boundaries.weight_at.Statement.{stat
 use Rattle.prebuilt_entries.proofs.boundaries.weight_at.Tie as tie
 
 returns : tie.Need-returns
-returns c = let s = c .before .before in toZ-ofZ w32 (getD (s .args .least .now) (s .args .u) (pos 0)) (record { sfits = c .result .given }) ∙ getD-any (s .args .least .now) (s .args .u) (pos 0) (negsuc 0) (c .before .if1 .taken)
+returns c = let s = c .before .before in toZ-ofZ tableWidth (getD (s .args .least .now) (s .args .u) (pos 0)) (record { sfits = c .result .given }) ∙ getD-any (s .args .least .now) (s .args .u) (pos 0) (negsuc 0) (c .before .if1 .taken)
 
 returns-2 : tie.Need-returns-2
 returns-2 c = let s = c .before in sym (List·getD-eq-default (s .args .least .now) (negsuc 0) {n = s .args .u} (omega arith))

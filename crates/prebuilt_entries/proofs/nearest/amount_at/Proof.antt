@@ -4,7 +4,7 @@ use Prim.Native.Nat.{ℕ, zero, suc, _+_, _*_, _-_, _<_, _≤_}
 use native.Mathlib.Omega.{arith}
 use lib.ListN.{length, getD, List·getD-eq-default}
 use lib.IntN.{pos, negsuc}
-use mir.Syntax.{w32}
+use Rattle.columns.proofs.Widths.{tableWidth}
 use mir.ValLaws.{toZ-ofZ}
 use Rattle.columns.proofs.Columns.{getD-any}
 use Rattle.prebuilt_entries.specs.Nearest.{amount}
@@ -13,7 +13,7 @@ use Rattle.prebuilt_entries.proofs.nearest.amount_at.Statement.{stateme
 use Rattle.prebuilt_entries.proofs.nearest.amount_at.Tie as tie
 
 returns : tie.Need-returns
-returns c = let s = c .before .before .before in c .amount-of .ensures ∙ ap amount (toZ-ofZ w32 (getD (s .args .least .now) (s .args .u) (pos 0)) (record { sfits = c .before .amount-of-arg .given }) ∙ getD-any (s .args .least .now) (s .args .u) (pos 0) (negsuc 0) (c .before .before .if1 .taken))
+returns c = let s = c .before .before .before in c .amount-of .ensures ∙ ap amount (toZ-ofZ tableWidth (getD (s .args .least .now) (s .args .u) (pos 0)) (record { sfits = c .before .amount-of-arg .given }) ∙ getD-any (s .args .least .now) (s .args .u) (pos 0) (negsuc 0) (c .before .before .if1 .taken))
 
 returns-2 : tie.Need-returns-2
 returns-2 c = let s = c .before in let h : length (s .args .least .now) ≤ s .args .u = omega (arith, c .if1 .left) in ap amount (sym (List·getD-eq-default (s .args .least .now) (negsuc 0) {n = s .args .u} h))

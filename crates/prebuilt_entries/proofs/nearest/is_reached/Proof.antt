@@ -6,7 +6,7 @@ use mathlib.Core.Bool.{not}
 use lib.ListN.{length, getD, List·getD-eq-default}
 use lib.Dec.{eqb}
 use lib.IntN.{pos, negsuc}
-use mir.Syntax.{w32}
+use Rattle.columns.proofs.Widths.{tableWidth}
 use mir.ValLaws.{toZ-ofZ}
 use Rattle.columns.proofs.Columns.{getD-any}
 use Rattle.engine_walks.specs.Answers.{weightIn}
@@ -18,7 +18,7 @@ use Rattle.prebuilt_entries.proofs.nearest.is_reached.Statement.{statem
 use Rattle.prebuilt_entries.proofs.nearest.is_reached.Tie as tie
 
 returns : tie.Need-returns
-returns c = let s = c .before .before .before in ap (λ k. not (eqb k 0)) (c .rank-of .ensures .0 ∙ ap rank (toZ-ofZ w32 (getD (s .args .least .now) (s .args .u) (pos 0)) (record { sfits = c .before .rank-of-arg .given }) ∙ getD-any (s .args .least .now) (s .args .u) (pos 0) (negsuc 0) (c .before .before .if1 .taken))) ∙ reached-by (weightIn (s .args .least .now) (s .args .u))
+returns c = let s = c .before .before .before in ap (λ k. not (eqb k 0)) (c .rank-of .ensures .0 ∙ ap rank (toZ-ofZ tableWidth (getD (s .args .least .now) (s .args .u) (pos 0)) (record { sfits = c .before .rank-of-arg .given }) ∙ getD-any (s .args .least .now) (s .args .u) (pos 0) (negsuc 0) (c .before .before .if1 .taken))) ∙ reached-by (weightIn (s .args .least .now) (s .args .u))
 
 returns-2 : tie.Need-returns-2
 returns-2 c = let s = c .before in let h : length (s .args .least .now) ≤ s .args .u = omega (arith, c .if1 .left) in ap isReached (sym (List·getD-eq-default (s .args .least .now) (negsuc 0) {n = s .args .u} h))

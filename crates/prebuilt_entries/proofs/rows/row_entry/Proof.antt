@@ -4,7 +4,7 @@ use Prim.Native.Nat.{ℕ, zero, suc, _+_, _*_, _-_, _<_, _≤_}
 use mathlib.Core.Bool.{cond}
 use lib.IntN.{negsuc}
 use Rattle.prebuilt_entries.specs.Entries.{inTheMiddle}
-use mir.Syntax.{w32}
+use Rattle.columns.proofs.Widths.{tableWidth}
 use mir.ValLaws.{toZ-ofZ}
 use Rattle.prebuilt_entries.proofs.rows.row_entry.Statement.{statement}
 use Rattle.prebuilt_entries.proofs.rows.row_entry.Tie as tie
@@ -15,18 +15,18 @@ returns c = let s = c .before .args in ap (λ k. cond k (negsuc 0) (cond (inTheM
 returns-2 : tie.Need-returns-2
 returns-2 c =
     let s = c .before .before .before in
-    let own = toZ-ofZ w32 (s .args .own) (record { sfits = s .good .1 .0 }) in
-    let peer = toZ-ofZ w32 (s .args .peer) (record { sfits = s .good .1 .1 .0 }) in
-    let x = toZ-ofZ w32 (s .args .x) (record { sfits = s .good .1 .1 .1 .0 }) in
+    let own = toZ-ofZ tableWidth (s .args .own) (record { sfits = s .good .1 .0 }) in
+    let peer = toZ-ofZ tableWidth (s .args .peer) (record { sfits = s .good .1 .1 .0 }) in
+    let x = toZ-ofZ tableWidth (s .args .x) (record { sfits = s .good .1 .1 .1 .0 }) in
     let m : inTheMiddle (s .args .own) (s .args .peer) (s .args .x) ≡ c .before .in-the-middle .result = sym (c .before .in-the-middle .ensures ∙ (λ i. inTheMiddle (own i) (peer i) (x i))) in
     (λ i. cond (sym (c .before .before .if1 .left) i) (negsuc 0) (cond (sym (m ∙ c .if2 .taken) i) (negsuc 0) (s .args .x)))
 
 returns-3 : tie.Need-returns-3
 returns-3 c =
     let s = c .before .before .before in
-    let own = toZ-ofZ w32 (s .args .own) (record { sfits = s .good .1 .0 }) in
-    let peer = toZ-ofZ w32 (s .args .peer) (record { sfits = s .good .1 .1 .0 }) in
-    let x = toZ-ofZ w32 (s .args .x) (record { sfits = s .good .1 .1 .1 .0 }) in
+    let own = toZ-ofZ tableWidth (s .args .own) (record { sfits = s .good .1 .0 }) in
+    let peer = toZ-ofZ tableWidth (s .args .peer) (record { sfits = s .good .1 .1 .0 }) in
+    let x = toZ-ofZ tableWidth (s .args .x) (record { sfits = s .good .1 .1 .1 .0 }) in
     let m : inTheMiddle (s .args .own) (s .args .peer) (s .args .x) ≡ c .before .in-the-middle .result = sym (c .before .in-the-middle .ensures ∙ (λ i. inTheMiddle (own i) (peer i) (x i))) in
     x ∙ (λ i. cond (sym (c .before .before .if1 .left) i) (negsuc 0) (cond (sym (m ∙ c .if2 .left) i) (negsuc 0) (s .args .x)))
 

@@ -13,7 +13,7 @@ returns : tie.Need-returns
 returns c =
     let s = c .before .before .before .before .before .before .before .before .before .before .before .before .before .before .before .before .before .before .before .before in
     let n = length (s .args .status .now) in
-    let w : c .before .before .before .before .before .before .before .before .before .before .before .before .before .fill-u32 .last .0 ≡ each n (λ v. 0) = c .before .before .before .before .before .before .before .before .before .before .before .before .before .fill-u32 .ensures ∙ whole (s .args .weight .now) (replicate n 0) (length-replicate n 0 ∙ sym (s .pre .1)) ∙ replicate-each n 0 in
+    let w : c .before .before .before .before .before .before .before .before .before .before .before .before .before .fill-weights .last .0 ≡ each n (λ v. 0) = c .before .before .before .before .before .before .before .before .before .before .before .before .before .fill-weights .ensures ∙ whole (s .args .weight .now) (replicate n 0) (length-replicate n 0 ∙ sym (s .pre .1)) ∙ replicate-each n 0 in
     let p : c .before .before .before .before .before .before .before .before .before .own-previous .last .0 ≡ each n (λ v. v) = c .before .before .before .before .before .before .before .before .before .own-previous .ensures ∙ ap (λ k. each k (λ v. v)) (s .pre .2) in
     let k = c .before .before .before .before .put-sources in
     (ready-first (s .args .status .now) _ _ _ _ (s .pre .0) w p (omega (arith, k .kept .1 .0, s .pre .3)) (k .kept .1 .1 .0 ∙ s .pre .4) (k .ensures .1) (k .ensures .0), (w, p))

@@ -6,13 +6,13 @@ use Rattle.sanity_verdicts.proofs.lists.stamp_next.Tie as tie
 
 returns : tie.Need-returns
 returns c =
-    let s = c .before in
-    stamp-one (s .args .numbers .now) (s .args .start) (s .args .i) (s .args .x) (s .args .stamp) (s .args .mark .now) (s .pre .1) (s .pre .0) (c .if1 .taken)
+    let s = c .before .before .before in
+    stamp-one (s .args .numbers .now) (s .args .start) (s .args .i) (s .args .x .0) (s .args .stamp) (s .args .mark .now) (s .pre .1) (s .pre .0) (c .before .if1 .taken)
 
 returns-2 : tie.Need-returns-2
 returns-2 c =
-    let s = c .before in
-    stamp-none (s .args .numbers .now) (s .args .start) (s .args .i) (s .args .x) (s .args .stamp) (s .args .mark .now) (s .pre .1) (s .pre .0) (c .if1 .left)
+    let s = c .before .before in
+    stamp-none (s .args .numbers .now) (s .args .start) (s .args .i) (s .args .x .0) (s .args .stamp) (s .args .mark .now) (s .pre .1) (s .pre .0) (c .if1 .left)
 
 pub stamp-next-spec : {M : Type 1} → statement M
-stamp-next-spec = tie.close (tie.spec (λ c. search needs) (λ c. search needs) (λ c. search needs) returns returns-2)
+stamp-next-spec = tie.close (tie.spec (λ c. search needs) (λ c. search needs) (λ c. search needs) (λ c. search needs) returns returns-2)

@@ -10,7 +10,7 @@ use Rattle.sanity_verdicts.proofs.lists.stands_before.Statement.{statem
 use Rattle.sanity_verdicts.proofs.lists.stands_before.Tie as tie
 
 abbrev Inv-loop : tie.InvT-loop
-Inv-loop numbers start i x j₀ j = (j ≤ i) × ((m : ℕ) → m < j → getD numbers (start + m) 0 ≡ x → ⊥)
+Inv-loop numbers start i x j₀ j = (j ≤ i) × ((m : ℕ) → m < j → getD numbers (start + m) 0 ≡ x .0 → ⊥)
 
 abbrev μ-loop : tie.MeasureT-loop
 μ-loop numbers start i x j₀ j = i - j
@@ -20,20 +20,20 @@ loop-holds c = (omega arith, λ m h. absurd (omega arith))
 
 returns : tie.Need-returns Inv-loop μ-loop
 returns c =
-    let s = c .before .before .before .before .args in
-    seen-at (s .numbers .now) (s .start) (s .i) (s .x) (c .before .before .before .loop .j) (omega arith) (c .if1 .taken)
+    let s = c .before .before .before .before .before .args in
+    seen-at (s .numbers .now) (s .start) (s .i) (s .x .0) (c .before .before .before .before .loop .j) (omega arith) (c .if1 .taken)
 
 loop-again : tie.Need-loop-again Inv-loop μ-loop
 loop-again c =
-    let s = c .before .before .before .before .args in
-    let l = c .before .before .before .loop in
-    (omega arith, below-next (λ m. getD (s .numbers .now) (s .start + m) 0 ≡ s .x) (l .j) (l .inv .1) (c .if1 .left))
+    let s = c .before .before .before .before .before .args in
+    let l = c .before .before .before .before .loop in
+    (omega arith, below-next (λ m. getD (s .numbers .now) (s .start + m) 0 ≡ s .x .0) (l .j) (l .inv .1) (c .if1 .left))
 
 returns-2 : tie.Need-returns-2 Inv-loop μ-loop
 returns-2 c =
     let s = c .before .before .args in
     let l = c .before .loop in
-    seen-none (s .numbers .now) (s .start) (s .i) (s .x) (λ m h. l .inv .1 m (omega arith))
+    seen-none (s .numbers .now) (s .start) (s .i) (s .x .0) (λ m h. l .inv .1 m (omega arith))
 
 pub stands-before-spec : {M : Type 1} → statement M
 stands-before-spec = tie.close (tie.spec Inv-loop μ-loop loop-holds (λ c. search needs) (λ c. search needs) (λ c. search needs) returns (λ c. search needs) (λ c. search needs) loop-again returns-2)

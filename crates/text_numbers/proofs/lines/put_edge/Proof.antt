@@ -22,15 +22,15 @@ put-byte-requires-2 c κs = omega (arith, c .before .before .before .put-field4 
 
 returns : tie.Need-returns
 returns c =
-    let s = c .before .before .before .before .before .before .before .before .before .before .before .before .before .before .before .before .before .before .before .before .before .before .before .before .before .before .before .before .before .before .before .args in
-    let x : ℕ = getD (s .ends-a .now) (s .e) 0 in
-    let y : ℕ = getD (s .ends-b .now) (s .e) 0 in
-    let w : ℕ = getD (s .weights .now) (s .e) 0 in
-    lettered 0x65 (s .e ∷ x ∷ y ∷ w ∷ []) (c .before .before .before .before .before .before .before .before .before .before .before .before .before .before .before .before .before .before .before .before .before .before .before .before .before .put-byte .ensures)
-    (field (s .e) (x ∷ y ∷ w ∷ []) (c .before .before .before .before .before .before .before .before .before .before .before .before .before .before .before .before .before .before .before .before .before .put-field .ensures .0)
+    let s = c .before .before .before .before .before .before .before .before .before .before .before .before .before .before .before .before .before .before .before .before .before .before .before .before .before .before .before .before .before .before .before .before .args in
+    let x : ℕ = getD (s .ends-a .now) (s .e .0) 0 in
+    let y : ℕ = getD (s .ends-b .now) (s .e .0) 0 in
+    let w : ℕ = getD (s .weights .now) (s .e .0) 0 in
+    lettered 0x65 (s .e .0 ∷ x ∷ y ∷ w ∷ []) (c .before .before .before .before .before .before .before .before .before .before .before .before .before .before .before .before .before .before .before .before .before .before .before .before .before .put-byte .ensures)
+    (field (s .e .0) (x ∷ y ∷ w ∷ []) (c .before .before .before .before .before .before .before .before .before .before .before .before .before .before .before .before .before .before .before .before .before .put-field .ensures .0)
     (field x (y ∷ w ∷ []) (c .before .before .before .before .before .before .before .before .before .before .before .before .before .before .before .before .put-field2 .ensures .0)
     (field y (w ∷ []) (c .before .before .before .before .before .before .before .before .before .before .before .put-field3 .ensures .0)
     (field w [] (c .before .before .before .before .before .before .put-field4 .ensures .0) (line-end (c .before .before .put-byte2 .ensures))))))
 
 pub put-edge-spec : {M : Type 1} → statement M
-put-edge-spec = tie.close (tie.spec (λ c κs. search needs) (λ c κs. search needs) (λ c. search needs) (λ c. search needs) put-field-requires-2 (λ c. search needs) (λ c. search needs) put-field-requires-3 (λ c. search needs) (λ c. search needs) put-field-requires-4 put-byte-requires-2 (λ c. search needs) returns)
+put-edge-spec = tie.close (tie.spec (λ c. search needs) (λ c κs. search needs) (λ c κs. search needs) (λ c. search needs) (λ c. search needs) put-field-requires-2 (λ c. search needs) (λ c. search needs) put-field-requires-3 (λ c. search needs) (λ c. search needs) put-field-requires-4 put-byte-requires-2 (λ c. search needs) returns)

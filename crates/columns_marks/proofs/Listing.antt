@@ -9,11 +9,11 @@ use native.Mathlib.Omega.{arith}
 use lib.ListN.{length, getD, length-append, List·getD-append}
 use lib.Seq.{sets, getD-append-add}
 use lib.Dec.{eqb}
-use Rattle.columns.specs.Lists.{joined, when}
-use Rattle.columns.proofs.Columns.{sets-append}
+use Rattle.columns.specs.Lists.{joined, when, over}
+use Rattle.columns.proofs.Columns.{sets-append, over-in}
 use Rattle.columns.proofs.Counting.{joined-more, joined-same}
 use Rattle.columns_neighbors.specs.Lists.{chosen}
-use Rattle.columns_marks.specs.Marks.{isSet, listed}
+use Rattle.columns_marks.specs.Marks.{isSet, listed, Ascending}
 
 pub when-few : {A : Type 0} (b : Bool) (x : A) → length (when b x) ≤ 1
 when-few true x = omega arith
@@ -114,6 +114,18 @@ module _ (test : ℕ → Bool) where
 pub chosen-same : (n : ℕ) (f g : ℕ → Bool) → ((k : ℕ) → k < n → f k ≡ g k) → chosen n f ≡ chosen n g
 unfolding chosen
 chosen-same n f g h = joined-same n _ _ (λ k l. ap (λ (b : Bool). when b k) (h k l))
+
+-- the first places of a column that was written with such a list ascend
+pub listed-ascends : (n count : ℕ) (column list₀ list : List ℕ) → count ≡ length (listed n column) → list ≡ over (listed n column) list₀ → Ascending count list
+unfolding listed
+listed-ascends n count column list₀ list many is i j h l =
+    let xs = listed n column in
+    omega (
+      arith,
+      ap (λ (x : List ℕ). getD x i 0) is ∙ over-in xs list₀ 0 i (omega arith),
+      ap (λ (x : List ℕ). getD x j 0) is ∙ over-in xs list₀ 0 j (omega arith),
+      chosen-ascends (λ k. isSet (getD column k 0)) n i j h (omega arith),
+    )
 
 -- ---- a loop that lists the bytes that are set
 

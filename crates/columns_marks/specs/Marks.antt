@@ -1,5 +1,5 @@
 -- Bytes that are set, and lists of their numbers.
-use Prim.Native.Nat.{ℕ}
+use Prim.Native.Nat.{ℕ, _<_}
 use mathlib.Core.Path.{_≡_}
 use mathlib.Core.Bool.{Bool, false, not, _||_, cond}
 use mathlib.Core.List.{List, [], _∷_}
@@ -16,6 +16,10 @@ isSet byte = not (eqb byte 0)
 -- Sampling, syndromes, reordering, paragraph 2, sentence 4: a list of defects, erasures or virtual vertices: the numbers below n whose byte is set, ascending.
 unfoldable pub listed : ℕ → List ℕ → List ℕ
 listed n column = chosen n (λ k. isSet (getD column k 0))
+
+-- Sampling, syndromes, reordering, paragraph 2, sentence 4: the first n places of a list ascend.
+abbrev pub Ascending : (n : ℕ) → List ℕ → Type 0
+Ascending n list = (i j : ℕ) → i < j → j < n → getD list i 0 < getD list j 0
 
 -- Sampling, syndromes, reordering, paragraph 2, sentence 4: such a list goes on; where its first places hold the numbers
 -- below `from` whose byte is set, they hold those below `to` afterwards.

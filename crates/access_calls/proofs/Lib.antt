@@ -1,7 +1,5 @@
--- Laws that the proofs of this crate cite, and the theorems about the calls.
+-- Laws that the proofs of this crate and of later crates cite.
 -- Refusals: what an accepted call says.
--- Theorems: what a getter lists after a setter.
 pub mod Refusals
-pub mod Theorems
 -- Filling: what an accepted fill_vertices says.
 pub mod Filling

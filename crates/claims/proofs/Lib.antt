@@ -5,8 +5,6 @@ pub mod Runs
 pub mod Built
 pub mod Proved
 pub mod Computed
--- Verdicts: the columns of a built code get verdict 0.
-pub mod Verdicts
 -- Scans: the Rust's loop over the peers, and the nearest virtual vertex. PrebuiltScanned: the claim.
 mod Scans
 mod PrebuiltScanned

@@ -4,8 +4,6 @@ pub mod Called
 pub mod Demand3
 -- Starred: document 01's checked examples with a star.
 pub mod Starred
--- SoundCodes: the verdict of `sanity_check` on built codes.
-pub mod SoundCodes
 -- Prebuilt: what the Rust's `PrebuiltCompleteGraph` reports of a graph. PrebuiltCalled: calls that were accepted. PrebuiltRows: that they give the same.
 pub mod Prebuilt
 pub mod PrebuiltCalled

@@ -1,7 +1,6 @@
 // What is claimed of several sections together. Each claim is the contract of a function with nothing to do.
 ghost use Rattle.claims.specs.Demand3.{Demand3};
 ghost use Rattle.claims.specs.Starred.{StarredExamples};
-ghost use Rattle.claims.specs.SoundCodes.{CreatedCodesAreSound, NewCodesAreSound};
 ghost use Rattle.claims.specs.PrebuiltRows.{PrebuiltRows};
 ghost use Rattle.claims.specs.Met.{ColumnsInRange};
 ghost use Rattle.claims.specs.Queries.{AllEdgesIsLeast, GetPathIsLeast, CrossingCallIsLeast};
@@ -14,16 +13,6 @@ pub fn demand_3()
 // Document 01's checked examples with a star, as one statement about the definitions.
 pub fn starred_examples()
     ensures { λ _. ⌜ StarredExamples ⌝ }
-{}
-
-// `sanity_check` gives verdict 0 to every code that `create_code` builds.
-pub fn created_codes_are_sound()
-    ensures { λ _. ⌜ CreatedCodesAreSound ⌝ }
-{}
-
-// `sanity_check` gives verdict 0 to every code that `new` or `new_diagonal` builds.
-pub fn new_codes_are_sound()
-    ensures { λ _. ⌜ NewCodesAreSound ⌝ }
 {}
 
 // After an accepted `fill_boundaries` its columns hold the Rust's boundary weights and vertices, and `fill_row` over them gives the Rust's row.

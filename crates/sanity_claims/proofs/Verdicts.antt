@@ -5,6 +5,7 @@ use mathlib.Core.List.{List}
 use Prim.Native.Nat.{ℕ, _≤_, _<_}
 use native.Mathlib.Omega.{arith}
 use lib.ListN.{length, getD, take}
+use lib.Ieee.{Float}
 use Rattle.columns.specs.Lists.{over, after}
 use Rattle.columns.proofs.Columns.{after-accepted, take-over}
 use Rattle.columns.proofs.Counting.{length-each}
@@ -16,16 +17,20 @@ use Rattle.codes_layers.proofs.Accepted.{Accepted, accepted}
 use Rattle.codes_layers.proofs.Counted.{edges-counted}
 use Rattle.codes_graphs.proofs.Sound.{first-over, second-over, first-is, second-is, built}
 use Rattle.codes_graphs.proofs.Lists.{vertex-touched}
+use Rattle.sanity_verdicts.specs.declared.Verdict.{Verdict}
 use Rattle.sanity_verdicts.specs.declared.Verdict.the-variants.{Sound}
 use Rattle.sanity_verdicts.specs.Sanity.{verdictSaid}
 use Rattle.sanity_calls.proofs.Verdicts.{sanityAnswer}
 use Rattle.sanity_calls.proofs.Theorems.{EndsEdge, sound-verdict}
 use Rattle.codes_calls.specs.Columns.{CodeColumns}
-use Rattle.codes_calls.specs.CreateCode.{createRefusal, refusalIn, newColumns}
+use Rattle.codes_calls.specs.declared.Created.the-variants.{Code}
+use Rattle.codes_calls.specs.CreateCode.{createRefusal, refusalIn, newColumns, CreateCode}
 use Rattle.codes_calls.proofs.Cases.{code-case}
 use Rattle.codes_calls.proofs.Outcome.{degrees-same, lists-same}
-use Rattle.codes_calls.specs.NewCode.{newRefusal, newRefusalIn}
-use Rattle.claims.specs.SoundCodes.{GetsZero, CreatedCodesAreSound, NewCodesAreSound}
+use Rattle.weights_diagonal.specs.declared.DiagonalProbability.{DiagonalProbability}
+use Rattle.codes_calls.specs.NewCode.{newRefusal, newRefusalIn, WeightedCode}
+use Rattle.sanity_claims.specs.BuiltAndChecked.{ColumnsBuilt, create-built, new-built, new-diagonal-built, SanityCalled, sanity-called}
+use Rattle.sanity_claims.specs.SoundCodes.{BuiltCodesAreSound}
 
 module _ (kind d rounds : ℕ) (ok : Accepted kind d rounds) where
   abbrev es : List Ends
@@ -91,27 +96,38 @@ module _ (kind d rounds : ℕ) (ok : Accepted kind d rounds) where
     gets-zero = sound-verdict v e a b (over ls l₀) (over ns n₀) (built kind d rounds ok .graph a₀ b₀) some ends lengths-are numbers-are
 
 -- columns that were written hold the code
-module _ (kind d rounds q : ℕ) (lent back : CodeColumns) (z : q ≡ 0) (v e : ℕ) (ve : v ≡ vertexNum kind d rounds) (ee : e ≡ edgeNum kind d rounds) (ok : Accepted kind d rounds) where
-  pub written-zero : back .endsA ≡ after q (newColumns kind d rounds .endsA) (lent .endsA) → back .endsB ≡ after q (newColumns kind d rounds .endsB) (lent .endsB)
-      → back .listLengths ≡ after q (newColumns kind d rounds .listLengths) (lent .listLengths) → back .neighborNumbers ≡ after q (newColumns kind d rounds .neighborNumbers) (lent .neighborNumbers)
-      → GetsZero v e back
-  written-zero a b l n r s =
-      ap verdictSaid
-      (s .case-is
-      ∙ (λ i. sanityAnswer (ve i) (ee i) ((a ∙ after-accepted q (newColumns kind d rounds .endsA) (lent .endsA) z) i) ((b ∙ after-accepted q (newColumns kind d rounds .endsB) (lent .endsB) z) i)
-      ((l ∙ after-accepted q (newColumns kind d rounds .listLengths) (lent .listLengths) z) i) ((n ∙ after-accepted q (newColumns kind d rounds .neighborNumbers) (lent .neighborNumbers) z) i))
-      ∙ gets-zero kind d rounds ok (lent .endsA) (lent .endsB) (lent .listLengths) (lent .neighborNumbers))
+module _ (kind d rounds q : ℕ) (c₀ c : CodeColumns) (z : q ≡ 0) (v e : ℕ) (ve : v ≡ vertexNum kind d rounds) (ee : e ≡ edgeNum kind d rounds) (ok : Accepted kind d rounds) where
+  written-zero : c .endsA ≡ after q (newColumns kind d rounds .endsA) (c₀ .endsA) → c .endsB ≡ after q (newColumns kind d rounds .endsB) (c₀ .endsB)
+      → c .listLengths ≡ after q (newColumns kind d rounds .listLengths) (c₀ .listLengths) → c .neighborNumbers ≡ after q (newColumns kind d rounds .neighborNumbers) (c₀ .neighborNumbers)
+      → sanityAnswer v e (c .endsA) (c .endsB) (c .listLengths) (c .neighborNumbers) ≡ Sound
+  written-zero a b l n =
+      (λ i. sanityAnswer (ve i) (ee i) ((a ∙ after-accepted q (newColumns kind d rounds .endsA) (c₀ .endsA) z) i) ((b ∙ after-accepted q (newColumns kind d rounds .endsB) (c₀ .endsB) z) i)
+      ((l ∙ after-accepted q (newColumns kind d rounds .listLengths) (c₀ .listLengths) z) i) ((n ∙ after-accepted q (newColumns kind d rounds .neighborNumbers) (c₀ .neighborNumbers) z) i))
+      ∙ gets-zero kind d rounds ok (c₀ .endsA) (c₀ .endsB) (c₀ .listLengths) (c₀ .neighborNumbers)
 
-pub created-codes-are-sound : CreatedCodesAreSound
+created-zero : (kind d rounds : ℕ) (c₀ c : CodeColumns) (v e : ℕ) → CreateCode kind d rounds c₀ c (Code v e) → sanityAnswer v e (c .endsA) (c .endsB) (c .listLengths) (c .neighborNumbers) ≡ Sound
 unfolding createRefusal
-created-codes-are-sound kind d rounds lent back v e c =
-    let w = code-case (c .answers) in
-    let h = c .columns-after in
-    written-zero kind d rounds (refusalIn kind d rounds lent) lent back (w .0) v e (w .1) (w .2) (accepted kind d rounds _ (w .0) .0) (h .endsA-after) (h .endsB-after) (h .listLengths-after) (h .neighborNumbers-after)
+created-zero kind d rounds c₀ c v e w =
+    let x = code-case (w .answers) in
+    let h = w .columns-after in
+    written-zero kind d rounds (refusalIn kind d rounds c₀) c₀ c (x .0) v e (x .1) (x .2) (accepted kind d rounds _ (x .0) .0) (h .endsA-after) (h .endsB-after) (h .listLengths-after) (h .neighborNumbers-after)
 
-pub new-codes-are-sound : NewCodesAreSound
+weighted-zero : (kind d rounds : ℕ) (p : Float) (diagonal : DiagonalProbability) (max : ℕ) (c₀ c : CodeColumns) (v e : ℕ) → WeightedCode kind d rounds p diagonal max c₀ c (Code v e)
+    → sanityAnswer v e (c .endsA) (c .endsB) (c .listLengths) (c .neighborNumbers) ≡ Sound
 unfolding newRefusal
-new-codes-are-sound kind d rounds p diagonal max lent back v e c =
-    let w = code-case (c .answers) in
-    let h = c .columns-after in
-    written-zero kind d rounds (newRefusalIn kind d rounds p diagonal max lent) lent back (w .0) v e (w .1) (w .2) (accepted kind d rounds _ (w .0) .0) (h .endsA-after) (h .endsB-after) (h .listLengths-after) (h .neighborNumbers-after)
+weighted-zero kind d rounds p diagonal max c₀ c v e w =
+    let x = code-case (w .answers) in
+    let h = w .columns-after in
+    written-zero kind d rounds (newRefusalIn kind d rounds p diagonal max c₀) c₀ c (x .0) v e (x .1) (x .2) (accepted kind d rounds _ (x .0) .0) (h .endsA-after) (h .endsB-after) (h .listLengths-after) (h .neighborNumbers-after)
+
+-- from what the builders' callers learn
+built-zero : (v e : ℕ) (c : CodeColumns) → ColumnsBuilt v e c → sanityAnswer v e (c .endsA) (c .endsB) (c .listLengths) (c .neighborNumbers) ≡ Sound
+built-zero v e c (create-built κs a n m s h) = created-zero _ _ _ _ c v e h
+built-zero v e c (new-built κs a n m s h) = weighted-zero _ _ _ _ _ _ _ c v e h
+built-zero v e c (new-diagonal-built κs a n m s h) = weighted-zero 4 _ _ _ _ _ _ c v e h
+
+checked : (v e : ℕ) (a b l n : List ℕ) (r : Verdict) → SanityCalled v e a b l n r → r ≡ sanityAnswer v e a b l n
+checked v e a b l n r (sanity-called κs x q s h) = h .case-is
+
+pub built-codes-are-sound : BuiltCodesAreSound
+built-codes-are-sound v e c r b s = ap verdictSaid (checked v e (c .endsA) (c .endsB) (c .listLengths) (c .neighborNumbers) r s ∙ built-zero v e c b)

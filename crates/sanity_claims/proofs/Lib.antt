@@ -1,0 +1,2 @@
+-- Verdicts: the columns of a built code get verdict 0.
+pub mod Verdicts

@@ -13,5 +13,3 @@ pub mod Questions
 pub mod Tables
 pub mod Paths
 pub mod Crossings
--- Reordered: syndromes after a reordering.
-pub mod Reordered

@@ -2,4 +2,3 @@
 -- Moving: moved neighbour lists. Accepting: what an accepted call says, and what a call answers and leaves.
 pub mod Moving
 pub mod Accepting
-pub mod Theorems

@@ -1,4 +1,4 @@
--- Reordering keeps syndromes. Assumes nothing.
+-- Reordering keeps syndromes; with question 7 and walks, the claim on what it keeps. Assumes nothing.
 use mathlib.Core.Path.{_≡_, refl, sym, ap, _∙_, subst}
 use mathlib.Core.Logic.{⊎-elim, _↔_}
 use mathlib.Core.Bool.{Bool, true, false, _&&_, cond}
@@ -8,17 +8,16 @@ use native.Mathlib.Decide.{ℕ-discrete}
 use native.Mathlib.Omega.{arith}
 use lib.ListN.{length, getD}
 use lib.Dec.{eqb}
-use borrow.Author.Tests.{eq-eqb, ne-eqb}
 use Rattle.columns.specs.Lists.{joined, when}
-use Rattle.columns.specs.declared.Done.{Done}
-use Rattle.columns_answers.specs.Done.{doneSaid}
+use Rattle.columns.proofs.Tests.{below-at}
 use Rattle.columns_neighbors.specs.Lists.{chosen}
-use Rattle.columns_room.specs.Graph.{CodeGraph, codeGraph}
+use Rattle.columns_room.specs.Graph.{CodeGraph}
 use Rattle.sampling_calls.specs.Syndrome.{hit, endsIn, isDefectOf, syndromeOf}
 use Rattle.reorder_orders.specs.Order.{newNumber, renamed}
-use Rattle.reorder_orders.proofs.Permutation.{order-below, new-below, new-of-old, new-differ}
-use Rattle.reorder_calls.specs.Columns.{ReorderColumns, ReorderedVertices}
-use Rattle.reorder_calls.proofs.Theorems.{Renumbered, renumbered}
+use Rattle.reorder_orders.proofs.Permutation.{order-below, new-below, new-of-old}
+use Rattle.reorder_calls.specs.Columns.{ReorderColumns}
+use Rattle.reorder_claims.specs.Keeps.{reorderCode, ReorderingKeeps}
+use Rattle.reorder_claims.proofs.Kept.{promise, GraphRenamed, graph-renamed, same-number, question-7-kept, walk-kept, walk-from}
 
 -- the numbers that pass a test, as a set
 chosen-in : (test : ℕ → Bool) (n x : ℕ) → x < n → test x ≡ true → List·Memᴰ x (chosen n test)
@@ -41,61 +40,57 @@ chosen-out test (suc n) x m = ⊎-elim
     one true p w = let q = List·Memᴰ·eq-of-singleton w in (omega arith, ap test q ∙ p)
     one false p w = absurd (List·Memᴰ·not-nil w)
 
-module _ (v e : ℕ) (order : List ℕ) (before last : ReorderColumns) (r : Renumbered v e order before last) where
+module _ (v e : ℕ) (order : List ℕ) (c₀ c : ReorderColumns) (r : GraphRenamed v e order c₀ c) where
   in-order : (u : ℕ) → u < v → u < length order
   in-order u h = omega (arith, r .many)
 
   new-in : (u : ℕ) → u < v → newNumber order u < v
   new-in u h = omega (arith, new-below order (r .order-is) u (in-order u h), r .many)
 
-  same-old : (x y : ℕ) → x < v → y < v → newNumber order x ≡ newNumber order y → x ≡ y
-  same-old x y h g = new-differ order (r .order-is) x y (in-order x h) (in-order y g)
-
   abbrev oldCode : CodeGraph
-  oldCode = codeGraph v e (before .endsA) (before .endsB) (before .boundary)
+  oldCode = reorderCode v e c₀
 
   abbrev newCode : CodeGraph
-  newCode = codeGraph v e (last .endsA) (last .endsB) (last .boundary)
+  newCode = reorderCode v e c
 
   hit-new : (u x : ℕ) {x′ : ℕ} → u < v → x < v → x′ ≡ newNumber order x → hit (newNumber order u) x′ ≡ hit u x
-  hit-new u x {x′} h g p = elim (ℕ-discrete x u) [
-    | yes q ↦ ap (λ (t : Bool). cond t 1 0) (eq-eqb x′ (newNumber order u) (p ∙ ap (newNumber order) q) ∙ sym (eq-eqb x u q))
-    | no q ↦ ap (λ (t : Bool). cond t 1 0) (ne-eqb x′ (newNumber order u) (λ r. q (same-old x u g h (sym p ∙ r))) ∙ sym (ne-eqb x u q))
-  ]
+  hit-new u x h g p = ap (λ (t : Bool). cond t 1 0) (same-number order (r .order-is) (r .many) u x h g p)
 
   ends-kept : (ks : List ℕ) (u : ℕ) → u < v → ((i : ℕ) → i < length ks → getD ks i 0 < e)
-      → endsIn (last .endsA) (last .endsB) ks (newNumber order u) ≡ endsIn (before .endsA) (before .endsB) ks u
+      → endsIn (c .endsA) (c .endsB) ks (newNumber order u) ≡ endsIn (c₀ .endsA) (c₀ .endsB) ks u
   unfolding endsIn
   ends-kept [] u h named = refl
   ends-kept (i ∷ ks) u h named =
       let b : i < e = named 0 (omega arith) in
-      omega (arith, hit-new u (getD (before .endsA) i 0) h (r .in-a i b) (r .endsA-renamed i b), hit-new u (getD (before .endsB) i 0) h (r .in-b i b) (r .endsB-renamed i b), ends-kept ks u h (λ n l. named (suc n) (omega arith)))
+      omega (arith, hit-new u (getD (c₀ .endsA) i 0) h (r .in-a i b) (r .endsA-renamed i b), hit-new u (getD (c₀ .endsB) i 0) h (r .in-b i b) (r .endsB-renamed i b), ends-kept ks u h (λ n l. named (suc n) (omega arith)))
 
   defect-kept : (ks : List ℕ) (u : ℕ) → u < v → ((i : ℕ) → i < length ks → getD ks i 0 < e) → isDefectOf newCode ks (newNumber order u) ≡ isDefectOf oldCode ks u
   unfolding isDefectOf
   defect-kept ks u h named =
-      ap (λ (n : ℕ). eqb n 0 && eqb (endsIn (last .endsA) (last .endsB) ks (newNumber order u) % 2) 1) (r .boundary-kept u h)
-      ∙ ap (λ (n : ℕ). eqb (getD (before .boundary) u 0) 0 && eqb (n % 2) 1) (ends-kept ks u h named)
+      ap (λ (n : ℕ). eqb n 0 && eqb (endsIn (c .endsA) (c .endsB) ks (newNumber order u) % 2) 1) (r .boundary-kept u h)
+      ∙ ap (λ (n : ℕ). eqb (getD (c₀ .boundary) u 0) 0 && eqb (n % 2) 1) (ends-kept ks u h named)
 
   kept : (ks : List ℕ) → ((i : ℕ) → i < length ks → getD ks i 0 < e) → (x : ℕ)
       → List·Memᴰ x (syndromeOf newCode ks) ↔ List·Memᴰ x (renamed order (syndromeOf oldCode ks))
   unfolding syndromeOf
   kept ks named x = (
     (λ m.
-        let c = chosen-out (isDefectOf newCode ks) v x m in
+        let is = chosen-out (isDefectOf newCode ks) v x m in
         let u = getD order x 0 in
-        let h : u < v = omega (arith, order-below order (r .order-is) x (in-order x (c .0)), r .many) in
-        let q : newNumber order u ≡ x = new-of-old order (r .order-is) x (in-order x (c .0)) in
-        Memᴰ·cast (sym q) (Memᴰ·map (newNumber order) (chosen-in (isDefectOf oldCode ks) v u h (sym (defect-kept ks u h named) ∙ ap (isDefectOf newCode ks) q ∙ c .1)))),
+        let h : u < v = omega (arith, order-below order (r .order-is) x (in-order x (is .0)), r .many) in
+        let q : newNumber order u ≡ x = new-of-old order (r .order-is) x (in-order x (is .0)) in
+        Memᴰ·cast (sym q) (Memᴰ·map (newNumber order) (chosen-in (isDefectOf oldCode ks) v u h (sym (defect-kept ks u h named) ∙ ap (isDefectOf newCode ks) q ∙ is .1)))),
     (λ m.
         let w = Memᴰ·of-map (newNumber order) (chosen v (isDefectOf oldCode ks)) m in
-        let c = chosen-out (isDefectOf oldCode ks) v (w .0) (w .1) in
-        Memᴰ·cast (sym (w .2)) (chosen-in (isDefectOf newCode ks) v (newNumber order (w .0)) (new-in (w .0) (c .0)) (defect-kept ks (w .0) (c .0) named ∙ c .1))),
+        let is = chosen-out (isDefectOf oldCode ks) v (w .0) (w .1) in
+        Memᴰ·cast (sym (w .2)) (chosen-in (isDefectOf newCode ks) v (newNumber order (w .0)) (new-in (w .0) (is .0)) (defect-kept ks (w .0) (is .0) named ∙ is .1))),
   )
 
--- the syndrome of a graph after an accepted reordering is the translated syndrome of the graph before it, as sets
-pub syndrome-kept : (v e : ℕ) (order : List ℕ) (before last : ReorderColumns) (answer : Done) → ReorderedVertices v e order before answer last → doneSaid answer .number ≡ 0
-    → (ks : List ℕ) → ((i : ℕ) → i < length ks → getD ks i 0 < e) → (x : ℕ)
-    → List·Memᴰ x (syndromeOf (codeGraph v e (last .endsA) (last .endsB) (last .boundary)) ks)
-    ↔ List·Memᴰ x (renamed order (syndromeOf (codeGraph v e (before .endsA) (before .endsB) (before .boundary)) ks))
-syndrome-kept v e order before last answer call accepted = kept v e order before last (renumbered v e order before last answer call accepted)
+-- ---- the claim
+
+pub reordering-keeps : ReorderingKeeps
+reordering-keeps = record {
+  question-7 = λ v e order c₀ c r. question-7-kept v e order c₀ c (promise r);
+  walks = λ v e order c₀ c r x y s h g. (walk-kept v e order c₀ c (promise r), walk-from v e order c₀ c (promise r) x y h g);
+  syndromes = λ v e order c₀ c r edges below x. kept v e order c₀ c (graph-renamed v e order c₀ c (promise r)) edges (below-at e edges below) x;
+}

@@ -4,7 +4,7 @@ use mathlib.Core.Path.{_≡_}
 use mathlib.Core.Logic.{_↔_}
 use mathlib.Core.Bool.{true}
 use mathlib.Core.List.{List, List·Memᴰ}
-use lib.ListN.{take}
+use lib.ListN.{length, take}
 use Rattle.columns.specs.Questions.{allBelow}
 use Rattle.columns_room.specs.Graph.{CodeGraph, codeGraph}
 use Rattle.engine_walks.specs.Graph.{Graph, Walk}
@@ -28,6 +28,8 @@ pub record ReorderingKeeps : Type 0 where
   -- Engine, on walks, sentence 1: a walk is one between the new numbers, along the same edges and so of the same weight, and the other way round.
   pub walks : (v e : ℕ) (order : List ℕ) (c₀ c : ReorderColumns) → VerticesReordered v e order c₀ c → (x y : ℕ) (s : List ℕ) → x < v → y < v
       → Walk (reorderGraph v e c₀) x s y ↔ Walk (reorderGraph v e c) (newNumber order x) s (newNumber order y)
-  -- Paragraph 2, sentence 3: the syndrome of edges that are in range is the translated syndrome, as sets.
+  -- Paragraph 2, sentence 3: the syndrome of edges that are in range is the translated syndrome, as sets, and as long.
   pub syndromes : (v e : ℕ) (order : List ℕ) (c₀ c : ReorderColumns) → VerticesReordered v e order c₀ c → (edges : List ℕ) → allBelow e edges ≡ true
       → (x : ℕ) → List·Memᴰ x (syndromeOf (reorderCode v e c) edges) ↔ List·Memᴰ x (renamed order (syndromeOf (reorderCode v e c₀) edges))
+  pub as-many-defects : (v e : ℕ) (order : List ℕ) (c₀ c : ReorderColumns) → VerticesReordered v e order c₀ c → (edges : List ℕ) → allBelow e edges ≡ true
+      → length (syndromeOf (reorderCode v e c) edges) ≡ length (syndromeOf (reorderCode v e c₀) edges)

@@ -1,27 +1,33 @@
 -- A getter's list holds the numbers whose byte is set, and a setter sets the bytes of the numbers that it was handed. Assumes nothing.
-use mathlib.Core.Path.{_≡_, refl, sym, ap, _∙_}
-use mathlib.Core.Bool.{Bool, true, false, _||_, not, cond, false≢true, or-true}
+use mathlib.Core.Path.{_≡_, refl, sym, ap, _∙_, subst}
+use mathlib.Core.Bool.{Bool, true, false, _&&_, _||_, not, cond, false≢true, or-true}
 use mathlib.Core.List.{List, [], _∷_}
 use Prim.Native.Nat.{ℕ, zero, suc, _≤_, _<_}
 use native.Mathlib.Decide.{ℕ-discrete}
 use native.Mathlib.Omega.{arith}
-use lib.ListN.{length, getD}
-use lib.Dec.{eqb}
-use borrow.Author.Tests.{eq-eqb, ne-eqb}
+use lib.ListN.{length, getD, take, length-take}
+use lib.Seq.{getD-take}
+use lib.Dec.{eqb, leb}
+use borrow.Author.Tests.{eq-eqb, ne-eqb, le-leb}
 use Rattle.columns.specs.Lists.{each, over}
-use Rattle.columns.specs.Questions.{vertexCountSound, edgeCountSound}
+use Rattle.columns.specs.Questions.{ask, vertexCountSound, edgeCountSound, marksSound}
 use Rattle.columns.specs.declared.Done.the-variants.{Accepted}
 use Rattle.columns.proofs.Columns.{over-in, over-past, length-over, after-accepted}
 use Rattle.columns.proofs.Counting.{length-each, getD-each}
+use Rattle.columns.proofs.Refusals.{met, goes-on, asks, ands}
+use Rattle.columns.proofs.Tests.{both-and, at-within}
+use Rattle.columns_answers.specs.declared.ListCount.{ListCount}
+use Rattle.columns_answers.specs.declared.SyndromeCounts.{SyndromeCounts}
 use Rattle.columns_answers.specs.declared.ListCount.the-variants.{Count}
 use Rattle.columns_answers.specs.declared.SyndromeCounts.the-variants.{Counts}
 use Rattle.columns_answers.proofs.Said.{zero-of, values-of}
+use Rattle.columns_room.specs.Room.{twoLong}
 use Rattle.columns_marks.specs.Marks.{isSet, listed, names, marks}
 use Rattle.columns_marks.proofs.Listing.{chosen-at, chosen-has, listed-few, listed-ascends}
-use Rattle.access_calls.specs.Calls.{Syndrome, setMarksRefusal, SetMarks, setSyndromeRefusal, SetSyndrome, getMarksRefusal, GotMarks, getSyndromeRefusal, GotSyndrome, Code, Initializer, initializerRefusal, GotInitializer}
+use Rattle.access_calls.specs.Calls.{Syndrome, setMarksRefusal, SetMarks, countsSound, setSyndromeRefusal, SetSyndrome, getMarksRefusal, GotMarks, getSyndromeRefusal, GotSyndrome, Code, Initializer, initializerRefusal, GotInitializer}
 use Rattle.access_calls.proofs.Refusals.{set-met, set-syndrome-met, get-met, get-syndrome-met, initializer-met}
 use Rattle.access_claims.specs.AccessCalled.{DefectsGot, defects-got, ErasuresGot, erasures-got, SyndromeGot, syndrome-got, InitializerGot, initializer-got, DefectsSet, defects-set, ErasuresSet, erasures-set, SyndromeSet, syndrome-set}
-use Rattle.access_claims.specs.Lists.{StandsIn, ByteSet, ListsBytes, GettersList}
+use Rattle.access_claims.specs.Lists.{StandsIn, ByteSet, ListsBytes, GetterLists}
 use Rattle.access_claims.specs.SetThenGet.{SameNumbers, SetThenGet}
 
 -- ---- the list of the bytes that are set
@@ -101,26 +107,25 @@ got-virtual {v} {e} {c} {to₀} {to} {count} g =
     }
 
 -- from what their callers learn
-defects-read : {v : ℕ} {defect list₀ list : List ℕ} {count : ℕ} → DefectsGot v defect list₀ list count → Got v defect list₀ list count
-defects-read (defects-got κs a count s h) = got-marks {sound = vertexCountSound (a .0)} h
+defects-read : {v : ℕ} {defect list₀ list : List ℕ} {r : ListCount} → DefectsGot v defect list₀ list r → GotMarks (vertexCountSound v) v defect list₀ list r
+defects-read (defects-got κs a r s h) = h
 
-erasures-read : {e : ℕ} {erasure list₀ list : List ℕ} {count : ℕ} → ErasuresGot e erasure list₀ list count → Got e erasure list₀ list count
-erasures-read (erasures-got κs a count s h) = got-marks {sound = edgeCountSound (a .0)} h
+erasures-read : {e : ℕ} {erasure list₀ list : List ℕ} {r : ListCount} → ErasuresGot e erasure list₀ list r → GotMarks (edgeCountSound e) e erasure list₀ list r
+erasures-read (erasures-got κs a r s h) = h
 
-syndrome-read : {v e : ℕ} {column lists₀ lists : Syndrome} {defects erasures : ℕ} → SyndromeGot v e column lists₀ lists defects erasures
-    → GotSyndrome v e column lists₀ lists (Counts defects erasures)
-syndrome-read (syndrome-got κs a defects erasures s h) = h
+syndrome-read : {v e : ℕ} {column lists₀ lists : Syndrome} {r : SyndromeCounts} → SyndromeGot v e column lists₀ lists r → GotSyndrome v e column lists₀ lists r
+syndrome-read (syndrome-got κs a r s h) = h
 
-virtual-read : {v : ℕ} {boundary list₀ list : List ℕ} {count : ℕ} → InitializerGot v boundary list₀ list count → Got v boundary list₀ list count
-virtual-read (initializer-got κs a count s h) = got-virtual h
+virtual-read : {v : ℕ} {boundary list₀ list : List ℕ} {r : ListCount} → InitializerGot v boundary list₀ list r → (count : ℕ) → r ≡ Count count → Got v boundary list₀ list count
+virtual-read (initializer-got κs a r s h) count p = got-virtual (subst (GotInitializer _ _ _ _ _) p h)
 
-pub getters-list : GettersList
-getters-list = record {
-  defect-vertices = λ v defect list₀ list count c. lists-bytes v defect list₀ list count (defects-read c);
-  erasures = λ e erasure list₀ list count c. lists-bytes e erasure list₀ list count (erasures-read c);
+pub getter-lists : GetterLists
+getter-lists = record {
+  defect-vertices = λ v defect list₀ list count c. lists-bytes v defect list₀ list count (got-marks (defects-read c));
+  erasures = λ e erasure list₀ list count c. lists-bytes e erasure list₀ list count (got-marks (erasures-read c));
   syndrome-defects = λ v e column lists₀ lists defects erasures c. lists-bytes v (column .defects) (lists₀ .defects) (lists .defects) defects (got-defects (syndrome-read c));
   syndrome-erasures = λ v e column lists₀ lists defects erasures c. lists-bytes e (column .erasures) (lists₀ .erasures) (lists .erasures) erasures (got-erasures (syndrome-read c));
-  virtual-vertices = λ v boundary list₀ list count c. lists-bytes v boundary list₀ list count (virtual-read c);
+  virtual-vertices = λ v boundary list₀ list count c. lists-bytes v boundary list₀ list count (virtual-read c count refl);
 }
 
 -- ---- the bytes that a list sets
@@ -128,6 +133,7 @@ getters-list = record {
 -- what an accepted setter leaves of one column
 record Set (n : ℕ) (handed bytes : List ℕ) : Type 0 where
   pub below : (i : ℕ) → i < length handed → getD handed i 0 < n
+  pub long : n ≤ length bytes
   pub byte-is : (k : ℕ) → k < n → getD bytes k 0 ≡ cond (names handed k) 1 0
 
 marks-at : (n : ℕ) (handed bytes₀ bytes : List ℕ) → bytes ≡ over (marks n handed) bytes₀ → (k : ℕ) → k < n → getD bytes k 0 ≡ cond (names handed k) 1 0
@@ -135,6 +141,12 @@ unfolding marks
 marks-at n handed bytes₀ bytes p k h =
     let f : ℕ → ℕ = λ k. cond (names handed k) 1 0 in
     ap (λ (l : List ℕ). getD l k 0) p ∙ over-in (each n f) bytes₀ 0 k (omega (arith, length-each n f)) ∙ getD-each n f 0 k h
+
+marks-long : (n : ℕ) (handed bytes₀ bytes : List ℕ) → bytes ≡ over (marks n handed) bytes₀ → n ≤ length bytes₀ → n ≤ length bytes
+unfolding marks
+marks-long n handed bytes₀ bytes p h =
+    let f : ℕ → ℕ = λ k. cond (names handed k) 1 0 in
+    omega (arith, ap length p ∙ length-over (each n f) bytes₀ (omega (arith, length-each n f)))
 
 names-stands : (xs : List ℕ) (k : ℕ) → names xs k ≡ true → StandsIn (length xs) xs k
 unfolding names
@@ -170,46 +182,87 @@ module _ (n : ℕ) (handed bytes : List ℕ) (s : Set n handed bytes) where
     same = λ k. ((λ x. byte-handed k (l .lists-set k .0 x)), λ x. l .lists-set k .1 (handed-byte k x));
   }
 
-set-marks : {sound : Bool} {n : ℕ} {handed bytes₀ bytes : List ℕ} → SetMarks sound n handed bytes₀ bytes Accepted → Set n handed bytes
+-- the bytes are 0 and 1
+one-at-most : (b : Bool) {byte : ℕ} → byte ≡ cond b 1 0 → byte ≤ 1
+one-at-most true p = omega arith
+one-at-most false p = omega arith
+
+bytes-sound : (n : ℕ) (handed bytes : List ℕ) → Set n handed bytes → marksSound n bytes ≡ true
+bytes-sound n handed bytes s = at-within 1 (take n bytes) (λ i h.
+    let b : i < n = omega (arith, length-take n bytes) in
+    one-at-most (names handed i) (getD-take n bytes i 0 b ∙ s .byte-is i b))
+
+-- so that question 6 alone is left to a getter, of its list
+room-left : (n : ℕ) (handed bytes : List ℕ) → Set n handed bytes → (room : ℕ) → twoLong n (length bytes) room ≡ leb n room
+unfolding twoLong
+room-left n handed bytes s room = ap (λ (b : Bool). b && leb n room) (le-leb n (length bytes) (s .long))
+
+number-left : (sound : Bool) (n : ℕ) (handed bytes list₀ : List ℕ) → sound ≡ true → Set n handed bytes → getMarksRefusal sound n bytes list₀ ≡ ask (leb n (length list₀)) 6 0
+number-left sound n handed bytes list₀ p s = asks 6 (room-left n handed bytes s (length list₀)) (asks 7 (both-and p (bytes-sound n handed bytes s)) refl)
+
+-- from what the calls promise
+set-marks : {sound : Bool} {n : ℕ} {handed bytes₀ bytes : List ℕ} → SetMarks sound n handed bytes₀ bytes Accepted → Set n handed bytes × (sound ≡ true)
 set-marks {sound} {n} {handed} {bytes₀} {bytes} s =
     let z = zero-of (s .answers) in
-    record {
-      below = set-met sound n handed bytes₀ z .1;
-      byte-is = marks-at n handed bytes₀ bytes (s .column-after ∙ after-accepted (setMarksRefusal sound n handed bytes₀) (marks n handed) bytes₀ z);
-    }
+    let is = s .column-after ∙ after-accepted (setMarksRefusal sound n handed bytes₀) (marks n handed) bytes₀ z in
+    let (room, below) = set-met sound n handed bytes₀ z in (
+      record { below = below; long = marks-long n handed bytes₀ bytes is room; byte-is = marks-at n handed bytes₀ bytes is },
+      met sound 6 _ (goes-on (leb n (length bytes₀)) 5 _ z),
+    )
 
-set-defects : {v e : ℕ} {handed column₀ column : Syndrome} → SetSyndrome v e handed column₀ column Accepted → Set v (handed .defects) (column .defects)
-set-defects {v} {e} {handed} {column₀} {column} s =
-    let z = zero-of (s .answers) in
-    record {
-      below = set-syndrome-met v e handed column₀ z .1 .0;
-      byte-is = marks-at v (handed .defects) (column₀ .defects) (column .defects) (s .defects-after ∙ after-accepted (setSyndromeRefusal v e handed column₀) (marks v (handed .defects)) (column₀ .defects) z);
-    }
+record SyndromeIs (v e : ℕ) (handed column : Syndrome) : Type 0 where
+  pub defects : Set v (handed .defects) (column .defects)
+  pub erasures : Set e (handed .erasures) (column .erasures)
+  pub sound : countsSound v e ≡ true
 
-set-erasures : {v e : ℕ} {handed column₀ column : Syndrome} → SetSyndrome v e handed column₀ column Accepted → Set e (handed .erasures) (column .erasures)
-set-erasures {v} {e} {handed} {column₀} {column} s =
+set-syndrome : {v e : ℕ} {handed column₀ column : Syndrome} → SetSyndrome v e handed column₀ column Accepted → SyndromeIs v e handed column
+set-syndrome {v} {e} {handed} {column₀} {column} s =
+    let q = setSyndromeRefusal v e handed column₀ in
     let z = zero-of (s .answers) in
+    let ((room-d, room-e), (below-d, below-e)) = set-syndrome-met v e handed column₀ z in
+    let is-d = s .defects-after ∙ after-accepted q (marks v (handed .defects)) (column₀ .defects) z in
+    let is-e = s .erasures-after ∙ after-accepted q (marks e (handed .erasures)) (column₀ .erasures) z in
     record {
-      below = set-syndrome-met v e handed column₀ z .1 .1;
-      byte-is = marks-at e (handed .erasures) (column₀ .erasures) (column .erasures) (s .erasures-after ∙ after-accepted (setSyndromeRefusal v e handed column₀) (marks e (handed .erasures)) (column₀ .erasures) z);
+      defects = record {
+        below = below-d;
+        long = marks-long v (handed .defects) (column₀ .defects) (column .defects) is-d room-d;
+        byte-is = marks-at v (handed .defects) (column₀ .defects) (column .defects) is-d;
+      };
+      erasures = record {
+        below = below-e;
+        long = marks-long e (handed .erasures) (column₀ .erasures) (column .erasures) is-e room-e;
+        byte-is = marks-at e (handed .erasures) (column₀ .erasures) (column .erasures) is-e;
+      };
+      sound = met (countsSound v e) 6 _ (goes-on (leb v (length (column₀ .defects)) && leb e (length (column₀ .erasures))) 5 _ z);
     }
 
 -- from what their callers learn
-defects-written : {v : ℕ} {handed defect : List ℕ} → DefectsSet v handed defect → Set v handed defect
-defects-written (defects-set κs a s h) = set-marks {sound = vertexCountSound (a .0)} h
+defects-written : {v : ℕ} {handed defect : List ℕ} → DefectsSet v handed defect → Set v handed defect × (vertexCountSound v ≡ true)
+defects-written (defects-set κs a s h) = set-marks h
 
-erasures-written : {e : ℕ} {handed erasure : List ℕ} → ErasuresSet e handed erasure → Set e handed erasure
-erasures-written (erasures-set κs a s h) = set-marks {sound = edgeCountSound (a .0)} h
+erasures-written : {e : ℕ} {handed erasure : List ℕ} → ErasuresSet e handed erasure → Set e handed erasure × (edgeCountSound e ≡ true)
+erasures-written (erasures-set κs a s h) = set-marks h
 
-syndrome-written : {v e : ℕ} {handed column : Syndrome} → SyndromeSet v e handed column → Set v (handed .defects) (column .defects) × Set e (handed .erasures) (column .erasures)
-syndrome-written (syndrome-set κs a s h) = (set-defects h, set-erasures h)
+syndrome-written : {v e : ℕ} {handed column : Syndrome} → SyndromeSet v e handed column → SyndromeIs v e handed column
+syndrome-written (syndrome-set κs a s h) = set-syndrome h
 
 pub set-then-get : SetThenGet
 set-then-get = record {
-  defect-vertices = λ v handed defect list₀ list count c g. same-numbers v handed defect (defects-written c) list₀ list count (getters-list .defect-vertices v defect list₀ list count g);
-  erasures = λ e handed erasure list₀ list count c g. same-numbers e handed erasure (erasures-written c) list₀ list count (getters-list .erasures e erasure list₀ list count g);
+  defect-vertices = λ v handed defect list₀ list count c g. same-numbers v handed defect (defects-written c .0) list₀ list count (getter-lists .defect-vertices v defect list₀ list count g);
+  erasures = λ e handed erasure list₀ list count c g. same-numbers e handed erasure (erasures-written c .0) list₀ list count (getter-lists .erasures e erasure list₀ list count g);
   syndrome-defects = λ v e handed column lists₀ lists defects erasures c g.
-      same-numbers v (handed .defects) (column .defects) (syndrome-written c .0) (lists₀ .defects) (lists .defects) defects (getters-list .syndrome-defects v e column lists₀ lists defects erasures g);
+      same-numbers v (handed .defects) (column .defects) (syndrome-written c .defects) (lists₀ .defects) (lists .defects) defects (getter-lists .syndrome-defects v e column lists₀ lists defects erasures g);
   syndrome-erasures = λ v e handed column lists₀ lists defects erasures c g.
-      same-numbers e (handed .erasures) (column .erasures) (syndrome-written c .1) (lists₀ .erasures) (lists .erasures) erasures (getters-list .syndrome-erasures v e column lists₀ lists defects erasures g);
+      same-numbers e (handed .erasures) (column .erasures) (syndrome-written c .erasures) (lists₀ .erasures) (lists .erasures) erasures (getter-lists .syndrome-erasures v e column lists₀ lists defects erasures g);
+  defect-vertices-number = λ v handed defect list₀ list r c g.
+      let (s, p) = defects-written c in defects-read g .answers .number-is ∙ number-left (vertexCountSound v) v handed defect list₀ p s;
+  erasures-number = λ e handed erasure list₀ list r c g.
+      let (s, p) = erasures-written c in erasures-read g .answers .number-is ∙ number-left (edgeCountSound e) e handed erasure list₀ p s;
+  syndrome-number = λ v e handed column lists₀ lists r c g.
+      let s = syndrome-written c in
+      let d = bytes-sound v (handed .defects) (column .defects) (s .defects) in
+      let f = bytes-sound e (handed .erasures) (column .erasures) (s .erasures) in
+      syndrome-read g .answers .number-is
+      ∙ asks 6 (ands (room-left v (handed .defects) (column .defects) (s .defects) (length (lists₀ .defects))) (room-left e (handed .erasures) (column .erasures) (s .erasures) (length (lists₀ .erasures))))
+      (asks 7 (both-and (s .sound) (both-and d f)) refl);
 }

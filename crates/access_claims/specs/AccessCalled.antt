@@ -1,4 +1,4 @@
--- Calls of the getters and setters that were accepted. `Learnt` is what a caller of a function learns of a call, made from the function's own contract: lifetimes, the
+-- Calls of the getters, and of the setters that were accepted. `Learnt` is what a caller of a function learns of a call, made from the function's own contract: lifetimes, the
 -- arguments as they were passed, the result, and the parameters at exit. The columns lent are any: no call needs to have made them.
 use Prim.Native.Nat.{ℕ}
 use mathlib.Core.List.{List}
@@ -7,8 +7,8 @@ use borrow.Fn.Kinds.{Dens, endedOf}
 use denote.Triple.Clauses.{AtExit}
 use denote.Ref.{now}
 use Rattle.columns.specs.declared.Done.the-variants.{Accepted}
-use Rattle.columns_answers.specs.declared.ListCount.the-variants.{Count}
-use Rattle.columns_answers.specs.declared.SyndromeCounts.the-variants.{Counts}
+use Rattle.columns_answers.specs.declared.ListCount.{ListCount}
+use Rattle.columns_answers.specs.declared.SyndromeCounts.{SyndromeCounts}
 use Rattle.access_calls.specs.Calls.{Syndrome, syndrome}
 use Rattle.access_calls.proofs.get_defect_vertices.Kinds as get-defects-kinds
 use Rattle.access_calls.proofs.get_defect_vertices.Reads as get-defects-reads
@@ -25,32 +25,32 @@ use Rattle.access_calls.proofs.set_erasures.Reads as set-erasures-reads
 use Rattle.access_calls.proofs.set_syndrome.Kinds as set-syndrome-kinds
 use Rattle.access_calls.proofs.set_syndrome.Reads as set-syndrome-reads
 
--- ---- getters: the counts, the bytes lent, the list's column before and after, and how many numbers were listed
+-- ---- getters: the counts, the bytes lent, the list's column before and after, and the answer
 
--- Taken over, the trait `ExampleCode`: an accepted `get_defect_vertices`.
-pub data DefectsGot : (v : ℕ) (defect list₀ list : List ℕ) (count : ℕ) → Type 0 where
-  defects-got : (κs : Lfts 2) (a : Dens κs get-defects-kinds.ps) (count : ℕ) (s : AtExit (endedOf 2 get-defects-kinds.ps get-defects-kinds.r) κs)
-      → get-defects-reads.Learnt κs a (Count count) s
-      → DefectsGot (a .0) (now (a .1 .0)) (now (a .1 .1 .0)) (now (s .1 .1 .0)) count
+-- Taken over, the trait `ExampleCode`: a call of `get_defect_vertices`.
+pub data DefectsGot : (v : ℕ) (defect list₀ list : List ℕ) (answer : ListCount) → Type 0 where
+  defects-got : (κs : Lfts 2) (a : Dens κs get-defects-kinds.ps) (r : ListCount) (s : AtExit (endedOf 2 get-defects-kinds.ps get-defects-kinds.r) κs)
+      → get-defects-reads.Learnt κs a r s
+      → DefectsGot (a .0) (now (a .1 .0)) (now (a .1 .1 .0)) (now (s .1 .1 .0)) r
 
--- Taken over, the trait `ExampleCode`: an accepted `get_erasures`.
-pub data ErasuresGot : (e : ℕ) (erasure list₀ list : List ℕ) (count : ℕ) → Type 0 where
-  erasures-got : (κs : Lfts 2) (a : Dens κs get-erasures-kinds.ps) (count : ℕ) (s : AtExit (endedOf 2 get-erasures-kinds.ps get-erasures-kinds.r) κs)
-      → get-erasures-reads.Learnt κs a (Count count) s
-      → ErasuresGot (a .0) (now (a .1 .0)) (now (a .1 .1 .0)) (now (s .1 .1 .0)) count
+-- Taken over, the trait `ExampleCode`: a call of `get_erasures`.
+pub data ErasuresGot : (e : ℕ) (erasure list₀ list : List ℕ) (answer : ListCount) → Type 0 where
+  erasures-got : (κs : Lfts 2) (a : Dens κs get-erasures-kinds.ps) (r : ListCount) (s : AtExit (endedOf 2 get-erasures-kinds.ps get-erasures-kinds.r) κs)
+      → get-erasures-reads.Learnt κs a r s
+      → ErasuresGot (a .0) (now (a .1 .0)) (now (a .1 .1 .0)) (now (s .1 .1 .0)) r
 
--- Taken over, the trait `ExampleCode`: an accepted `get_syndrome`.
-pub data SyndromeGot : (v e : ℕ) (column lists₀ lists : Syndrome) (defects erasures : ℕ) → Type 0 where
-  syndrome-got : (κs : Lfts 4) (a : Dens κs get-syndrome-kinds.ps) (defects erasures : ℕ) (s : AtExit (endedOf 4 get-syndrome-kinds.ps get-syndrome-kinds.r) κs)
-      → get-syndrome-reads.Learnt κs a (Counts defects erasures) s
+-- Taken over, the trait `ExampleCode`: a call of `get_syndrome`.
+pub data SyndromeGot : (v e : ℕ) (column lists₀ lists : Syndrome) (answer : SyndromeCounts) → Type 0 where
+  syndrome-got : (κs : Lfts 4) (a : Dens κs get-syndrome-kinds.ps) (r : SyndromeCounts) (s : AtExit (endedOf 4 get-syndrome-kinds.ps get-syndrome-kinds.r) κs)
+      → get-syndrome-reads.Learnt κs a r s
       → SyndromeGot (a .0) (a .1 .0) (syndrome (now (a .1 .1 .0)) (now (a .1 .1 .1 .0)))
-      (syndrome (now (a .1 .1 .1 .1 .0)) (now (a .1 .1 .1 .1 .1 .0))) (syndrome (now (s .1 .1 .1 .1 .0)) (now (s .1 .1 .1 .1 .1 .0))) defects erasures
+      (syndrome (now (a .1 .1 .1 .1 .0)) (now (a .1 .1 .1 .1 .1 .0))) (syndrome (now (s .1 .1 .1 .1 .0)) (now (s .1 .1 .1 .1 .1 .0))) r
 
--- Weights, get_initializer: an accepted `get_initializer`: the boundary bytes lent, and the list of virtual vertices.
-pub data InitializerGot : (v : ℕ) (boundary list₀ list : List ℕ) (count : ℕ) → Type 0 where
-  initializer-got : (κs : Lfts 8) (a : Dens κs initializer-kinds.ps) (count : ℕ) (s : AtExit (endedOf 8 initializer-kinds.ps initializer-kinds.r) κs)
-      → initializer-reads.Learnt κs a (Count count) s
-      → InitializerGot (a .0) (now (a .1 .1 .1 .1 .1 .0)) (now (a .1 .1 .1 .1 .1 .1 .1 .1 .1 .0)) (now (s .1 .1 .1 .1 .1 .1 .1 .1 .1 .0)) count
+-- Weights, get_initializer: a call of `get_initializer`: the boundary bytes lent, and the list of virtual vertices.
+pub data InitializerGot : (v : ℕ) (boundary list₀ list : List ℕ) (answer : ListCount) → Type 0 where
+  initializer-got : (κs : Lfts 8) (a : Dens κs initializer-kinds.ps) (r : ListCount) (s : AtExit (endedOf 8 initializer-kinds.ps initializer-kinds.r) κs)
+      → initializer-reads.Learnt κs a r s
+      → InitializerGot (a .0) (now (a .1 .1 .1 .1 .1 .0)) (now (a .1 .1 .1 .1 .1 .1 .1 .1 .1 .0)) (now (s .1 .1 .1 .1 .1 .1 .1 .1 .1 .0)) r
 
 -- ---- setters: the counts, the lists handed over, and the bytes as the call left them
 

@@ -4,6 +4,8 @@ use mathlib.Core.Path.{_≡_}
 use mathlib.Core.Logic.{_↔_}
 use mathlib.Core.List.{List}
 use lib.ListN.{length, getD}
+use Rattle.columns_answers.specs.declared.ListCount.the-variants.{Count}
+use Rattle.columns_answers.specs.declared.SyndromeCounts.the-variants.{Counts}
 use Rattle.columns_marks.specs.Marks.{Ascending}
 use Rattle.access_calls.specs.Calls.{Syndrome}
 use Rattle.access_claims.specs.AccessCalled.{DefectsGot, ErasuresGot, SyndromeGot, InitializerGot}
@@ -27,12 +29,12 @@ pub record ListsBytes (n : ℕ) (bytes list₀ list : List ℕ) (count : ℕ) : 
   pub same-length : length list ≡ length list₀
 
 -- Sampling, syndromes, reordering, paragraph 2, sentence 4: of every accepted getter that hands back such a list.
-pub record GettersList : Type 0 where
-  pub defect-vertices : (v : ℕ) (defect list₀ list : List ℕ) (count : ℕ) → DefectsGot v defect list₀ list count → ListsBytes v defect list₀ list count
-  pub erasures : (e : ℕ) (erasure list₀ list : List ℕ) (count : ℕ) → ErasuresGot e erasure list₀ list count → ListsBytes e erasure list₀ list count
-  pub syndrome-defects : (v e : ℕ) (column lists₀ lists : Syndrome) (defects erasures : ℕ) → SyndromeGot v e column lists₀ lists defects erasures
+pub record GetterLists : Type 0 where
+  pub defect-vertices : (v : ℕ) (defect list₀ list : List ℕ) (count : ℕ) → DefectsGot v defect list₀ list (Count count) → ListsBytes v defect list₀ list count
+  pub erasures : (e : ℕ) (erasure list₀ list : List ℕ) (count : ℕ) → ErasuresGot e erasure list₀ list (Count count) → ListsBytes e erasure list₀ list count
+  pub syndrome-defects : (v e : ℕ) (column lists₀ lists : Syndrome) (defects erasures : ℕ) → SyndromeGot v e column lists₀ lists (Counts defects erasures)
       → ListsBytes v (column .defects) (lists₀ .defects) (lists .defects) defects
-  pub syndrome-erasures : (v e : ℕ) (column lists₀ lists : Syndrome) (defects erasures : ℕ) → SyndromeGot v e column lists₀ lists defects erasures
+  pub syndrome-erasures : (v e : ℕ) (column lists₀ lists : Syndrome) (defects erasures : ℕ) → SyndromeGot v e column lists₀ lists (Counts defects erasures)
       → ListsBytes e (column .erasures) (lists₀ .erasures) (lists .erasures) erasures
   -- Weights, get_initializer: "virtual vertices ascend."
-  pub virtual-vertices : (v : ℕ) (boundary list₀ list : List ℕ) (count : ℕ) → InitializerGot v boundary list₀ list count → ListsBytes v boundary list₀ list count
+  pub virtual-vertices : (v : ℕ) (boundary list₀ list : List ℕ) (count : ℕ) → InitializerGot v boundary list₀ list (Count count) → ListsBytes v boundary list₀ list count

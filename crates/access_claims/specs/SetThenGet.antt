@@ -1,8 +1,17 @@
 -- What a getter hands back after a setter.
 use Prim.Native.Nat.{ℕ}
+use mathlib.Core.Path.{_≡_}
 use mathlib.Core.Logic.{_↔_}
+use mathlib.Core.Bool.{_&&_}
 use mathlib.Core.List.{List}
 use lib.ListN.{length}
+use lib.Dec.{leb}
+use Rattle.columns.specs.Questions.{ask}
+use Rattle.columns_answers.specs.declared.ListCount.{ListCount}
+use Rattle.columns_answers.specs.declared.ListCount.the-variants.{Count}
+use Rattle.columns_answers.specs.declared.SyndromeCounts.{SyndromeCounts}
+use Rattle.columns_answers.specs.declared.SyndromeCounts.the-variants.{Counts}
+use Rattle.columns_answers.specs.Counts.{listSaid, syndromeSaid}
 use Rattle.columns_marks.specs.Marks.{Ascending}
 use Rattle.access_calls.specs.Calls.{Syndrome}
 use Rattle.access_claims.specs.AccessCalled.{DefectsSet, ErasuresSet, SyndromeSet, DefectsGot, ErasuresGot, SyndromeGot}
@@ -13,11 +22,22 @@ pub record SameNumbers (handed list : List ℕ) (count : ℕ) : Type 0 where
   pub ascends : Ascending count list
   pub same : (k : ℕ) → StandsIn count list k ↔ StandsIn (length handed) handed k
 
--- Taken over, the trait `ExampleCode`: of every accepted setter, and an accepted getter of the same counts that is lent the bytes as the setter left them.
+-- Taken over, the trait `ExampleCode`: of every accepted setter, and a getter of the same counts that is lent the bytes as the setter left them.
 pub record SetThenGet : Type 0 where
-  pub defect-vertices : (v : ℕ) (handed defect list₀ list : List ℕ) (count : ℕ) → DefectsSet v handed defect → DefectsGot v defect list₀ list count → SameNumbers handed list count
-  pub erasures : (e : ℕ) (handed erasure list₀ list : List ℕ) (count : ℕ) → ErasuresSet e handed erasure → ErasuresGot e erasure list₀ list count → SameNumbers handed list count
+  -- The getter lists what the setter was handed.
+  pub defect-vertices : (v : ℕ) (handed defect list₀ list : List ℕ) (count : ℕ)
+      → DefectsSet v handed defect → DefectsGot v defect list₀ list (Count count) → SameNumbers handed list count
+  pub erasures : (e : ℕ) (handed erasure list₀ list : List ℕ) (count : ℕ)
+      → ErasuresSet e handed erasure → ErasuresGot e erasure list₀ list (Count count) → SameNumbers handed list count
   pub syndrome-defects : (v e : ℕ) (handed column lists₀ lists : Syndrome) (defects erasures : ℕ)
-      → SyndromeSet v e handed column → SyndromeGot v e column lists₀ lists defects erasures → SameNumbers (handed .defects) (lists .defects) defects
+      → SyndromeSet v e handed column → SyndromeGot v e column lists₀ lists (Counts defects erasures) → SameNumbers (handed .defects) (lists .defects) defects
   pub syndrome-erasures : (v e : ℕ) (handed column lists₀ lists : Syndrome) (defects erasures : ℕ)
-      → SyndromeSet v e handed column → SyndromeGot v e column lists₀ lists defects erasures → SameNumbers (handed .erasures) (lists .erasures) erasures
+      → SyndromeSet v e handed column → SyndromeGot v e column lists₀ lists (Counts defects erasures) → SameNumbers (handed .erasures) (lists .erasures) erasures
+  -- Questions at the door, 6: only a list that has no room for all numbers makes it refuse.
+  pub defect-vertices-number : (v : ℕ) (handed defect list₀ list : List ℕ) (r : ListCount)
+      → DefectsSet v handed defect → DefectsGot v defect list₀ list r → listSaid r .number ≡ ask (leb v (length list₀)) 6 0
+  pub erasures-number : (e : ℕ) (handed erasure list₀ list : List ℕ) (r : ListCount)
+      → ErasuresSet e handed erasure → ErasuresGot e erasure list₀ list r → listSaid r .number ≡ ask (leb e (length list₀)) 6 0
+  pub syndrome-number : (v e : ℕ) (handed column lists₀ lists : Syndrome) (r : SyndromeCounts)
+      → SyndromeSet v e handed column → SyndromeGot v e column lists₀ lists r
+      → syndromeSaid r .number ≡ ask (leb v (length (lists₀ .defects)) && leb e (length (lists₀ .erasures))) 6 0

@@ -12,7 +12,7 @@ use Rattle.columns.specs.Limits.{vertexLimit, edgeLimit}
 use Rattle.columns.specs.Questions.{allBelow, vertexCountSound, edgeCountSound}
 use Rattle.columns.proofs.Tests.{and-both, both-and, below-first, at-below}
 use Rattle.columns_neighbors.specs.Sound.{endsInRange, graphSound, SoundGraph}
-use Rattle.columns_pairs.specs.Pairs.{endsDiffer, pairsApart, Ascending}
+use Rattle.columns_pairs.specs.Pairs.{endsDiffer, pairsApart, EdgesAscend}
 use Rattle.columns_neighbors.specs.Steps.{InRange}
 use Rattle.columns_pairs.proofs.PairTests.{differ-at, at-differ, apart-at, at-apart}
 
@@ -59,7 +59,7 @@ module _ (v e : ℕ) (a b : List ℕ) where
       (both-and (at-differ a b e (s .differ)) (at-apart a b e (s .apart)))))
 
   -- ends in range that ascend are those of a graph
-  pub ascending-says : vertexCountSound v ≡ true → edgeCountSound e ≡ true → e ≤ length a → e ≤ length b → allBelow v (take e b) ≡ true → Ascending a b e
+  pub ascending-says : vertexCountSound v ≡ true → edgeCountSound e ≡ true → e ≤ length a → e ≤ length b → allBelow v (take e b) ≡ true → EdgesAscend a b e
       → graphSound v e a b ≡ true
   unfolding graphSound endsInRange
   ascending-says vs es la lb bb asc =

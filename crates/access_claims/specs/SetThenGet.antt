@@ -33,7 +33,7 @@ pub record SetThenGet : Type 0 where
       → SyndromeSet v e handed column → SyndromeGot v e column lists₀ lists (Counts defects erasures) → SameNumbers (handed .defects) (lists .defects) defects
   pub syndrome-erasures : (v e : ℕ) (handed column lists₀ lists : Syndrome) (defects erasures : ℕ)
       → SyndromeSet v e handed column → SyndromeGot v e column lists₀ lists (Counts defects erasures) → SameNumbers (handed .erasures) (lists .erasures) erasures
-  -- Questions at the door, 6: only a list that has no room for all numbers makes it refuse.
+  -- Questions at the door, 6: it is refused only where its list is shorter than the count.
   pub defect-vertices-number : (v : ℕ) (handed defect list₀ list : List ℕ) (r : ListCount)
       → DefectsSet v handed defect → DefectsGot v defect list₀ list r → listSaid r .number ≡ ask (leb v (length list₀)) 6 0
   pub erasures-number : (e : ℕ) (handed erasure list₀ list : List ℕ) (r : ListCount)

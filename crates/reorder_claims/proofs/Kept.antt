@@ -1,6 +1,6 @@
 -- What reordering keeps: the graph up to the new numbers, question 7, and walks with their weights. Assumes nothing.
 use mathlib.Core.Path.{_≡_, sym, ap, _∙_, subst}
-use mathlib.Core.Logic.{⊎-elim, _⊎_, inl, inr}
+use mathlib.Core.Logic.{⊎-elim, _⊎_, inl, inr, _↔_}
 use mathlib.Core.Bool.{true}
 use mathlib.Core.List.{List, map}
 use Prim.Native.Nat.{ℕ, _≤_, _<_}
@@ -18,7 +18,7 @@ use Rattle.columns.proofs.Columns.{getD-any, after-accepted, over-in, length-ov
 use Rattle.columns.proofs.Tests.{both-and, within-first, at-within}
 use Rattle.columns_neighbors.specs.Sound.{SoundGraph}
 use Rattle.columns_neighbors.proofs.Ends.{says-graph}
-use Rattle.engine_walks.specs.Graph.{Graph, endA, endB, Joins, Walk, stay, step}
+use Rattle.engine_walks.specs.Graph.{Graph, endA, endB, boundaryAt, Joins, Walk, stay, step, CrossingWeight}
 use Rattle.columns_room.specs.Graph.{codeSound}
 use Rattle.reorder_orders.specs.Order.{newNumber, renamed, moved}
 use Rattle.reorder_calls.specs.Columns.{ReorderColumns, reorderSound, reorderRefusal, ReorderedVertices}
@@ -48,6 +48,16 @@ same-number order o many u x {x′} h g p = elim (ℕ-discrete x u) [
   | yes q ↦ eq-eqb x′ (newNumber order u) (p ∙ ap (newNumber order) q) ∙ sym (eq-eqb x u q)
   | no q ↦ ne-eqb x′ (newNumber order u) (λ r. q (new-differ order o x u (omega arith) (omega arith) (sym p ∙ r))) ∙ sym (ne-eqb x u q)
 ]
+
+-- a crossing weight carries over where marks and walks do, both ways
+crossing-carried : (g g′ : Graph) (f h : ℕ → ℕ) → ((m x : ℕ) → x < g .vertices → boundaryAt g x ≡ m → (f x < g′ .vertices) × (boundaryAt g′ (f x) ≡ m))
+    → ((m x : ℕ) → x < g′ .vertices → boundaryAt g′ x ≡ m → (h x < g .vertices) × (boundaryAt g (h x) ≡ m))
+    → ((x y : ℕ) (s : List ℕ) → Walk g x s y → Walk g′ (f x) s (f y)) → ((x y : ℕ) (s : List ℕ) → Walk g′ x s y → Walk g (h x) s (h y))
+    → (w : ℕ → ℕ) (k : ℕ) → CrossingWeight g w k → CrossingWeight g′ w k
+crossing-carried g g′ f h mark back on off w k c = record {
+  a-walk = let (x, y, s, l, r, a, p) = c .a-walk in (f x, f y, s, mark 1 x (l .0) (l .1), mark 2 y (r .0) (r .1), on x y s a, p);
+  every-walk = λ x y s l r a. c .every-walk (h x) (h y) s (back 1 x (l .0) (l .1)) (back 2 y (r .0) (r .1)) (off x y s a);
+}
 
 -- what the call promises
 pub promise : {v e : ℕ} {order : List ℕ} {c₀ c : ReorderColumns} → VerticesReordered v e order c₀ c → ReorderedVertices v e order c₀ Accepted c
@@ -192,6 +202,22 @@ module _ (v e : ℕ) (order : List ℕ) (c₀ c : ReorderColumns) (call : Reorde
   walk-back (step {x} {y} {e = i} h j w) =
       let b : i < e = edge-in (c .endsA) i (graph-kept .long-a) h in
       step {e = i} (omega (arith, length-take e (c₀ .endsA), k .sound .graph .long-a)) (joins-by new old (λ u. getD order u 0) i x y (a-old i b) (b-old i b) j) (walk-back w)
+
+  mark-kept : (m x : ℕ) → x < v → boundaryAt old x ≡ m → (newNumber order x < v) × (boundaryAt new (newNumber order x) ≡ m)
+  mark-kept m x h p =
+      let b = new-in x h in
+      (b, getD-take v (c .boundary) (newNumber order x) 0 b ∙ boundary-kept x h ∙ sym (getD-take v (c₀ .boundary) x 0 h) ∙ p)
+
+  mark-back : (m n : ℕ) → n < v → boundaryAt new n ≡ m → (getD order n 0 < v) × (boundaryAt old (getD order n 0) ≡ m)
+  mark-back m n h p =
+      let b : getD order n 0 < v = omega (arith, order-below order o n (in-order n h), k .many) in
+      (b, getD-take v (c₀ .boundary) (getD order n 0) 0 b ∙ sym (boundary-moved n h) ∙ sym (getD-take v (c .boundary) n 0 h) ∙ p)
+
+  pub crossing-kept : (w : ℕ → ℕ) (i : ℕ) → CrossingWeight old w i ↔ CrossingWeight new w i
+  crossing-kept w i = (
+    crossing-carried old new (newNumber order) (λ n. getD order n 0) mark-kept mark-back (λ x y s a. walk-kept a) (λ x y s a. walk-back a) w i,
+    crossing-carried new old (λ n. getD order n 0) (newNumber order) mark-back mark-kept (λ x y s a. walk-back a) (λ x y s a. walk-kept a) w i,
+  )
 
   -- back from the new numbers
   pub walk-from : (x y : ℕ) {s : List ℕ} → x < v → y < v → Walk new (newNumber order x) s (newNumber order y) → Walk old x s y

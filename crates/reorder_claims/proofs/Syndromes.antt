@@ -18,7 +18,7 @@ use Rattle.reorder_orders.specs.Order.{newNumber, renamed}
 use Rattle.reorder_orders.proofs.Permutation.{total, along, order-below, new-below, new-of-old, along-order}
 use Rattle.reorder_calls.specs.Columns.{ReorderColumns}
 use Rattle.reorder_claims.specs.Keeps.{reorderCode, ReorderingKeeps}
-use Rattle.reorder_claims.proofs.Kept.{promise, GraphRenamed, graph-renamed, same-number, question-7-kept, walk-kept, walk-from}
+use Rattle.reorder_claims.proofs.Kept.{promise, GraphRenamed, graph-renamed, same-number, question-7-kept, walk-kept, walk-from, crossing-kept}
 
 -- the numbers that pass a test, as a set
 chosen-in : (test : ℕ → Bool) (n x : ℕ) → x < n → test x ≡ true → List·Memᴰ x (chosen n test)
@@ -126,6 +126,7 @@ pub reordering-keeps : ReorderingKeeps
 reordering-keeps = record {
   question-7 = λ v e order c₀ c r. question-7-kept v e order c₀ c (promise r);
   walks = λ v e order c₀ c r x y s h g. (walk-kept v e order c₀ c (promise r), walk-from v e order c₀ c (promise r) x y h g);
+  crossing-weight = λ v e order c₀ c r. crossing-kept v e order c₀ c (promise r);
   syndromes = λ v e order c₀ c r edges below x. kept v e order c₀ c (graph-renamed v e order c₀ c (promise r)) edges (below-at e edges below) x;
   as-many-defects = λ v e order c₀ c r edges below. count-kept v e order c₀ c (graph-renamed v e order c₀ c (promise r)) edges (below-at e edges below);
 }

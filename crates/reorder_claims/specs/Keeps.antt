@@ -1,4 +1,4 @@
--- What a reordering keeps: question 7, walks with their weights, and syndromes, all up to the new numbers.
+-- What a reordering keeps: question 7, walks with their weights, the crossing weight, and syndromes, all up to the new numbers.
 use Prim.Native.Nat.{ℕ, _<_}
 use mathlib.Core.Path.{_≡_}
 use mathlib.Core.Logic.{_↔_}
@@ -7,7 +7,7 @@ use mathlib.Core.List.{List, List·Memᴰ}
 use lib.ListN.{length, take}
 use Rattle.columns.specs.Questions.{allBelow}
 use Rattle.columns_room.specs.Graph.{CodeGraph, codeGraph}
-use Rattle.engine_walks.specs.Graph.{Graph, Walk}
+use Rattle.engine_walks.specs.Graph.{Graph, Walk, CrossingWeight}
 use Rattle.sampling_calls.specs.Syndrome.{syndromeOf}
 use Rattle.reorder_orders.specs.Order.{newNumber, renamed}
 use Rattle.reorder_calls.specs.Columns.{ReorderColumns, reorderSound}
@@ -28,6 +28,9 @@ pub record ReorderingKeeps : Type 0 where
   -- Engine, on walks, sentence 1: a walk is one between the new numbers, along the same edges and so of the same weight, and the other way round.
   pub walks : (v e : ℕ) (order : List ℕ) (c₀ c : ReorderColumns) → VerticesReordered v e order c₀ c → (x y : ℕ) (s : List ℕ) → x < v → y < v
       → Walk (reorderGraph v e c₀) x s y ↔ Walk (reorderGraph v e c) (newNumber order x) s (newNumber order y)
+  -- Engine, Crossing, sentence 1: so the crossing weight is the same, whatever the edges weigh.
+  pub crossing-weight : (v e : ℕ) (order : List ℕ) (c₀ c : ReorderColumns) → VerticesReordered v e order c₀ c → (w : ℕ → ℕ) (k : ℕ)
+      → CrossingWeight (reorderGraph v e c₀) w k ↔ CrossingWeight (reorderGraph v e c) w k
   -- Paragraph 2, sentence 3: the syndrome of edges that are in range is the translated syndrome, as sets, and as long.
   pub syndromes : (v e : ℕ) (order : List ℕ) (c₀ c : ReorderColumns) → VerticesReordered v e order c₀ c → (edges : List ℕ) → allBelow e edges ≡ true
       → (x : ℕ) → List·Memᴰ x (syndromeOf (reorderCode v e c) edges) ↔ List·Memᴰ x (renamed order (syndromeOf (reorderCode v e c₀) edges))

@@ -7,7 +7,7 @@ pub fn reordering_moves()
     ensures { λ _. ⌜ ReorderingMoves ⌝ }
 {}
 
-// A reordering keeps question 7, walks with their weights and syndromes, up to the new numbers.
+// A reordering keeps question 7, walks with their weights, the crossing weight and syndromes, up to the new numbers.
 pub fn reordering_keeps()
     ensures { λ _. ⌜ ReorderingKeeps ⌝ }
 {}

@@ -1,0 +1,6 @@
+-- In reading order. Called: calls of `generate_random_errors`, `generate_errors` and `syndrome_of`. Lists: the lists that they hand back.
+-- Samplings: what is claimed of samplings. Flips: what is claimed of `generate_errors` and `syndrome_of`.
+pub mod Called
+pub mod Lists
+pub mod Samplings
+pub mod Flips

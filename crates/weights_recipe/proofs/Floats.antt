@@ -71,7 +71,7 @@ unfolding ofBits toBits
 one-not-zero = refl
 
 -- the f64 whose bits are all 0 is 0
-pub plus-zero : (p : Float) → T (fits binary64 p) → isPlusZero p ≡ true → p ≡ zeroFloat
+plus-zero : (p : Float) → T (fits binary64 p) → isPlusZero p ≡ true → p ≡ zeroFloat
 plus-zero p f e = sym (ofBits-toBits binary64 p f) ∙ ap (ofBits binary64) (eqb→eq (toBits binary64 p) 0 (subst T (sym e) tt))
 
 -- what a test tells from 0 does not have the bits of 0
@@ -88,6 +88,6 @@ pub unequal-zero : (p : Float) → T (fits binary64 p) → eq p zeroFloat ≡ fa
 unequal-zero p f h = not-plus-zero (λ (x : Float). eq x zeroFloat) false p f h (λ e. true≢false (sym zero-equal ∙ e))
 
 -- an accepted p that is not 0 is in the range
-pub in-range : (p : Float) → T (fits binary64 p) → isProbability p ≡ true → eq p zeroFloat ≡ false → T (isInRange p)
+pub in-range : (p : Float) → isProbability p ≡ true → isPlusZero p ≡ false → T (isInRange p)
 unfolding isProbability
-in-range p f e h = subst T (sym (sym (ap (λ (z : Bool). z || isInRange p) (unequal-zero p f h)) ∙ e)) tt
+in-range p e h = subst T (sym (sym (ap (λ (z : Bool). z || isInRange p) h) ∙ e)) tt

@@ -1,15 +1,14 @@
 -- For each p from 2 to the power -40 to 0.5 the odds come below 2 after at most 40 halvings: the bound of 64 in the definition never stops it. And the
 -- definition in the text's own words: k is the first number such that the odds halved k times are below 2. Assumes nothing.
 use mathlib.Core.Path.{_≡_, refl, sym, ap, _∙_, subst}
-use Prim.Native.Nat.{ℕ, zero, suc, _+_, _-_, _*_, _^_, _≤_, _<_}
+use Prim.Native.Nat.{ℕ, zero, suc, _+_, _*_, _^_, _≤_, _<_}
 use native.Mathlib.Nat.{le-of-suc-le-suc, not-suc-le-zero, zero-lt-suc, zero-mul, ne-of-gt, mul-one, mul-comm, mul-assoc, mul-left-comm, mul-le-mul, mul-pos, pow-suc}
 use native.Mathlib.Omega.{arith}
-use mathlib.Core.Logic.{_⊎_, inl, inr}
 use mathlib.Core.Bool.{Bool, true, false, not, _&&_, _||_, cond}
 use lib.Dec.{T, ltb, eqb, ltb→lt, lt→ltb, nltb→le, eqb·suc-zero, lit≤}
 use borrow.Author.Tests.{ne-eqb}
 use lib.Pow.{pow-pos, pow-mono}
-use lib.Ieee.{Float, nan, inf, fin, Format, binary64, up, down, round, sub, mul, div, lt, le, eq, ofBits, fits}
+use lib.Ieee.{Float, nan, inf, fin, Format, binary64, up, down, round, sub, mul, div, lt, le, eq, ofBits}
 use lib.Ieee.Bits.{is-true, cond-no}
 use lib.Ieee.Fits.{and-l, and-r, up-pos}
 use lib.Ieee.Exact.{HasValue}
@@ -19,10 +18,10 @@ use lib.Ieee.Scale.{round-same}
 use lib.Ieee.Positive.{num, den, den-pos, positive, positive-of-value, le→cross, cross→le, le-trans-positive, between, mul-at, mul-mono, sub-anti}
 use Rattle.columns.specs.Places.{zeroFloat, one, half}
 use Rattle.weights_recipe.specs.Constants.{two, leastP}
-use Rattle.weights_recipe.specs.Probabilities.{isPlusZero, isInRange, isProbability}
-use Rattle.weights_recipe.specs.Logarithm.{Halved, halve, odds, logarithm, edgeWeight}
-use Rattle.weights_recipe.proofs.Floats.{half-is, half-pos, one-pos, two-pos, least-pos, plus-zero, in-range}
-use Rattle.weights_recipe.proofs.Recipe.{from, ended, past-zero, zero-weight}
+use Rattle.weights_recipe.specs.Probabilities.{isInRange}
+use Rattle.weights_recipe.specs.Logarithm.{Halved, halve, halved, odds, logarithm, edgeWeight, ByRecipe}
+use Rattle.weights_recipe.proofs.Floats.{half-is, half-pos, one-pos, two-pos, least-pos}
+use Rattle.weights_recipe.proofs.Recipe.{from, ended, past-zero}
 
 -- ---- 2 ^ j as a float
 abbrev pw : ℕ → Float
@@ -212,15 +211,6 @@ pos-not-zero (fin false m e) t = go (m * up e * 1) (0 * down e) (subst (λ (x : 
 pub range-not-zero : (p : Float) → T (isInRange p) → eq p zeroFloat ≡ false
 range-not-zero p t = pos-not-zero p (between leastP p half least-pos half-pos (and-l (le leastP p) (le p half) t) (and-r (le leastP p) (le p half) t))
 
--- q halved n times
-unfoldable pub halved : ℕ → Float → Float
-halved zero q = q
-halved (suc n) q = halved n (mul binary64 q half)
-
-pub record First (q : Float) (n : ℕ) : Type 0 where
-  pub below : lt (halved n q) two ≡ true
-  pub before : (j : ℕ) → j < n → lt (halved j q) two ≡ false
-
 -- what `halve` gives is the first place, where it comes below 2
 module _ where
   pub record Place (q : Float) (k : ℕ) (m : Halved) : Type 0 where
@@ -247,15 +237,9 @@ module _ where
       at-each zero h g = e
       at-each (suc j) h g = g j (le-of-suc-le-suc h)
 
--- the weight of p in the text's words: there is a first k, at most 40, and the weight is made of k and the odds halved k times
-pub record ByFirst (p : Float) : Type 0 where
-  pub k : ℕ
-  pub few : k ≤ 40
-  pub first : First (odds p) k
-  pub is : edgeWeight p ≡ logarithm (ended k (halved k (odds p)))
-
-pub by-first : (p : Float) → T (isInRange p) → ByFirst p
-by-first p t =
+-- the weight of p in the text's words
+pub by-recipe : (p : Float) → T (isInRange p) → ByRecipe p (edgeWeight p)
+by-recipe p t =
     let m = halve 64 (lt (odds p) two) (odds p) 0 in
     let e : Ended m 40 = enough p t in
     let r : Place (odds p) 0 m = place 64 (lt (odds p) two) (odds p) 0 refl in
@@ -263,8 +247,8 @@ by-first p t =
     record {
       k = r .count;
       few = subst (λ (n : ℕ). n ≤ 40) c (e .turns);
-      first = record { below = subst (λ (x : Float). lt x two ≡ true) (r .rest) (e .below); before = r .before };
-      is = sym (past-zero p m (range-not-zero p t) refl) ∙ same m (r .count) (halved (r .count) (odds p)) c (r .rest);
+      until = record { below = subst (λ (x : Float). lt x two ≡ true) (r .rest) (e .below); before = r .before };
+      result = sym (past-zero p m (range-not-zero p t) refl) ∙ same m (r .count) (halved (r .count) (odds p)) c (r .rest);
     }
   where
     plus : (n : ℕ) → 0 + n ≡ n
@@ -272,18 +256,3 @@ by-first p t =
 
     same : (m : Halved) (k : ℕ) (q : Float) → m .k ≡ k → m .m ≡ q → logarithm m ≡ logarithm (ended k q)
     same m k q a b = λ i. logarithm (ended (a i) (b i))
-
--- ---- for every p that question 9 accepts
-
--- the bound of 64 halvings is never met: what is left is below 2 after at most 40
-pub bound-unused : (p : Float) → T (fits binary64 p) → isProbability p ≡ true → eq p zeroFloat ≡ false → Ended (halve 64 (lt (odds p) two) (odds p) 0) 40
-bound-unused p f a h = enough p (in-range p f a h)
-
--- p is 0 and its weight +infinity, or the weight is made of the first k such that the odds halved k times are below 2
-pub accepted-weight : (p : Float) → T (fits binary64 p) → isProbability p ≡ true → ((p ≡ zeroFloat) × (edgeWeight p ≡ inf false)) ⊎ ByFirst p
-unfolding isProbability
-accepted-weight p f a = go (isPlusZero p) refl a
-  where
-    go : (b : Bool) → isPlusZero p ≡ b → b || isInRange p ≡ true → ((p ≡ zeroFloat) × (edgeWeight p ≡ inf false)) ⊎ ByFirst p
-    go true e a = let z = plus-zero p f e in inl (z, ap edgeWeight z ∙ zero-weight)
-    go false e a = inr (by-first p (subst T (sym a) tt))

@@ -14,7 +14,7 @@ use lib.Ieee.Back.{round-whole}
 use lib.Ieee.Order.{round-mono}
 use lib.Ieee.Positive.{num, den, den-pos, positive, above, above-of-le, positive-of-value, le→cross, le-trans-positive, between}
 use Rattle.columns.specs.Places.{half}
-use Rattle.weights_recipe.specs.Rounding.{reaches, seek, greatest}
+use Rattle.weights_recipe.specs.Rounding.{reaches, seek, greatest, IsGreatest}
 use Rattle.weights_recipe.proofs.Floats.{half-pos}
 
 -- ---- a difference x - y grows with x
@@ -122,11 +122,6 @@ reaches-down v a b z h k t =
     onward (lessHalf a) (lessHalf b) v (lessHalf-pos a z (le-trans h k)) q (lessHalf-mono a b z h k) t (above-of-le (lessHalf b) v q t)
 
 -- ---- the greatest
-pub record Greatest (v : Float) (max r : ℕ) : Type 0 where
-  pub within : r ≤ max
-  pub met : (r ≡ 0) ⊎ (reaches v r ≡ true)
-  pub last : (n : ℕ) → r < n → n ≤ max → reaches v n ≡ false
-
 seek-top : (v : Float) (n : ℕ) → reaches v (suc n) ≡ true → greatest v (suc n) ≡ suc n
 unfolding greatest seek
 seek-top v n e = ap (λ (b : Bool). seek v (suc n) b) e
@@ -135,7 +130,7 @@ seek-on : (v : Float) (n : ℕ) → reaches v (suc n) ≡ false → greatest v (
 unfolding greatest seek
 seek-on v n e = ap (λ (b : Bool). seek v (suc n) b) e
 
-pub is-greatest : (v : Float) (max r : ℕ) → Greatest v max r → greatest v max ≡ r
+pub is-greatest : (v : Float) (max r : ℕ) → IsGreatest v max r → greatest v max ≡ r
 unfolding greatest seek
 is-greatest v zero r g = omega (arith, g .within)
 is-greatest v (suc n) r g =
@@ -147,12 +142,12 @@ is-greatest v (suc n) r g =
     ]
 
 -- it is that number, for every v and max
-pub greatest-is : (v : Float) (max : ℕ) → Greatest v max (greatest v max)
+pub greatest-is : (v : Float) (max : ℕ) → IsGreatest v max (greatest v max)
 unfolding greatest seek
 greatest-is v zero = record { within = zero-le; met = inl refl; last = λ n a b. absurd (omega arith) }
 greatest-is v (suc n) = go (reaches v (suc n)) refl (greatest-is v n)
   where
-    go : (b : Bool) → reaches v (suc n) ≡ b → Greatest v n (greatest v n) → Greatest v (suc n) (seek v (suc n) b)
+    go : (b : Bool) → reaches v (suc n) ≡ b → IsGreatest v n (greatest v n) → IsGreatest v (suc n) (seek v (suc n) b)
     go true e g = record { within = le-refl (suc n); met = inr e; last = λ k a b. absurd (omega arith) }
     go false e g = record { within = le-step (g .within); met = g .met; last = λ k a b. upto k a (eq-or-lt-of-le b) }
       where
@@ -170,9 +165,9 @@ le-nan nan = refl
 le-nan (inf s) = refl
 le-nan (fin s m e) = refl
 
-pub nan-none : (max : ℕ) → greatest nan max ≡ 0
+pub nan-reaches : (n : ℕ) → reaches nan n ≡ false
 unfolding reaches
-nan-none max = is-greatest nan max 0 (record { within = zero-le; met = inl refl; last = λ n a b. le-nan (lessHalf n) })
+nan-reaches n = le-nan (lessHalf n)
 
 -- v does not reach m, so it reaches no n from m up
 pub misses : (v : Float) (m n max : ℕ) → 0 < m → m ≤ n → n ≤ max → max ≤ 2 ^ 53 → reaches v m ≡ false → reaches v n ≡ false

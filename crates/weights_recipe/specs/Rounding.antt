@@ -1,5 +1,7 @@
 -- The half weight of an edge of weight w, where M is the largest half weight.
-use Prim.Native.Nat.{ℕ, zero, suc}
+use Prim.Native.Nat.{ℕ, zero, suc, _≤_, _<_}
+use mathlib.Core.Path.{_≡_}
+use mathlib.Core.Logic.{_⊎_}
 use mathlib.Core.Bool.{Bool, true, false}
 use lib.IntN.{pos}
 use lib.Ieee.{Float, binary64, sub, mul, div, le, ofInt}
@@ -22,6 +24,12 @@ seek v (suc n) false = seek v n (reaches v n)
 -- Weights, on half weights, sentence 1: the greatest n of 0 to M with n = 0 or v ≥ n - 0.5.
 unfoldable pub greatest : Float → ℕ → ℕ
 greatest v max = seek v max (reaches v max)
+
+-- Weights, on half weights, sentence 1: r is the greatest n of 0 to M with n = 0 or v ≥ n - 0.5: it is such a number, and no greater one is.
+pub record IsGreatest (v : Float) (max r : ℕ) : Type 0 where
+  pub within : r ≤ max
+  pub met : (r ≡ 0) ⊎ (reaches v r ≡ true)
+  pub last : (n : ℕ) → r < n → n ≤ max → reaches v n ≡ false
 
 -- Weights, on half weights, sentence 1: 0 then becomes 1.
 abbrev pub atLeastOne : ℕ → ℕ

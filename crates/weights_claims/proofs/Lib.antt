@@ -1,0 +1,2 @@
+-- Claims: the claims, from what the calls promise.
+pub mod Claims

@@ -30,8 +30,8 @@ use Rattle.sampling_calls.specs.Syndrome.{syndromeOf}
 use Rattle.sampling_calls.proofs.Inner.{flipEach-inner}
 use Rattle.sampling_calls.proofs.Accepting.{listed-syndrome}
 use Rattle.sampling_calls.proofs.Draws.{length-sampledDefects, length-sampledErasures}
-use Rattle.sampling_claims.specs.Samplings.{SameBefore, SameMarks, drawnErrors, TakesTwoDraws, SampledSyndrome}
-use Rattle.sampling_claims.proofs.Accepted.{sampling-promise, how-many-defects, defect-over, erasure-over, defectList-over}
+use Rattle.sampling_claims.specs.Samplings.{SameBefore, SameMarks, drawnErrors, TakesTwoDraws, DefectsOf, SampledSyndrome}
+use Rattle.sampling_claims.proofs.Accepted.{sampling-promise, how-many-defects, defect-over, erasure-over, defectList-over, syndrome-promise, how-many, syndrome-over}
 
 -- ---- the erasure marks
 
@@ -147,10 +147,10 @@ module _ (r : DeterministicRng) (g : CodeGraph) (p pe : List Float) where
       flipped-few (g .endsA) (g .endsB) (g .boundary) (sampledErrors r p pe (g .edges)) (replicate (g .vertices) 0) u
       (omega (arith, length-replicate {A = ℕ} (g .vertices) 0)) (getD-replicate (g .vertices) u 0 0 h)
 
-pub sampled-syndrome : SampledSyndrome
-sampled-syndrome seed g p pe s₀ s d e c =
+defects-of : (seed : ℕ) (g : CodeGraph) (p pe : List Float) (s₀ s : SyndromeColumns) (d e : ℕ) → GeneratedRandomErrors seed g p pe s₀ (Counts d e) s
+    → DefectsOf (drawnErrors seed g p pe) g d s
+defects-of seed g p pe s₀ s d e x =
     let r = seedFromU64 seed in
-    let x = sampling-promise c in
     let bytes = sampledDefects r g p pe in
     let size : length bytes ≡ g .vertices = length-sampledDefects r g p pe in
     let list : listed (g .vertices) bytes ≡ syndromeOf g (drawnErrors seed g p pe) = listed-defects r g p pe in
@@ -160,3 +160,15 @@ sampled-syndrome seed g p pe s₀ s d e c =
       marked-are = ap (take (g .vertices)) (defect-over x) ∙ take-over bytes (s₀ .defect) (g .vertices) size ∙ marks-listed (g .vertices) bytes size (few-defects r g p pe)
           ∙ ap (marks (g .vertices)) list;
     }
+
+pub sampled-syndrome : SampledSyndrome
+sampled-syndrome = record {
+  defects = λ seed g p pe s₀ s d e c. defects-of seed g p pe s₀ s d e (sampling-promise c);
+  as-syndrome-of = λ seed g p pe s₀ s d e c column₀ column n c′.
+      let x = defects-of seed g p pe s₀ s d e (sampling-promise c) in
+      let y = syndrome-promise c′ in
+      let errors = drawnErrors seed g p pe in (
+        how-many y ∙ sym (x .count),
+        ap (take n) (syndrome-over y) ∙ take-over (syndromeOf g errors) column₀ n (sym (how-many y)) ∙ sym (x .listed-are),
+      );
+}

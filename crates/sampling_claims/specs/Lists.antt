@@ -1,5 +1,5 @@
 -- The lists of defects and erasures that the calls hand back.
-use Prim.Native.Nat.{ℕ, _≤_, _<_}
+use Prim.Native.Nat.{ℕ, _≤_}
 use mathlib.Core.Path.{_≡_}
 use mathlib.Core.List.{List}
 use lib.ListN.{getD}
@@ -7,12 +7,9 @@ use lib.Ieee.{Float}
 use Rattle.columns_answers.specs.declared.SyndromeCounts.the-variants.{Counts}
 use Rattle.columns_answers.specs.declared.ListCount.the-variants.{Count}
 use Rattle.columns_room.specs.Graph.{CodeGraph}
+use Rattle.columns_marks.specs.Marks.{Ascending}
 use Rattle.sampling_calls.specs.Records.{SyndromeColumns}
 use Rattle.sampling_claims.specs.Called.{SamplingReturned, ErrorsReturned, SyndromeReturned}
-
--- Sampling, syndromes, reordering, paragraph 2, sentence 4: the first n places of a list ascend.
-abbrev pub Ascending : (n : ℕ) → List ℕ → Type 0
-Ascending n list = (i j : ℕ) → i < j → j < n → getD list i 0 < getD list j 0
 
 -- Sampling, syndromes, reordering, paragraph 2, sentence 4: a list of n numbers handed back in a column: it ascends, and places past the count are unchanged.
 pub record AscendingList (n : ℕ) (list₀ list : List ℕ) : Type 0 where

@@ -7,14 +7,14 @@ use lib.ListN.{length, getD, take}
 use lib.Ieee.{Float, lt}
 use Rattle.columns.specs.Places.{zeroFloat, half}
 use Rattle.columns_answers.specs.declared.SyndromeCounts.the-variants.{Counts}
+use Rattle.columns_answers.specs.declared.ListCount.the-variants.{Count}
 use Rattle.columns_room.specs.Graph.{CodeGraph}
-use Rattle.columns_marks.specs.Marks.{names, marks}
+use Rattle.columns_marks.specs.Marks.{Ascending, names, marks}
 use Rattle.sampling_generator.specs.Random.{seedFromU64}
 use Rattle.sampling_edges.specs.Draws.{drawNumber, sampledErrors}
 use Rattle.sampling_calls.specs.Records.{SyndromeColumns}
 use Rattle.sampling_calls.specs.Syndrome.{syndromeOf}
-use Rattle.sampling_claims.specs.Called.{SamplingReturned}
-use Rattle.sampling_claims.specs.Lists.{Ascending}
+use Rattle.sampling_claims.specs.Called.{SamplingReturned, SyndromeReturned}
 
 -- ---- two samplings with one seed
 
@@ -63,8 +63,10 @@ pub record DefectsOf (errors : List ℕ) (g : CodeGraph) (d : ℕ) (s : Syndrome
   pub listed-are : take d (s .defectList) ≡ syndromeOf g errors
   pub marked-are : take (g .vertices) (s .defect) ≡ marks (g .vertices) (syndromeOf g errors)
 
--- Sampling, syndromes, reordering, paragraph 1, sentence 5, and paragraph 2, sentence 3: of every accepted sampling.
-abbrev pub SampledSyndrome : Type 0
-SampledSyndrome =
-    (seed : ℕ) (g : CodeGraph) (p pe : List Float) (s₀ s : SyndromeColumns) (d e : ℕ) → SamplingReturned seed g p pe s₀ (Counts d e) s
-    → DefectsOf (drawnErrors seed g p pe) g d s
+-- Sampling, syndromes, reordering, paragraph 1, sentence 5, and paragraph 2, sentence 3: of every accepted sampling; and a `syndrome_of` of these edges on the same graph
+-- answers and lists the same.
+pub record SampledSyndrome : Type 0 where
+  pub defects : (seed : ℕ) (g : CodeGraph) (p pe : List Float) (s₀ s : SyndromeColumns) (d e : ℕ) → SamplingReturned seed g p pe s₀ (Counts d e) s
+      → DefectsOf (drawnErrors seed g p pe) g d s
+  pub as-syndrome-of : (seed : ℕ) (g : CodeGraph) (p pe : List Float) (s₀ s : SyndromeColumns) (d e : ℕ) → SamplingReturned seed g p pe s₀ (Counts d e) s
+      → (column₀ column : List ℕ) (n : ℕ) → SyndromeReturned g (drawnErrors seed g p pe) column₀ (Count n) column → (n ≡ d) × (take n column ≡ take d (s .defectList))

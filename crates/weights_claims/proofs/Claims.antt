@@ -7,7 +7,7 @@ use Prim.Native.Nat.{ℕ, zero, suc, _≤_, _<_}
 use native.Mathlib.Omega.{arith}
 use lib.ListN.{length, getD, take, length-map, List·getD-map}
 use lib.Dec.{leb, eqb}
-use lib.Ieee.{Float, lt, ofBits}
+use lib.Ieee.{Float, lt, le, ofBits, toBits}
 use borrow.Author.Tests.{leb-true}
 use Rattle.columns.specs.Limits.{edgeLimit, halfWeightLimit}
 use Rattle.columns.specs.Places.{zeroFloat}
@@ -20,6 +20,7 @@ use Rattle.weights_recipe.specs.Probabilities.{isProbability}
 use Rattle.weights_recipe.specs.Logarithm.{edgeWeight}
 use Rattle.weights_recipe.specs.Rounding.{greatest, scaled, atLeastOne, halfWeight}
 use Rattle.weights_recipe.proofs.Floats.{in-range}
+use Rattle.weights_recipe.proofs.Recipe.{zero-weight}
 use Rattle.weights_recipe.proofs.Halvings.{by-recipe}
 use Rattle.weights_recipe.proofs.Search.{greatest-is, nan-reaches}
 use Rattle.weights_calls.specs.declared.WeightOfP.{WeightOfP}
@@ -43,8 +44,13 @@ weighs : {p : Float} {r : WeightOfP} → WeightReturned p r → isProbability p 
 weighs (weight-returned κs a (Weighs w) s h) e = ap Weighs (values-of h (ap (λ (b : Bool). ask b 9 0) e))
 weighs (weight-returned κs a (Refused n) s h) e = absurd (false≢true (h .accepted-is ∙ ap (λ (b : Bool). eqb (ask b 9 0) 0) e))
 
+zero-accepted : isProbability zeroFloat ≡ true
+unfolding isProbability le ofBits toBits
+zero-accepted = refl
+
 pub halved-until-below-2 : HalvedUntilBelow2
 halved-until-below-2 = record {
+  zero-weighs = λ r c. weighs c zero-accepted ∙ ap Weighs zero-weight;
   answered = λ p r c e h. (edgeWeight p, (weighs c e, by-recipe p (in-range p e h)));
   weighed = λ p e h. by-recipe p (in-range p e h);
 }

@@ -5,7 +5,7 @@ use mathlib.Core.Bool.{true, false, _&&_}
 use mathlib.Core.List.{List}
 use lib.ListN.{length, getD, take}
 use lib.Dec.{leb}
-use lib.Ieee.{Float, nan, lt}
+use lib.Ieee.{Float, nan, inf, lt}
 use Rattle.columns.specs.Limits.{edgeLimit}
 use Rattle.columns.specs.Places.{zeroFloat, half}
 use Rattle.columns.specs.Questions.{ask}
@@ -22,9 +22,10 @@ use Rattle.weights_claims.specs.Called.{WeightReturned, WeightsReturned}
 
 -- ---- the logarithm
 
--- Weights, on the logarithm, sentence 3: for every p that question 9 accepts and that is not 0, the weight that `weight_of_p` answers, and the one by which
--- `compute_weights` goes, is the recipe's, whose halvings have no bound.
+-- Weights, on the logarithm, sentences 2 and 3: p = 0 gives +infinity. For every other p that question 9 accepts, the weight that `weight_of_p` answers, and the one by
+-- which `compute_weights` goes, is the recipe's, whose halvings have no bound.
 pub record HalvedUntilBelow2 : Type 0 where
+  pub zero-weighs : (r : WeightOfP) → WeightReturned zeroFloat r → r ≡ Weighs (inf false)
   pub answered : (p : Float) (r : WeightOfP) → WeightReturned p r → isProbability p ≡ true → isPlusZero p ≡ false → (w : Float) × ((r ≡ Weighs w) × ByRecipe p w)
   pub weighed : (p : Float) → isProbability p ≡ true → isPlusZero p ≡ false → ByRecipe p (edgeWeight p)
 

@@ -2,7 +2,7 @@
 use mathlib.Core.Path.{_≡_, refl, sym, ap, _∙_}
 use mathlib.Core.Bool.{Bool, true, false, _||_, cond, false≢true}
 use mathlib.Core.List.{List, [], _∷_}
-use Prim.Native.Nat.{ℕ, zero, suc, _+_, _*_, _≤_, _<_}
+use Prim.Native.Nat.{ℕ, zero, suc, _+_, _*_, _-_, _≤_, _<_}
 use native.Mathlib.Decide.{ℕ-discrete}
 use native.Mathlib.Omega.{arith}
 use lib.ListN.{length, getD, take, replicate, length-replicate, getD-replicate}
@@ -11,6 +11,7 @@ use lib.Ieee.{Float, lt}
 use lib.Dec.{eqb}
 use borrow.Author.Tests.{eq-eqb, ne-eqb}
 use Rattle.columns.specs.Lists.{each}
+use Rattle.columns.specs.Places.{zeroFloat}
 use Rattle.columns.proofs.Columns.{take-over, over-in}
 use Rattle.columns.proofs.Counting.{each-same, length-each, getD-each}
 use Rattle.columns_neighbors.specs.Lists.{chosen}
@@ -20,8 +21,8 @@ use Rattle.columns_marks.specs.Marks.{isSet, listed, names, marks}
 use Rattle.columns_marks.proofs.Listing.{chosen-at, chosen-has, chosen-below, chosen-ascends}
 use Rattle.columns_answers.specs.declared.SyndromeCounts.the-variants.{Counts}
 use Rattle.sampling_generator.specs.declared.DeterministicRng.{DeterministicRng}
-use Rattle.sampling_generator.specs.Random.{seedFromU64}
-use Rattle.sampling_edges.specs.Draws.{drawNumber, isErased, errorProbability, hasError, sampledErasures, sampledErrors}
+use Rattle.sampling_generator.specs.Random.{seedFromU64, wordOf, nextOf, drawOf}
+use Rattle.sampling_edges.specs.Draws.{advanced, drawNumber, isErased, errorProbability, hasError, sampledErasures, sampledErrors}
 use Rattle.sampling_flips.specs.Flip.{flipEach}
 use Rattle.sampling_flips.proofs.Flipping.{flipEach-virtual}
 use Rattle.sampling_calls.specs.Records.{SyndromeColumns}
@@ -30,7 +31,8 @@ use Rattle.sampling_calls.specs.Syndrome.{syndromeOf}
 use Rattle.sampling_calls.proofs.Inner.{flipEach-inner}
 use Rattle.sampling_calls.proofs.Accepting.{listed-syndrome}
 use Rattle.sampling_calls.proofs.Draws.{length-sampledDefects, length-sampledErasures}
-use Rattle.sampling_claims.specs.Samplings.{SameBefore, SameMarks, drawnErrors, TakesTwoDraws, DefectsOf, SampledSyndrome}
+use Rattle.sampling_claims.specs.Called.{SeedReturned, seed-returned, DrawsReturned, no-draw, draw-then}
+use Rattle.sampling_claims.specs.Samplings.{SameBefore, SameMarks, drawnErrors, TwoDraws, TakesTwoDraws, DefectsOf, SampledSyndrome}
 use Rattle.sampling_claims.proofs.Accepted.{sampling-promise, how-many-defects, defect-over, erasure-over, defectList-over, syndrome-promise, how-many, syndrome-over}
 
 -- ---- the erasure marks
@@ -97,11 +99,10 @@ names-chosen test n k h = go (test k) refl (names (chosen n test) k) refl
 
 -- ---- two draws for every edge
 
-pub takes-two-draws : TakesTwoDraws
+two-draws : (seed : ℕ) (g : CodeGraph) (p pe : List Float) (s₀ s : SyndromeColumns) (d e : ℕ) → GeneratedRandomErrors seed g p pe s₀ (Counts d e) s → TwoDraws seed g p pe s
 unfolding sampledErrors hasError errorProbability isErased
-takes-two-draws seed g p pe s₀ s d e c =
+two-draws seed g p pe s₀ s d e x =
     let r = seedFromU64 seed in
-    let x = sampling-promise c in
     record {
       erased = λ k h.
           ap (λ (l : List ℕ). getD l k 0) (erasure-over x)
@@ -110,6 +111,30 @@ takes-two-draws seed g p pe s₀ s d e c =
       edges-alone = chosen-below (hasError r p pe) (g .edges);
       ascends = chosen-ascends (hasError r p pe) (g .edges);
     }
+
+seed-is : {seed : ℕ} {g : DeterministicRng} → SeedReturned seed g → g ≡ seedFromU64 seed
+seed-is (seed-returned κs a r s h) = h
+
+-- draws from a generator that was advanced m times
+draws-at : (r : DeterministicRng) (m : ℕ) {g : DeterministicRng} {values : List Float} → g ≡ advanced r m → DrawsReturned g values
+    → (i : ℕ) → i < length values → getD values i zeroFloat ≡ drawNumber r (m + i + 1)
+unfolding advanced drawNumber
+draws-at r m e no-draw i l = absurd (omega arith)
+draws-at r m e (draw-then κs a d s h ds) zero l =
+    let same : m ≡ m + 0 + 1 - 1 = omega arith in
+    h .0 ∙ ap (λ (g : DeterministicRng). drawOf (wordOf g)) e ∙ ap (λ (n : ℕ). drawOf (wordOf (advanced r n))) same
+draws-at r m e (draw-then κs a d s h ds) (suc i) l =
+    let same : suc m + i + 1 ≡ m + suc i + 1 = omega arith in
+    draws-at r (suc m) (h .1 ∙ ap nextOf e) ds i (omega arith) ∙ ap (λ (n : ℕ). drawNumber r n) same
+
+pub takes-two-draws : TakesTwoDraws
+unfolding advanced
+takes-two-draws = record {
+  two-draws = λ seed g p pe s₀ s d e c. two-draws seed g p pe s₀ s d e (sampling-promise c);
+  in-order = λ seed g values c ds i l.
+      let same : 0 + i + 1 ≡ i + 1 = omega arith in
+      draws-at (seedFromU64 seed) 0 (seed-is c) ds i l ∙ ap (λ (n : ℕ). drawNumber (seedFromU64 seed) n) same;
+}
 
 -- ---- the syndrome
 

@@ -1,7 +1,7 @@
 -- Calls of the real functions. `Learnt` is what a caller of a function learns of a call, made from the function's own contract: lifetimes, the arguments
 -- as they were passed, the result, and the parameters at exit. A parameter that is only read is at exit as it was passed.
 use Prim.Native.Nat.{ℕ}
-use mathlib.Core.List.{List}
+use mathlib.Core.List.{List, [], _∷_}
 use lib.Ieee.{Float}
 use contract.Lifetimes.{Lfts}
 use borrow.Fn.Kinds.{Dens, endedOf}
@@ -10,6 +10,12 @@ use denote.Ref.{now}
 use Rattle.columns_answers.specs.declared.SyndromeCounts.{SyndromeCounts}
 use Rattle.columns_answers.specs.declared.ListCount.{ListCount}
 use Rattle.columns_room.specs.Graph.{CodeGraph, codeGraph}
+use Rattle.sampling_generator.specs.declared.DeterministicRng.{DeterministicRng}
+use Rattle.sampling_generator.specs.declared.Drawn.{Drawn}
+use Rattle.sampling_generator.proofs.DeterministicRng.seed_from_u64.Kinds as seed-kinds
+use Rattle.sampling_generator.proofs.DeterministicRng.seed_from_u64.Reads as seed-reads
+use Rattle.sampling_generator.proofs.DeterministicRng.next_f64.Kinds as draw-kinds
+use Rattle.sampling_generator.proofs.DeterministicRng.next_f64.Reads as draw-reads
 use Rattle.sampling_calls.specs.Records.{SyndromeColumns, syndromeColumns}
 use Rattle.sampling_calls.proofs.generate_random_errors.Kinds as sampling-kinds
 use Rattle.sampling_calls.proofs.generate_random_errors.Reads as sampling-reads
@@ -17,6 +23,17 @@ use Rattle.sampling_calls.proofs.generate_errors.Kinds as errors-kinds
 use Rattle.sampling_calls.proofs.generate_errors.Reads as errors-reads
 use Rattle.sampling_calls.proofs.syndrome_of.Kinds as syndrome-kinds
 use Rattle.sampling_calls.proofs.syndrome_of.Reads as syndrome-reads
+
+-- Sampling, syndromes, reordering, paragraph 1, sentence 1: a `seed_from_u64` that returned: the seed and the generator.
+pub data SeedReturned : (seed : ℕ) → DeterministicRng → Type 0 where
+  seed-returned : (κs : Lfts 0) (a : Dens κs seed-kinds.ps) (r : DeterministicRng) (s : AtExit (endedOf 0 seed-kinds.ps seed-kinds.r) κs) → seed-reads.Learnt κs a r s → SeedReturned (a .0) r
+
+-- Sampling, syndromes, reordering, paragraph 1, sentence 4: draws that returned, by `next_f64`, the first from a generator, each later one from the generator as the draw
+-- before left it; and what they yielded.
+pub data DrawsReturned : DeterministicRng → List Float → Type 0 where
+  no-draw : {g : DeterministicRng} → DrawsReturned g []
+  draw-then : {values : List Float} (κs : Lfts 0) (a : Dens κs draw-kinds.ps) (r : Drawn) (s : AtExit (endedOf 0 draw-kinds.ps draw-kinds.r) κs) → draw-reads.Learnt κs a r s
+      → DrawsReturned (r .rng) values → DrawsReturned (a .0) (r .value ∷ values)
 
 -- Sampling, syndromes, reordering, paragraph 1, sentence 5: a `generate_random_errors` that returned: the seed, the graph, p and pe, the columns lent, the answer, and
 -- the columns as the call left them.

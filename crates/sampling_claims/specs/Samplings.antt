@@ -10,11 +10,12 @@ use Rattle.columns_answers.specs.declared.SyndromeCounts.the-variants.{Counts}
 use Rattle.columns_answers.specs.declared.ListCount.the-variants.{Count}
 use Rattle.columns_room.specs.Graph.{CodeGraph}
 use Rattle.columns_marks.specs.Marks.{Ascending, names, marks}
+use Rattle.sampling_generator.specs.declared.DeterministicRng.{DeterministicRng}
 use Rattle.sampling_generator.specs.Random.{seedFromU64}
 use Rattle.sampling_edges.specs.Draws.{drawNumber, sampledErrors}
 use Rattle.sampling_calls.specs.Records.{SyndromeColumns}
 use Rattle.sampling_calls.specs.Syndrome.{syndromeOf}
-use Rattle.sampling_claims.specs.Called.{SamplingReturned, SyndromeReturned}
+use Rattle.sampling_claims.specs.Called.{SeedReturned, DrawsReturned, SamplingReturned, SyndromeReturned}
 
 -- ---- two samplings with one seed
 
@@ -50,9 +51,12 @@ pub record TwoDraws (seed : ℕ) (g : CodeGraph) (p pe : List Float) (s : Syndro
   pub edges-alone : (i : ℕ) → i < length (drawnErrors seed g p pe) → getD (drawnErrors seed g p pe) i 0 < g .edges
   pub ascends : Ascending (length (drawnErrors seed g p pe)) (drawnErrors seed g p pe)
 
--- Sampling, syndromes, reordering, paragraph 1, sentence 5: of every accepted sampling.
-abbrev pub TakesTwoDraws : Type 0
-TakesTwoDraws = (seed : ℕ) (g : CodeGraph) (p pe : List Float) (s₀ s : SyndromeColumns) (d e : ℕ) → SamplingReturned seed g p pe s₀ (Counts d e) s → TwoDraws seed g p pe s
+-- Sampling, syndromes, reordering, paragraph 1, sentences 4 and 5: of every accepted sampling; and draw number n of a seed is what the generator that the seed gives
+-- yields as its draw number n.
+pub record TakesTwoDraws : Type 0 where
+  pub two-draws : (seed : ℕ) (g : CodeGraph) (p pe : List Float) (s₀ s : SyndromeColumns) (d e : ℕ) → SamplingReturned seed g p pe s₀ (Counts d e) s → TwoDraws seed g p pe s
+  pub in-order : (seed : ℕ) (g : DeterministicRng) (values : List Float) → SeedReturned seed g → DrawsReturned g values
+      → (i : ℕ) → i < length values → getD values i zeroFloat ≡ drawOfSeed seed (i + 1)
 
 -- ---- the syndrome of a sampling
 

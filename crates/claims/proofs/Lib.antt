@@ -1,7 +1,9 @@
--- Agreeing: what the engine's columns and the tally have in common, for a crossing. Runs: every list of calls. Built: codes. Proved: the demand.
--- Computed: the starred examples.
+-- Agreeing: what the engine's columns and the tally have in common, for a crossing. Runs: every list of calls. LeastKeys: a tree over any leaves. Returns: every call and
+-- every list of calls returns. Built: codes. Proved: the demand. Computed: the starred examples.
 pub mod Agreeing
 pub mod Runs
+mod LeastKeys
+pub mod Returns
 pub mod Built
 pub mod Proved
 pub mod Computed

@@ -1,27 +1,36 @@
 -- Demand 3. Assumes nothing.
 use mathlib.Core.Path.{_≡_, refl, sym, ap, _∙_, subst}
 use mathlib.Core.Logic.{_↔_}
-use mathlib.Core.List.{List}
+use mathlib.Core.List.{List, [], _∷_}
 use mathlib.Core.Option.{Option, some, none}
 use Prim.Native.Nat.{ℕ, _≤_, _<_}
 use native.Mathlib.Omega.{arith}
 use lib.ListN.{getD}
 use lib.IntN.{ℤ, pos}
-use Rattle.columns.specs.Lists.{over}
+use Rattle.columns.specs.Lists.{each, over}
+use Rattle.columns.specs.Questions.{all}
+use Rattle.columns_room.specs.Room.{threeLong}
+use Rattle.engine_columns.specs.Records.{Engine, engine, counts}
+use Rattle.engine_columns.specs.Calls.{loadErasures, loadWeights}
 use Rattle.engine_tally.specs.Tally.{lengthsOf}
 use Rattle.engine_tally.proofs.Agreement.{Agrees}
 use Rattle.engine_tally.proofs.LastNamed.{weighs-last-named}
 use Rattle.engine_walks.specs.Graph.{Graph, edges, GraphInRange, LeftJoinsRight}
-use Rattle.engine_walks.specs.Answers.{crossing, leastFromLeft, weightIn}
+use Rattle.engine_walks.specs.Settling as S
+use Rattle.engine_walks.specs.Settling.{firstLeast, start, changes, byStatus, offer, relaxEdge, relax, stopped, next, settle}
+use Rattle.engine_walks.specs.Answers.{fromLeft, nearestRight, crossing, leastFromLeft, weightIn}
 use Rattle.engine_walks.specs.Claims.{CrossingAnswer, IsCrossing, LeftWeight, NotGreater, reached, signed}
 use Rattle.engine_walks.proofs.LeastCrossing.{crossing-is-least}
 use Rattle.engine_walks.proofs.TwoGraphs.{weights-compare}
+use Rattle.query_questions.specs.Scratch.{ScratchColumns, scratchOf, scratchLong}
 use Rattle.query_crossing_answer.specs.declared.CrossingReply.the-variants.{Crossed}
 use Rattle.query_crossing_answer.specs.Crossing.{replyNumber, replyWeight}
-use Rattle.claims.specs.Listed.{tallyGraph, tallyCrossingRefusal, modifying, numbers}
-use Rattle.claims.specs.Demand3.{History, CrossingThen, TwoLists, tallyFirst, tallyLast, graphAtEnd, weightsAtEnd, refusedBefore, Demand3}
+use Rattle.claims.specs.Listed.{CallArguments, modifyBy, crossWith, listedCalls, ownLengths, tallyGraph, before18, tallyCrossingRefusal, modifying, numbers}
+use Rattle.claims.specs.Called.{open-called, crossing-called}
+use Rattle.claims.specs.Demand3.{OneHistory, History, CrossingThen, TwoLists, tallyFirst, tallyLast, graphAtEnd, weightsAtEnd, refusedBefore, Demand3}
 use Rattle.claims.proofs.Agreeing.{CrossingBy, range, edges-are, weight-at, crossing-number, accepted-of, accepted-when, column-at, graph-kept}
 use Rattle.claims.proofs.Runs.{FreshGraph, fresh-of, crossing-of, runs}
+use Rattle.claims.proofs.Returns.{oneEdge, one-edge-opened, open-returns, opened-when, modifying-returns, crossing-returns, list-returns, lengths-at-end}
 use Rattle.claims.proofs.Built.{BuiltGraph, built-of, handed-on, built-distance}
 
 abbrev valueOf : Option ℕ → ℕ
@@ -144,9 +153,81 @@ module _ (h h′ : History) (c : CrossingThen h) (c′ : CrossingThen h′) (two
             (subst (λ x. NotGreater (weightIn (leastFromLeft (graphAtEnd h) (weightsAtEnd h)) v) x) (sym (at h′ c′ (two .accepted′) v (inside v l))) (q .columns v (omega (arith, vertices-kept h, l)))),
       )
 
+-- ---- one history
+
+abbrev room : List ℕ
+room = 0 ∷ 0 ∷ []
+
+abbrev scratch : ScratchColumns
+scratch = scratchOf room room room room room room room
+
+abbrev twoWeights : List ℤ
+twoWeights = pos 0 ∷ pos 0 ∷ []
+
+abbrev list : List CallArguments
+list = modifyBy (loadWeights (0 ∷ []) (3 ∷ [])) ∷ crossWith twoWeights scratch ∷ modifyBy (loadErasures (0 ∷ [])) ∷ []
+
+abbrev freshEdge : Engine
+freshEdge = engine (counts 2 1 0) (0 ∷ []) (1 ∷ []) (5 ∷ []) (1 ∷ 2 ∷ []) room room
+
+one : History
+one =
+    let (ns, e, c) = list-returns list (lengthsOf freshEdge) freshEdge refl in
+    record {
+      vertices = 2;
+      edges = 1;
+      handed = oneEdge;
+      fresh = freshEdge;
+      calls = listedCalls (lengthsOf freshEdge) list;
+      answers = ns;
+      at-end = e;
+      opened = open-called (counts 2 1 0) room room one-edge-opened;
+      called = c;
+    }
+
+one-found : found one ≡ some 3
+unfolding one each all threeLong firstLeast start changes byStatus offer relaxEdge relax S.takeVertex stopped next settle fromLeft nearestRight crossing
+one-found = refl
+
+one-numbers : numbers (one .calls) (tallyFirst one) ≡ 0 ∷ 0 ∷ 12 ∷ []
+unfolding one each all threeLong scratchLong firstLeast start changes byStatus offer relaxEdge relax S.takeVertex stopped next settle fromLeft nearestRight crossing
+one-numbers = refl
+
+one-crossing : CrossingThen one
+one-crossing =
+    let (r, column, left, c) = crossing-returns (one .at-end) twoWeights scratch in
+    record { own = ownLengths twoWeights scratch; reply = r; column₀ = twoWeights; column = column; called = crossing-called scratch left c }
+
+one-asked : refusedBefore one one-crossing ≡ 0
+unfolding one one-crossing threeLong scratchLong all
+one-asked = ap (λ k. before18 k (ownLengths twoWeights scratch) (tallyLast one)) (lengths-at-end (one .fresh) (one .calls) (one .answers) (one .at-end) (one .called))
+
+one-history : OneHistory
+unfolding one
+one-history = record {
+  history = one;
+  vertices-are = refl;
+  edges-are = refl;
+  handed-are = refl;
+  weights = twoWeights;
+  scratch = scratch;
+  calls-are = refl;
+  answers-are = run one .0 ∙ one-numbers;
+  crossing = one-crossing;
+  reports =
+      let (W, f, r, k) = reports one one-crossing (accepted one one-crossing one-asked 3 one-found) in
+      r ∙ ap (λ o. Crossed (valueOf o)) (sym f ∙ one-found);
+}
+
 -- the demand
 pub demand-3 : Demand3
 demand-3 = record {
+  open-returns = open-returns;
+  modifying-returns = modifying-returns;
+  crossing-returns = crossing-returns;
+  list-returns = λ v e handed fresh o list. list-returns list (lengthsOf fresh) fresh refl;
+  one-history = one-history;
+  opened-when = opened-when;
   each-call = λ h. run h .0;
   crossing-then = number;
   counts = λ h. agrees h .counts-are;

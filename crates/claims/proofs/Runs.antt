@@ -14,9 +14,12 @@ use Rattle.engine_columns.specs.Open.{GraphColumns, openRefusal, Opened}
 use Rattle.engine_tally.specs.Tally.{Tally, tallyOf, lengthsOf, tallyStep}
 use Rattle.engine_tally.proofs.Agreement.{Agrees, step-agrees, opened-agrees}
 use Rattle.engine_columns.proofs.Refusals.{opens-of}
+use Rattle.query_questions.specs.Scratch.{ScratchColumns}
 use Rattle.query_crossing_answer.specs.declared.CrossingReply.{CrossingReply}
+use Rattle.query_crossing_answer.specs.Crossing.{FoundCrossing}
 use Rattle.claims.specs.Listed.{OwnLengths, ListedCall, tallyAtEnd, numbers}
-use Rattle.claims.specs.Called.{OpenCalled, open-called, Called, load-erasures-called, load-weights-called, reset-called, CrossingCalled, crossing-called, Calls, no-call, modified-then, crossed-then}
+use Rattle.claims.specs.QueriesCalled.{CrossingReturned, crossing-returned}
+use Rattle.claims.specs.Called.{OpenReturned, open-returned, OpenCalled, open-called, Called, load-erasures-called, load-weights-called, reset-called, CrossingCalled, crossing-called, Calls, no-call, modified-then, crossed-then}
 use Rattle.claims.proofs.Agreeing.{CrossingBy, crossing-number}
 
 -- what a call's contract says is the step
@@ -25,9 +28,15 @@ step-of call e r e₁ (load-erasures-called κs a q s h) = h
 step-of call e r e₁ (load-weights-called κs a q s h) = h
 step-of call e r e₁ (reset-called κs a q s h) = h
 
+found-of : (e : Engine) (r : CrossingReply) (column₀ column : List ℤ) (scratch₀ scratch : ScratchColumns) → CrossingReturned e r column₀ column scratch₀ scratch
+    → FoundCrossing e r column₀ column scratch₀ scratch
+found-of e r column₀ column scratch₀ scratch (crossing-returned κs a q s h) = h
+
 pub crossing-of : (e : Engine) (o : OwnLengths) (r : CrossingReply) (column₀ column : List ℤ) → CrossingCalled e o r column₀ column
     → CrossingBy e o r column₀ column
-crossing-of e o r column₀ column (crossing-called κs a q s h) = record { same = refl; answers = h .answers; weights-after = h .weights-after }
+crossing-of e o r column₀ column (crossing-called scratch₀ scratch c) =
+    let h = found-of e r column₀ column scratch₀ scratch c in
+    record { same = refl; answers = h .answers; weights-after = h .weights-after }
 
 -- ---- open
 
@@ -46,8 +55,11 @@ open-says v e handed lent left c le lw h =
       weights-long = opens-of v e handed lent d .from .weights;
     }
 
+pub opened-of : (v e : ℕ) (handed lent₀ : GraphColumns) (r : EngineAnswer) (lent : GraphColumns) → OpenReturned v e handed lent₀ r lent → Opened v e handed lent₀ r lent
+opened-of v e handed lent₀ r lent (open-returned κs a q s h) = h
+
 pub fresh-of : (v e : ℕ) (handed : GraphColumns) (fresh : Engine) → OpenCalled v e handed fresh → FreshGraph v e handed fresh
-fresh-of v e handed fresh (open-called κs a c s le lw h) = open-says _ _ _ _ _ c le lw h
+fresh-of v e handed fresh (open-called {lent₀ = lent₀} {lent = lent} c le lw o) = open-says v e handed lent₀ lent c le lw (opened-of v e handed lent₀ (Counts c) lent o)
 
 -- ---- the list
 

@@ -2,7 +2,6 @@
 -- as they were passed, the result, and the parameters at exit. A parameter that is only read is at exit as it was passed.
 use Prim.Native.Nat.{ℕ}
 use mathlib.Core.List.{List, [], _∷_}
-use lib.ListN.{length}
 use lib.IntN.{ℤ}
 use contract.Lifetimes.{Lfts}
 use borrow.Fn.Kinds.{Dens, endedOf}
@@ -18,7 +17,8 @@ use Rattle.engine_tally.specs.Tally.{lengthsOf}
 use Rattle.query_crossing_answer.specs.declared.CrossingReply.{CrossingReply}
 use Rattle.query_crossing_answer.specs.Crossing.{replyNumber}
 use Rattle.codes_calls.specs.declared.Created.the-variants.{Code}
-use Rattle.claims.specs.Listed.{OwnLengths, ListedCall, modifies, crosses}
+use Rattle.claims.specs.Listed.{OwnLengths, ownLengths, ListedCall, modifies, crosses}
+use Rattle.claims.specs.QueriesCalled.{CrossingReturned}
 use Rattle.engine_calls.proofs.open.Kinds as open-kinds
 use Rattle.engine_calls.proofs.open.Reads as open-reads
 use Rattle.engine_calls.proofs.load_erasures.Kinds as erasures-kinds
@@ -27,23 +27,28 @@ use Rattle.engine_calls.proofs.load_dynamic_weights.Kinds as weights-kinds
 use Rattle.engine_calls.proofs.load_dynamic_weights.Reads as weights-reads
 use Rattle.engine_calls.proofs.reset.Kinds as reset-kinds
 use Rattle.engine_calls.proofs.reset.Reads as reset-reads
-use Rattle.query_crossings.proofs.crossing.Kinds as crossing-kinds
-use Rattle.query_crossings.proofs.crossing.Reads as crossing-reads
 use Rattle.codes_calls.proofs.create.create_code.Kinds as create-kinds
 use Rattle.codes_calls.proofs.create.create_code.Reads as create-reads
 use Rattle.codes_calls.proofs.weighted.new.Kinds as new-kinds
 use Rattle.codes_calls.proofs.weighted.new.Reads as new-reads
 use Rattle.codes_calls.proofs.weighted.new_diagonal.Kinds as diagonal-kinds
 use Rattle.codes_calls.proofs.weighted.new_diagonal.Reads as diagonal-reads
-use Rattle.query_questions.specs.Scratch.{scratchIn, scratchLengths}
+use Rattle.query_questions.specs.Scratch.{ScratchColumns}
+
+-- Engine, Open: an open that returned: the counts, what it was handed, the answer, and the engine's columns before and after.
+pub data OpenReturned : (vertices edges : ℕ) (handed lent₀ : GraphColumns) → EngineAnswer → (lent : GraphColumns) → Type 0 where
+  open-returned : (κs : Lfts 8) (a : Dens κs open-kinds.ps) (r : EngineAnswer) (s : AtExit (endedOf 8 open-kinds.ps open-kinds.r) κs) → open-reads.Learnt κs a r s
+      → OpenReturned (a .0) (a .1 .0)
+      (graphColumns (now (a .1 .1 .0)) (now (a .1 .1 .1 .0)) (now (a .1 .1 .1 .1 .0)) (now (a .1 .1 .1 .1 .1 .0)))
+      (graphColumns (now (a .1 .1 .1 .1 .1 .1 .0)) (now (a .1 .1 .1 .1 .1 .1 .1 .0)) (now (a .1 .1 .1 .1 .1 .1 .1 .1 .0)) (now (a .1 .1 .1 .1 .1 .1 .1 .1 .1 .0)))
+      r
+      (graphColumns (now (s .1 .1 .1 .1 .1 .1 .0)) (now (s .1 .1 .1 .1 .1 .1 .1 .0)) (now (s .1 .1 .1 .1 .1 .1 .1 .1 .0)) (now (s .1 .1 .1 .1 .1 .1 .1 .1 .1 .0)))
 
 -- Engine, Tally, sentence 2: an open that was accepted: the counts, what it was handed, and the engine's columns as it left them, with any log.
 pub data OpenCalled : (vertices edges : ℕ) → GraphColumns → Engine → Type 0 where
-  open-called : (κs : Lfts 8) (a : Dens κs open-kinds.ps) (c : EngineCounts) (s : AtExit (endedOf 8 open-kinds.ps open-kinds.r) κs) (logEdges logWeights : List ℕ)
-      → open-reads.Learnt κs a (Counts c) s
-      → OpenCalled (a .0) (a .1 .0)
-      (graphColumns (now (a .1 .1 .0)) (now (a .1 .1 .1 .0)) (now (a .1 .1 .1 .1 .0)) (now (a .1 .1 .1 .1 .1 .0)))
-      (engine c (now (s .1 .1 .1 .1 .1 .1 .0)) (now (s .1 .1 .1 .1 .1 .1 .1 .0)) (now (s .1 .1 .1 .1 .1 .1 .1 .1 .0)) (now (s .1 .1 .1 .1 .1 .1 .1 .1 .1 .0)) logEdges logWeights)
+  open-called : {vertices edges : ℕ} {handed lent₀ lent : GraphColumns} (c : EngineCounts) (logEdges logWeights : List ℕ)
+      → OpenReturned vertices edges handed lent₀ (Counts c) lent
+      → OpenCalled vertices edges handed (engine c (lent .endsA) (lent .endsB) (lent .weights) (lent .boundary) logEdges logWeights)
 
 -- Engine, Load and Reset: a load or a reset that returned: the columns lent, the answer, and the columns as the call left them.
 pub data Called : Call → Engine → EngineAnswer → Engine → Type 0 where
@@ -65,15 +70,8 @@ pub data Called : Call → Engine → EngineAnswer → Engine → Type 0 where
 
 -- Engine, Crossing: a crossing that returned: the columns lent, which it only reads, the lengths of its own columns, the answer, and the weight column before and after.
 pub data CrossingCalled : Engine → OwnLengths → CrossingReply → (column₀ column : List ℤ) → Type 0 where
-  crossing-called : (κs : Lfts 14) (a : Dens κs crossing-kinds.ps) (r : CrossingReply) (s : AtExit (endedOf 14 crossing-kinds.ps crossing-kinds.r) κs) → crossing-reads.Learnt κs a r s
-      → CrossingCalled
-      (engineIn (a .0) (a .1 .0) (a .1 .1 .0) (a .1 .1 .1 .0) (a .1 .1 .1 .1 .0) (a .1 .1 .1 .1 .1 .0) (a .1 .1 .1 .1 .1 .1 .0))
-      (record {
-        weights = length (now (a .1 .1 .1 .1 .1 .1 .1 .0));
-        scratch = scratchLengths (scratchIn (a .1 .1 .1 .1 .1 .1 .1 .1 .0) (a .1 .1 .1 .1 .1 .1 .1 .1 .1 .0) (a .1 .1 .1 .1 .1 .1 .1 .1 .1 .1 .0)
-            (a .1 .1 .1 .1 .1 .1 .1 .1 .1 .1 .1 .0) (a .1 .1 .1 .1 .1 .1 .1 .1 .1 .1 .1 .1 .0) (a .1 .1 .1 .1 .1 .1 .1 .1 .1 .1 .1 .1 .1 .0) (a .1 .1 .1 .1 .1 .1 .1 .1 .1 .1 .1 .1 .1 .1 .0));
-      })
-      r (now (a .1 .1 .1 .1 .1 .1 .1 .0)) (now (s .1 .1 .1 .1 .1 .1 .1 .0))
+  crossing-called : {e : Engine} {r : CrossingReply} {column₀ column : List ℤ} (scratch₀ scratch : ScratchColumns) → CrossingReturned e r column₀ column scratch₀ scratch
+      → CrossingCalled e (ownLengths column₀ scratch₀) r column₀ column
 
 -- Engine, Tally, sentences 2 and 3: a list of calls with the number of each answer: each call is lent the engine's columns, the log and their counts
 -- as the call before left them; other columns are any.

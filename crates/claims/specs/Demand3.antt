@@ -2,22 +2,27 @@
 use Prim.Native.Nat.{ℕ, _≤_, _<_}
 use mathlib.Core.Path.{_≡_}
 use mathlib.Core.Logic.{_↔_}
-use mathlib.Core.List.{List}
+use mathlib.Core.List.{List, [], _∷_}
 use lib.ListN.{getD, take}
 use lib.IntN.{ℤ}
-use Rattle.engine_columns.specs.Records.{Engine}
-use Rattle.engine_columns.specs.Open.{GraphColumns}
+use Rattle.engine_columns.specs.declared.EngineAnswer.{EngineAnswer}
+use Rattle.engine_columns.specs.declared.EngineAnswer.the-variants.{Counts}
+use Rattle.engine_columns.specs.Records.{Engine, counts}
+use Rattle.engine_columns.specs.Calls.{Call, loadErasures, loadWeights}
+use Rattle.engine_columns.specs.Open.{GraphColumns, graphColumns, openRefusal}
 use Rattle.engine_tally.specs.Tally.{Tally, tallyOf, tallyNumbers, lengthsOf}
 use Rattle.engine_tally.specs.Readers.{setByCalls, weightBy}
 use Rattle.engine_walks.specs.Lists.{sum}
 use Rattle.engine_walks.specs.Graph.{Graph, LeftJoinsRight, CrossingSet}
 use Rattle.engine_walks.specs.Answers.{weightIn}
 use Rattle.engine_walks.specs.Claims.{Alike, NotGreater, LeftWeight}
+use Rattle.query_questions.specs.Scratch.{ScratchColumns}
 use Rattle.query_crossing_answer.specs.declared.CrossingReply.{CrossingReply}
 use Rattle.query_crossing_answer.specs.declared.CrossingReply.the-variants.{Crossed}
 use Rattle.query_crossing_answer.specs.Crossing.{replyNumber, replyWeight}
-use Rattle.claims.specs.Listed.{OwnLengths, ListedCall, tallyGraph, tallyWeights, before18, tallyCrossingRefusal, modifying, tallyAtEnd, numbers}
-use Rattle.claims.specs.Called.{OpenCalled, Calls, CrossingCalled, CodeBuilt}
+use Rattle.claims.specs.Listed.{OwnLengths, ListedCall, CallArguments, modifyBy, crossWith, listedCalls, tallyGraph, tallyWeights, before18, tallyCrossingRefusal, modifying, tallyAtEnd, numbers}
+use Rattle.claims.specs.QueriesCalled.{CrossingReturned}
+use Rattle.claims.specs.Called.{OpenReturned, OpenCalled, Called, Calls, CrossingCalled, CodeBuilt}
 
 -- Demand 3, sentence 1; Engine, Tally, sentence 2: a freshly opened graph and a list of
 -- calls on it, with the number of each answer; `at-end`: the engine's columns at its end.
@@ -66,8 +71,36 @@ pub record TwoLists (h h′ : History) (c : CrossingThen h) (c′ : CrossingThen
   pub accepted : replyNumber (c .reply) ≡ 0
   pub accepted′ : replyNumber (c′ .reply) ≡ 0
 
--- Demand 3, from its second sentence on, as one claim (Engine, Tally, sentence 1); sentence 1 is `History`. The quoted words are the demand's where no section is named.
+-- Demand 3, sentence 1: one history, written out. A graph of two vertices, left and right, and one edge of weight 5 is opened. The edge is loaded with weight 3 (accepted),
+-- a crossing is called (accepted), and another load (refused by 12, since the log is not empty). A crossing called then reports 3.
+pub record OneHistory : Type 0 where
+  pub history : History
+  pub vertices-are : history .vertices ≡ 2
+  pub edges-are : history .edges ≡ 1
+  pub handed-are : history .handed ≡ graphColumns (0 ∷ []) (1 ∷ []) (5 ∷ []) (1 ∷ 2 ∷ [])
+  pub weights : List ℤ
+  pub scratch : ScratchColumns
+  pub calls-are : history .calls
+      ≡ listedCalls (lengthsOf (history .fresh)) (modifyBy (loadWeights (0 ∷ []) (3 ∷ [])) ∷ crossWith weights scratch ∷ modifyBy (loadErasures (0 ∷ [])) ∷ [])
+  pub answers-are : history .answers ≡ 0 ∷ 0 ∷ 12 ∷ []
+  pub crossing : CrossingThen history
+  pub reports : crossing .reply ≡ Crossed 3
+
+-- Demand 3 as one claim (Engine, Tally, sentence 1). The quoted words are the demand's where no section is named.
 pub record Demand3 : Type 0 where
+  -- "This holds after every list of load-erasures, load-weights, reset and crossing calls on a freshly opened graph, refused calls included." Every open, load, reset and
+  -- crossing returns, on any columns: there is an answer, and columns at exit, with what its callers learn. So every list of calls on a freshly opened graph has its
+  -- answers and an engine at its end, and is that of a `History`; one is written out.
+  pub open-returns : (vertices edges : ℕ) (handed lent₀ : GraphColumns) → (r : EngineAnswer) × (lent : GraphColumns) × OpenReturned vertices edges handed lent₀ r lent
+  pub modifying-returns : (call : Call) (e₀ : Engine) → (r : EngineAnswer) × (e : Engine) × Called call e₀ r e
+  pub crossing-returns : (e : Engine) (weights₀ : List ℤ) (scratch₀ : ScratchColumns)
+      → (r : CrossingReply) × (weights : List ℤ) × (scratch : ScratchColumns) × CrossingReturned e r weights₀ weights scratch₀ scratch
+  pub list-returns : (vertices edges : ℕ) (handed : GraphColumns) (fresh : Engine) → OpenCalled vertices edges handed fresh → (list : List CallArguments)
+      → (answers : List ℕ) × (at-end : Engine) × Calls fresh (listedCalls (lengthsOf fresh) list) answers at-end
+  pub one-history : OneHistory
+  -- A freshly opened graph is there exactly where questions 6 and 7 of open are met, of what is handed over and of some columns lent to it.
+  pub opened-when : (vertices edges : ℕ) (handed lent₀ : GraphColumns) (r : EngineAnswer) (lent : GraphColumns) → OpenReturned vertices edges handed lent₀ r lent
+      → (openRefusal vertices edges handed lent₀ ≡ 0) ↔ (r ≡ Counts (counts vertices edges 0))
   -- "Each call is accepted or refused as document 01's questions say."
   pub each-call : (h : History) → h .answers ≡ numbers (h .calls) (tallyFirst h)
   pub crossing-then : (h : History) (c : CrossingThen h) → replyNumber (c .reply) ≡ tallyCrossingRefusal (lengthsOf (h .at-end)) (c .own) (tallyLast h)

@@ -2,25 +2,42 @@
 use Prim.Native.Nat.{ℕ}
 use mathlib.Core.Bool.{Bool, _&&_}
 use mathlib.Core.List.{List, [], _∷_}
-use lib.ListN.{getD}
+use lib.ListN.{length, getD}
+use lib.IntN.{ℤ}
 use lib.Dec.{leb}
 use Rattle.columns.specs.Questions.{ask}
 use Rattle.engine_columns.specs.declared.EngineCounts.{EngineCounts}
+use Rattle.engine_columns.specs.Calls.{Call}
 use Rattle.engine_tally.specs.Tally.{Lengths, Tally, Fed, tallyLong, tallyRefusal, tallyStep, tallyAfter}
 use Rattle.engine_walks.specs.Graph.{Graph}
 use Rattle.engine_walks.specs.Answers.{crossing}
 use Rattle.query_crossing_answer.specs.Crossing.{isJoined}
-use Rattle.query_questions.specs.Scratch.{ScratchLengths, scratchLong}
+use Rattle.query_questions.specs.Scratch.{ScratchColumns, ScratchLengths, scratchLengths, scratchLong}
 
 -- Engine, Tally, sentence 5: the lengths of the columns that only a crossing is lent: the weight column and scratch.
 pub record OwnLengths : Type 0 where
   pub weights : ℕ
   pub scratch : ScratchLengths
 
+-- Engine, Tally, sentence 5: these lengths, of the columns lent.
+abbrev pub ownLengths : List ℤ → ScratchColumns → OwnLengths
+ownLengths weights scratch = record { weights = length weights; scratch = scratchLengths scratch }
+
 -- Engine, Tally, sentence 5: one call as the tally is fed it: a load or a reset, or a crossing.
 pub data ListedCall : Type 0 where
   modifies : Fed → ListedCall
   crosses : Lengths → OwnLengths → ListedCall
+
+-- Demand 3, sentence 1: one call as its caller makes it: a load or a reset with its arguments, or a crossing with its weight column and scratch.
+pub data CallArguments : Type 0 where
+  modifyBy : Call → CallArguments
+  crossWith : (weights : List ℤ) → ScratchColumns → CallArguments
+
+-- Engine, Tally, sentence 5: a list of such calls as the tally is fed it, where the engine's columns have the lengths k.
+abbrev pub listedCalls : Lengths → List CallArguments → List ListedCall
+listedCalls k [] = []
+listedCalls k (modifyBy call ∷ cs) = modifies (record { call = call; lent = k }) ∷ listedCalls k cs
+listedCalls k (crossWith weights scratch ∷ cs) = crosses k (ownLengths weights scratch) ∷ listedCalls k cs
 
 -- Engine, Tally, sentence 6: the graph that the tally holds.
 abbrev pub tallyGraph : Tally → Graph

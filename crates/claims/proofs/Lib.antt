@@ -7,9 +7,6 @@ pub mod Returns
 pub mod Built
 pub mod Proved
 pub mod Computed
--- Scans: the Rust's loop over the peers, and the nearest virtual vertex. PrebuiltScanned: the claim.
-mod Scans
-mod PrebuiltScanned
 -- Questions: a query's number is 0 exactly where its questions are met. Tables, Paths, Crossings: what an answer and the columns say, read off what a caller learns.
 pub mod Questions
 pub mod Tables

@@ -4,10 +4,6 @@ pub mod Called
 pub mod Demand3
 -- Starred: document 01's checked examples with a star.
 pub mod Starred
--- Prebuilt: what the Rust's `PrebuiltCompleteGraph` reports of a graph. PrebuiltCalled: calls that were accepted. PrebuiltRows: that they give the same.
-pub mod Prebuilt
-pub mod PrebuiltCalled
-pub mod PrebuiltRows
 -- QueriesCalled: calls of the queries. Met: their questions 6, 7, 13 and 16. Queries: what their answers and columns say of walks and edge sets.
 pub mod QueriesCalled
 pub mod Met

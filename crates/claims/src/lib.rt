@@ -1,7 +1,6 @@
 // What is claimed of several sections together. Each claim is the contract of a function with nothing to do.
 ghost use Rattle.claims.specs.Demand3.{Demand3};
 ghost use Rattle.claims.specs.Starred.{StarredExamples};
-ghost use Rattle.claims.specs.PrebuiltRows.{PrebuiltRows};
 ghost use Rattle.claims.specs.Met.{ColumnsInRange};
 ghost use Rattle.claims.specs.Queries.{AllEdgesIsLeast, GetPathIsLeast, CrossingCallIsLeast};
 
@@ -13,11 +12,6 @@ pub fn demand_3()
 // Document 01's checked examples with a star, as one statement about the definitions.
 pub fn starred_examples()
     ensures { λ _. ⌜ StarredExamples ⌝ }
-{}
-
-// After an accepted `fill_boundaries` its columns hold the Rust's boundary weights and vertices, and `fill_row` over them gives the Rust's row.
-pub fn prebuilt_rows()
-    ensures { λ _. ⌜ PrebuiltRows ⌝ }
 {}
 
 // Questions 6 and 7 met: ends are vertices, boundary bytes are 0, 1 or 2, weights are within their limit.

@@ -1,21 +1,22 @@
--- An accepted `fill_boundaries` and an accepted `fill_row` over its column. Assumes nothing.
-use mathlib.Core.Path.{_≡_, sym, ap, _∙_, subst}
+-- An accepted `fill_boundaries`, an accepted `get_boundary_weight`, and an accepted `fill_row` over the column of boundary weights. Assumes nothing.
+use mathlib.Core.Path.{_≡_, refl, sym, ap, _∙_, subst}
 use mathlib.Core.Logic.{inl, inr}
 use mathlib.Core.Bool.{Bool, true, false, cond, _||_}
 use mathlib.Core.List.{List}
-use mathlib.Core.Option.{none}
+use mathlib.Core.Option.{Option, some, none}
 use Prim.Native.Nat.{ℕ, _<_}
 use native.Mathlib.Omega.{arith}
 use lib.ListN.{length, getD}
 use lib.Dec.{eqb}
 use lib.IntN.{ℤ, pos, negsuc}
 use Rattle.columns.specs.Lists.{each, after}
-use Rattle.columns_answers.proofs.Said.{zero-of}
+use Rattle.columns_answers.proofs.Said.{zero-of, values-of}
 use Rattle.columns.specs.declared.Done.the-variants.{Accepted}
 use Rattle.columns.proofs.Columns.{after-accepted, over-in}
 use Rattle.columns.proofs.Counting.{length-each, getD-each}
 use Rattle.engine_columns.specs.Records.{Engine}
-use Rattle.engine_walks.specs.Graph.{Graph, LeastWeight}
+use Rattle.engine_columns.proofs.Refusals.{long-of, sound-of}
+use Rattle.engine_walks.specs.Graph.{Graph, GraphInRange, LeastWeight}
 use Rattle.engine_walks.specs.Answers.{weightIn, table}
 use Rattle.engine_walks.specs.Claims.{Row}
 use Rattle.engine_walks.proofs.TableAndPath.{table-is-least}
@@ -24,12 +25,18 @@ use Rattle.query_search.proofs.Ranges.{in-range}
 use Rattle.prebuilt_entries.specs.Entries.{inTheMiddle, rowEntry, entryBy}
 use Rattle.prebuilt_calls.specs.Rows.{FilledRow, rowRefusal}
 use Rattle.prebuilt_calls.proofs.Entries.{row-asked}
+use Rattle.prebuilt_calls.proofs.Asked.{fillable}
+use Rattle.prebuilt_calls.specs.declared.nearest.BoundaryAnswer.{BoundaryAnswer}
+use Rattle.prebuilt_calls.specs.Nearest.{nearestSaid, boundaryFound}
+use Rattle.query_tables.specs.declared.End.the-variants.{None}
+use Rattle.query_tables.proofs.Tables.{table-of}
 use Rattle.prebuilt_calls.specs.Boundaries as ours
-use Rattle.claims.specs.Prebuilt.{virtual, getBoundaryWeight, getEdgeWeight, edgeEntry, weightEntry, vertexEntry}
-use Rattle.claims.specs.PrebuiltCalled.{BoundariesFilled, RowFilled}
-use Rattle.claims.specs.PrebuiltCalled as called
-use Rattle.claims.specs.PrebuiltRows.{PrebuiltRows}
-use Rattle.claims.proofs.Scans.{weight-column, vertex-column, entry-is}
+use Rattle.prebuilt_claims.specs.Prebuilt.{virtual, getBoundaryWeight, getEdgeWeight, edgeEntry, weightEntry, vertexEntry, boundaryValues}
+use Rattle.prebuilt_claims.specs.Called.{BoundariesFilled, RowFilled, BoundaryAsked}
+use Rattle.prebuilt_claims.specs.Called as called
+use Rattle.prebuilt_claims.specs.PrebuiltRows.{PrebuiltRows}
+use Rattle.prebuilt_claims.proofs.Scans.{peerOf, scanned, weight-column, vertex-column, entry-is}
+use Rattle.prebuilt_claims.proofs.Boundaries.{BoundaryIs, boundary-is, entry-nearest, entry-none, values-nearest, values-none}
 use Rattle.query_questions.specs.Scratch.{scratchFits, ScratchColumns}
 
 module _ {A : Type 0} where
@@ -115,9 +122,44 @@ least-of : (e : Engine) (v : ℕ) (near out : List ℤ) → RowFilled e v near o
     → LeastWeight (graphIn e) (weightsIn e) (λ x. x ≡ v) u k
 least-of e v near out (called.RowFilled.row-filled κs a s l) u k h p = least-at e v near _ out _ _ _ _ l u k h p
 
+-- ---- boundary weights and walks
+
+-- what an accepted call of either function says of its columns
+fill-range : (e : Engine) (weights : List ℤ) (vertices : List ℕ) → BoundariesFilled e weights vertices → GraphInRange (graphIn e)
+fill-range e weights vertices (called.BoundariesFilled.boundaries-filled κs a s l) =
+    let f = fillable e _ _ _ _ _ (zero-of (l .answers)) in
+    in-range e (long-of 0 e (f .long)) (sound-of e (f .is-sound))
+
+record Asked (e : Engine) (v : ℕ) (r : BoundaryAnswer) : Type 0 where
+  pub values-are : nearestSaid r .values ≡ boundaryValues (getBoundaryWeight (graphIn e) (weightsIn e) v)
+  pub boundary : BoundaryIs (graphIn e) (weightsIn e) v (getBoundaryWeight (graphIn e) (weightsIn e) v)
+
+asked-of : (e : Engine) (v : ℕ) (r : BoundaryAnswer) → BoundaryAsked e v r → nearestSaid r .number ≡ 0 → Asked e v r
+asked-of e v r (called.BoundaryAsked.boundary-asked κs a q s l) z =
+    let g = graphIn e in
+    let w = weightsIn e in
+    let t = table-of e _ v None _ _ (sym (l .answers .number-is) ∙ z) in
+    record {
+      values-are = values-of (l .answers) (sym (l .answers .number-is) ∙ z) ∙ found-is (ours.nearestOf g w v) ∙ ap boundaryValues (sym (scanned g w v));
+      boundary = boundary-is g w v (in-range e (t .long) (t .sound)) (t .source-in);
+    }
+  where
+    found-is : (o : Option ℕ) → boundaryFound (ours.weightsFrom (graphIn e) (weightsIn e) v) o ≡ boundaryValues (peerOf (graphIn e) (weightsIn e) v o)
+    found-is none = refl
+    found-is (some u) = refl
+
 pub prebuilt-rows : PrebuiltRows
 prebuilt-rows = record {
   boundaries = λ e weights vertices f v h. (weight-of e weights vertices f v h, vertex-of e weights vertices f v h);
+  nearest = λ e weights vertices f v k h p.
+      entry-nearest (graphIn e) (weightsIn e) v (getBoundaryWeight (graphIn e) (weightsIn e) v) (boundary-is (graphIn e) (weightsIn e) v (fill-range e weights vertices f) h) _ _ k (weight-of e weights vertices f v h) (vertex-of e weights vertices f v h) p;
+  none-nearest = λ e weights vertices f v h.
+      entry-none (graphIn e) (weightsIn e) v (getBoundaryWeight (graphIn e) (weightsIn e) v) (boundary-is (graphIn e) (weightsIn e) v (fill-range e weights vertices f) h) _ (weight-of e weights vertices f v h);
+  asked = λ e v r a z. asked-of e v r a z .values-are;
+  asked-nearest = λ e v r a u k p.
+      let b = asked-of e v r a (ap (λ x. x .number) p) in
+      values-nearest (graphIn e) (weightsIn e) v (getBoundaryWeight (graphIn e) (weightsIn e) v) (b .boundary) u k (sym (ap (λ x. x .values) p) ∙ b .values-are);
+  asked-none = λ e v r a z. let b = asked-of e v r a z in values-none (graphIn e) (weightsIn e) v (getBoundaryWeight (graphIn e) (weightsIn e) v) (b .boundary) _ (b .values-are);
   rows = λ e weights vertices f v out r u h. row-of e v weights out r (weight-of e weights vertices f) u h;
   least = λ e v weights out r u k h p. least-of e v weights out r u k h p;
 }

@@ -16,7 +16,7 @@ use Rattle.engine_walks.specs.Answers.{weightIn, table, taken, tableWeight, onl
 use Rattle.engine_walks.proofs.FirstLeast.{IsFirst, first-least}
 use Rattle.prebuilt_entries.specs.Entries.{isVirtual, entryBy}
 use Rattle.prebuilt_entries.specs.Nearest.{isReached, amount, nearestIn, boundaryIn, weightTo, vertexTo}
-use Rattle.claims.specs.Prebuilt.{virtual, reached, completeEdge, Peer, offered, boundaryBelow, getBoundaryWeight, remaining, getEdgeWeight, edgeEntry, weightEntry, vertexEntry}
+use Rattle.prebuilt_claims.specs.Prebuilt.{virtual, reached, completeEdge, Peer, offered, boundaryBelow, getBoundaryWeight, remaining, getEdgeWeight, edgeEntry, weightEntry, vertexEntry}
 
 peer : ℕ → ℕ → Peer
 peer u weight = record { vertex = u; weight = weight }
@@ -33,7 +33,7 @@ module _ (g : Graph) (w : ℕ → ℕ) (v : ℕ) where
   abbrev at : ℕ → ℕ
   at u = amount (weightIn T u)
 
-  abbrev peerOf : Option ℕ → Option Peer
+  abbrev pub peerOf : Option ℕ → Option Peer
   peerOf none = none
   peerOf (some u) = some (record { vertex = u; weight = at u })
 

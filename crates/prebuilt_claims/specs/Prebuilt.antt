@@ -1,10 +1,14 @@
 -- complete_graph.rs, `PrebuiltCompleteGraph::new_threaded`: what `get_boundary_weight` and `get_edge_weight` report of a graph.
-use Prim.Native.Nat.{ℕ, zero, suc, _+_}
-use mathlib.Core.Bool.{Bool, false, not, cond, _||_}
+use Prim.Native.Nat.{ℕ, zero, suc, _+_, _<_, _≤_}
+use mathlib.Core.Path.{_≡_}
+use mathlib.Core.Logic.{_⊎_}
+use mathlib.Core.Bool.{Bool, true, false, not, cond, _||_}
+use mathlib.Core.List.{List}
 use mathlib.Core.Option.{Option, some, none}
 use lib.Dec.{ltb, eqb}
 use lib.IntN.{ℤ, pos, negsuc}
-use Rattle.engine_walks.specs.Graph.{Graph, boundaryAt}
+use Rattle.engine_walks.specs.Lists.{sum}
+use Rattle.engine_walks.specs.Graph.{Graph, boundaryAt, Walk, Joined}
 use Rattle.engine_walks.specs.Answers.{weightIn, table}
 
 -- Records, on vertices; complete_graph.rs, `is_virtual`: the boundary byte is not 0.
@@ -75,3 +79,27 @@ weightEntry (some b) = pos (b .weight)
 abbrev pub vertexEntry : Option Peer → ℕ
 vertexEntry none = 0
 vertexEntry (some b) = b .vertex
+
+-- complete_graph.rs, `get_boundary_weight`: the values of its answer: 1 where there is a boundary weight, the virtual vertex and the weight; 0 where there is none.
+abbrev pub boundaryValues : Option Peer → ℕ × ℕ × ℕ
+boundaryValues none = (0, 0, 0)
+boundaryValues (some b) = (1, b .vertex, b .weight)
+
+-- ---- in terms of walks
+
+-- Records, on vertices: x is a vertex, and virtual.
+abbrev pub VirtualVertex : Graph → ℕ → Type 0
+VirtualVertex g x = (x < g .vertices) × (virtual g x ≡ true)
+
+-- complete_graph.rs, `get_boundary_weight`, by Engine, on walks, sentence 1: v is not virtual and u is; some walk from v to u weighs k; no walk from v to a virtual
+-- vertex weighs less, and of the virtual vertices at that weight u has the smallest number.
+pub record NearestVirtual (g : Graph) (w : ℕ → ℕ) (v u k : ℕ) : Type 0 where
+  pub inner : virtual g v ≡ false
+  pub is-virtual : VirtualVertex g u
+  pub some-walk : (s : List ℕ) × Walk g v s u × (sum s w ≡ k)
+  pub no-lighter : (x : ℕ) (s : List ℕ) → VirtualVertex g x → Walk g v s x → k ≤ sum s w
+  pub smallest : (x : ℕ) (s : List ℕ) → VirtualVertex g x → Walk g v s x → sum s w ≡ k → u ≤ x
+
+-- complete_graph.rs, `get_boundary_weight`: v is virtual, or no walk joins it to a virtual vertex.
+abbrev pub NoneVirtual : Graph → ℕ → Type 0
+NoneVirtual g v = (virtual g v ≡ true) ⊎ ((x : ℕ) → VirtualVertex g x → ¬ Joined g v x)

@@ -41,7 +41,7 @@ module _ (h : History) where
   fresh : FreshGraph (h .vertices) (h .edges) (h .handed) (h .fresh)
   fresh = fresh-of (h .vertices) (h .edges) (h .handed) (h .fresh) (h .opened)
 
-  run : (h .answers ≡ numbers (h .calls) (tallyFirst h)) × Agrees (tallyLast h) (h .at-end)
+  pub run : (h .answers ≡ numbers (h .calls) (tallyFirst h)) × Agrees (tallyLast h) (h .at-end)
   run = runs (h .fresh) (h .calls) (h .answers) (h .at-end) (tallyFirst h) (fresh .agrees) (h .called)
 
   agrees : Agrees (tallyLast h) (h .at-end)
@@ -65,7 +65,7 @@ module _ (h : History) where
   tally-weighs : (k : ℕ) → k < h .edges → weightsAtEnd h k ≡ getD (h .at-end .weights) k 0
   tally-weighs k l = weight-at (tallyLast h) (h .at-end) agrees k (omega (arith, edges-kept, l))
 
-  abbrev found : Option ℕ
+  abbrev pub found : Option ℕ
   found = crossing (graphAtEnd h) (weightsAtEnd h)
 
   least : CrossingAnswer (graphAtEnd h) (weightsAtEnd h) found
@@ -78,13 +78,13 @@ module _ (h : History) where
     number : replyNumber (c .reply) ≡ tallyCrossingRefusal (lengthsOf (h .at-end)) (c .own) (tallyLast h)
     number = crossing-number (tallyLast h) (h .at-end) agrees (c .own) (c .reply) (c .column₀) (c .column) step
 
-    abbrev Reports : Type 0
+    abbrev pub Reports : Type 0
     Reports = (W : ℕ) × (found ≡ some W) × (c .reply ≡ Crossed W) × (c .column ≡ over (leastFromLeft (graphAtEnd h) (weightsAtEnd h)) (c .column₀))
 
-    reports : replyNumber (c .reply) ≡ 0 → Reports
+    pub reports : replyNumber (c .reply) ≡ 0 → Reports
     reports = accepted-of (tallyLast h) (h .at-end) agrees (c .own) (c .reply) (c .column₀) (c .column) step
 
-    accepted : refusedBefore h c ≡ 0 → (W : ℕ) → found ≡ some W → replyNumber (c .reply) ≡ 0
+    pub accepted : refusedBefore h c ≡ 0 → (W : ℕ) → found ≡ some W → replyNumber (c .reply) ≡ 0
     accepted = accepted-when (tallyLast h) (h .at-end) agrees (c .own) (c .reply) (c .column₀) (c .column) step
 
     at : replyNumber (c .reply) ≡ 0 → (v : ℕ) → v < h .vertices → weightIn (c .column) v ≡ weightIn (leastFromLeft (graphAtEnd h) (weightsAtEnd h)) v

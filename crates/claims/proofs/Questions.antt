@@ -31,7 +31,7 @@ use Rattle.claims.specs.QueriesCalled.{PathColumns}
 use Rattle.claims.specs.Met.{EndWithin, TableMet, PathMet, CrossingMet, ColumnsInRange}
 
 -- 6, 7 and 13 met: the number is that of the later questions
-query-met : (e : Engine) (fits inRange : Bool) (next : ℕ) → engineLong 0 e ≡ true → fits ≡ true → engineSound e ≡ true → inRange ≡ true → queryRefusal e fits inRange next ≡ next
+pub query-met : (e : Engine) (fits inRange : Bool) (next : ℕ) → engineLong 0 e ≡ true → fits ≡ true → engineSound e ≡ true → inRange ≡ true → queryRefusal e fits inRange next ≡ next
 query-met e fits inRange next p q r s = λ i. ask (both-and p q i) 6 (ask (r i) 7 (ask (s i) 13 next))
 
 -- ---- a table

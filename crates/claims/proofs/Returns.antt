@@ -4,7 +4,7 @@ use mathlib.Core.Path.{_≡_, refl, sym, ap, _∙_, subst}
 use mathlib.Core.Logic.{_↔_}
 use mathlib.Core.Bool.{Bool, true, false, cond}
 use mathlib.Core.List.{List, [], _∷_, _++_}
-use Prim.Native.Nat.{ℕ, zero, suc, _+_}
+use Prim.Native.Nat.{ℕ, _+_}
 use native.Mathlib.Omega.{arith}
 use lib.ListN.{length, take, drop}
 use lib.Seq.{drop-at}
@@ -41,7 +41,7 @@ use Rattle.query_questions.specs.Queries.{graphIn, weightsIn}
 use Rattle.query_questions.specs.Scratch.{ScratchColumns, scratchOf, scratchFits, isFree, SearchAfter, ScratchAfter}
 use Rattle.query_crossing_answer.specs.declared.CrossingReply.{CrossingReply}
 use Rattle.query_crossing_answer.specs.declared.CrossingReply.the-variants as reply
-use Rattle.query_crossing_answer.specs.Crossing.{crossingSaid, replyNumber, weightFound, crossingRefusal, FoundCrossing}
+use Rattle.query_crossing_answer.specs.Crossing.{crossingSaid, replyNumber, weightFound, crossingRefusal}
 use Rattle.engine_calls.proofs.open.Kinds as open-kinds
 use Rattle.engine_calls.proofs.load_erasures.Kinds as erasures-kinds
 use Rattle.engine_calls.proofs.load_dynamic_weights.Kinds as weights-kinds

@@ -2,8 +2,6 @@
 pub mod Listed
 pub mod Called
 pub mod Demand3
--- Starred: document 01's checked examples with a star.
-pub mod Starred
 -- QueriesCalled: calls of the queries. Met: their questions 6, 7, 13 and 16. Queries: what their answers and columns say of walks and edge sets.
 pub mod QueriesCalled
 pub mod Met

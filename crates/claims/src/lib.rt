@@ -1,17 +1,11 @@
 // What is claimed of several sections together. Each claim is the contract of a function with nothing to do.
 ghost use Rattle.claims.specs.Demand3.{Demand3};
-ghost use Rattle.claims.specs.Starred.{StarredExamples};
 ghost use Rattle.claims.specs.Met.{ColumnsInRange};
 ghost use Rattle.claims.specs.Queries.{AllEdgesIsLeast, GetPathIsLeast, CrossingCallIsLeast};
 
 // The customer's demand 3, for every list of load-erasures, load-weights, reset and crossing calls on a freshly opened graph.
 pub fn demand_3()
     ensures { λ _. ⌜ Demand3 ⌝ }
-{}
-
-// Document 01's checked examples with a star, as one statement about the definitions.
-pub fn starred_examples()
-    ensures { λ _. ⌜ StarredExamples ⌝ }
 {}
 
 // Questions 6 and 7 met: ends are vertices, boundary bytes are 0, 1 or 2, weights are within their limit.

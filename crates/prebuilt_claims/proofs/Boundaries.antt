@@ -1,6 +1,6 @@
 -- Boundary weights are the lightest walks to virtual vertices: the loop finds the first of the least in the table, and the table holds least weights. Assumes nothing.
 use mathlib.Core.Path.{_≡_, refl, sym, ap, _∙_, subst}
-use mathlib.Core.Logic.{_⊎_, inl, inr, _↔_}
+use mathlib.Core.Logic.{inl, inr, _↔_}
 use mathlib.Core.Bool.{Bool, true, false, cond, _&&_}
 use mathlib.Core.List.{List}
 use mathlib.Core.Option.{Option, some, none}
@@ -9,13 +9,13 @@ use native.Mathlib.Omega.{arith}
 use lib.IntN.{ℤ, pos, negsuc}
 use Rattle.columns.proofs.Tests.{and-both, both-and}
 use Rattle.engine_walks.specs.Lists.{sum}
-use Rattle.engine_walks.specs.Graph.{Graph, GraphInRange, Walk, LeastWeight}
+use Rattle.engine_walks.specs.Graph.{Graph, GraphInRange, Walk}
 use Rattle.engine_walks.specs.Answers.{weightIn, table}
 use Rattle.engine_walks.specs.Claims.{Row, IsTable}
 use Rattle.engine_walks.proofs.FirstLeast.{IsFirst, first-least}
 use Rattle.engine_walks.proofs.TableAndPath.{table-is-least}
 use Rattle.prebuilt_entries.specs.Nearest.{isReached, amount, nearestIn}
-use Rattle.prebuilt_claims.specs.Prebuilt.{virtual, Peer, getBoundaryWeight, weightEntry, vertexEntry, boundaryValues, VirtualVertex, NearestVirtual, NoneVirtual}
+use Rattle.prebuilt_claims.specs.Prebuilt.{virtual, Peer, getBoundaryWeight, weightEntry, vertexEntry, boundaryValues, NearestVirtual, NoneVirtual}
 use Rattle.prebuilt_claims.proofs.Scans.{peerOf, scanned}
 
 module _ (g : Graph) (w : ℕ → ℕ) (v : ℕ) where

@@ -5,7 +5,7 @@ use mathlib.Core.List.{List, [], _∷_, map}
 use mathlib.Core.Option.{Option, some}
 use Prim.Native.Nat.{ℕ, zero, suc, _≤_}
 use native.Mathlib.Omega.{arith}
-use lib.ListN.{length, getD, take, replicate, getD-replicate, length-replicate}
+use lib.ListN.{length, take, replicate, getD-replicate, length-replicate}
 use lib.Dec.{leb}
 use lib.Ieee.{Float, toBits, ofBits, lt, eq}
 use borrow.Author.Tests.{leb-true, le-leb}
@@ -14,8 +14,8 @@ use Rattle.columns.specs.Lists.{each, joined, layered}
 use Rattle.columns.specs.Places.{zeroFloat}
 use Rattle.columns.specs.Questions.{ask, all, every}
 use Rattle.columns.proofs.Tests.{and-both, both-and}
-use Rattle.codes_writers.specs.Edges.{straightEdges, straightRows, firsts, seconds, boundaries}
-use Rattle.codes_planar.specs.Planar.{rowEdges, planarRow, planarLayer, planarGap, planarBoundary, capacityVertex}
+use Rattle.codes_writers.specs.Edges.{straightEdges, straightRows}
+use Rattle.codes_planar.specs.Planar.{rowEdges, planarRow, planarLayer, planarGap}
 use Rattle.codes_circuit.specs.Circuit.{circuitCell, circuitRow, circuitGap}
 use Rattle.codes_rotated.specs.Rotated.{rotatedPlace, rotatedEdge, rotatedRow, rotatedLayer, rotatedGap, rotatedBoundary, rotatedVertex}
 use Rattle.codes_layers.specs.Codes.{rows, width, layerEdges, gapEdges, edgesOf, vertexOf, layerVertices, verticesOf}
@@ -36,16 +36,19 @@ use Rattle.engine_columns.specs.Questions.{columnsLong, engineLong, columnsSoun
 use Rattle.engine_walks.specs.Settling as S
 use Rattle.engine_walks.specs.Settling.{firstLeast, start, changes, byStatus, offer, relaxEdge, relax, stopped, next, settle}
 use Rattle.engine_walks.specs.Answers.{readBack, stepInto, pathIn, path, fromLeft, nearestRight, crossing}
-use Rattle.engine_walks.specs.Graph.{Graph}
 use Rattle.weights_recipe.specs.Logarithm.{edgeWeight}
 use Rattle.engine_columns.specs.Records.{Engine, engine, counts}
 use Rattle.engine_columns.specs.Calls.{loadErasures, loadWeights, reset}
-use Rattle.engine_columns.specs.Open.{GraphColumns, graphColumns}
-use Rattle.engine_tally.specs.Tally.{Tally, Fed, tallyOf, tallyAfter}
+use Rattle.engine_columns.specs.Open.{GraphColumns}
+use Rattle.engine_tally.specs.Tally.{Fed, tallyOf, tallyAfter}
 use Rattle.query_questions.specs.Queries as Q
 use Rattle.query_paths.specs.GetPath.{pathAsked, pathRefusal}
 use Rattle.claims.specs.Listed.{tallyGraph, tallyWeights}
-use Rattle.claims.specs.Starred.{StarredExamples, listingGraph, fed, crossingAfter, listingEngine}
+use Rattle.codes_layers.proofs.Counted.{vertices-counted, edges-counted}
+use Rattle.claims_examples.proofs.Graph.{written, columns, by-parts, crossing-2000, crossing-3000, crossing-3, path-3000}
+use Rattle.claims_examples.proofs.Builders.{builders-refuse, planar-65, rounds-341, even-d, listing-built, computed-ones}
+use Rattle.claims_examples.proofs.OnListing.{path-called, path-refused, erased-called, reset-called, ones-called}
+use Rattle.claims_examples.specs.Starred.{StarredExamples, fed, crossingAfter, listingEngine}
 
 same-map : (n : ℕ) (f : Float → ℕ) (x : Float) → f x ≡ 1 → map f (replicate n x) ≡ replicate n 1
 same-map zero f x e = refl
@@ -81,50 +84,10 @@ even : (kind rounds : ℕ) → kindKnown kind ≡ true → CountsVertices kind 4
 unfolding codeRefusal distanceSound
 even kind rounds h = refuses-of (rw h) (λ e. absurd (omega arith))
 
--- ---- the listing's graph, written out
-
-abbrev graph : Graph
-graph = record { vertices = 4; endsA = 0 ∷ 1 ∷ 0 ∷ []; endsB = 1 ∷ 2 ∷ 3 ∷ []; boundary = 0 ∷ 0 ∷ 2 ∷ 1 ∷ [] }
-
-abbrev weigh : List ℕ → ℕ → ℕ
-weigh ws k = getD ws k 0
-
-ends-a : firsts (edgesOf 1 3 0) ≡ 0 ∷ 1 ∷ 0 ∷ []
-unfolding edgesOf layered each joined rows width layerEdges gapEdges straightRows straightEdges rowEdges planarLayer planarRow planarGap
-ends-a = refl
-
-ends-b : seconds (edgesOf 1 3 0) ≡ 1 ∷ 2 ∷ 3 ∷ []
-unfolding edgesOf layered each joined rows width layerEdges gapEdges straightRows straightEdges rowEdges planarLayer planarRow planarGap
-ends-b = refl
-
-bytes : boundaries (verticesOf 1 3 0) ≡ 0 ∷ 0 ∷ 2 ∷ 1 ∷ []
-unfolding verticesOf layered each joined rows width layerVertices vertexOf capacityVertex planarBoundary
-bytes = refl
-
-columns : listingGraph ≡ graphColumns (0 ∷ 1 ∷ 0 ∷ []) (1 ∷ 2 ∷ 3 ∷ []) (1000 ∷ 1000 ∷ 1000 ∷ []) (0 ∷ 0 ∷ 2 ∷ 1 ∷ [])
-columns = λ i. graphColumns (ends-a i) (ends-b i) (1000 ∷ 1000 ∷ 1000 ∷ []) (bytes i)
-
-abbrev written : GraphColumns
-written = graphColumns (0 ∷ 1 ∷ 0 ∷ []) (1 ∷ 2 ∷ 3 ∷ []) (1000 ∷ 1000 ∷ 1000 ∷ []) (0 ∷ 0 ∷ 2 ∷ 1 ∷ [])
+-- ---- the crossing weights by the tally
 
 abbrev crossingOf : List Fed → GraphColumns → Option ℕ
 crossingOf fs c = crossing (tallyGraph (tallyAfter fs (tallyOf 4 3 c))) (tallyWeights (tallyAfter fs (tallyOf 4 3 c)))
-
--- the crossing weight from the tally's graph and weights, written out
-by-parts : (t : Tally) (ws : List ℕ) (w : ℕ) → tallyGraph t ≡ graph → t .weights ≡ ws → crossing graph (weigh ws) ≡ some w → crossing (tallyGraph t) (tallyWeights t) ≡ some w
-by-parts t ws w p q r = (λ i. crossing (p i) (weigh (q i))) ∙ r
-
-crossing-2000 : crossing graph (weigh (1000 ∷ 0 ∷ 1000 ∷ [])) ≡ some 2000
-unfolding each firstLeast start changes byStatus offer relaxEdge relax S.takeVertex stopped next settle fromLeft nearestRight crossing
-crossing-2000 = refl
-
-crossing-3000 : crossing graph (weigh (1000 ∷ 1000 ∷ 1000 ∷ [])) ≡ some 3000
-unfolding each firstLeast start changes byStatus offer relaxEdge relax S.takeVertex stopped next settle fromLeft nearestRight crossing
-crossing-3000 = refl
-
-crossing-3 : crossing graph (weigh (1 ∷ 1 ∷ 1 ∷ [])) ≡ some 3
-unfolding each firstLeast start changes byStatus offer relaxEdge relax S.takeVertex stopped next settle fromLeft nearestRight crossing
-crossing-3 = refl
 
 erased-2000 : crossingAfter (fed (loadErasures (1 ∷ [])) ∷ []) ≡ some 2000
 unfolding all threeLong
@@ -158,6 +121,24 @@ sixteen : pathRefusal (pathAsked listingEngine true 2 2 4 4) (path (Q.graphIn li
 sixteen = (λ i. pathRefusal (pathAsked (engineOf (columns i)) true 2 2 4 4) (path (Q.graphIn listingEngine) (Q.weightsIn listingEngine) 2 2))
     ∙ (λ i. pathRefusal (refusal-16 i) (path (Q.graphIn listingEngine) (Q.weightsIn listingEngine) 2 2))
 
+-- ---- counts by the lists
+
+pub lists-24-41 : (length (verticesOf 4 3 1) ≡ 24) × (length (edgesOf 4 3 1) ≡ 41)
+unfolding layerVertexNum layerEdgeNum gapEdgeNum
+lists-24-41 = (vertices-counted 4 3 (omega arith) 1, edges-counted 4 3 (omega arith) 1)
+
+pub lists-16-26 : (length (verticesOf 6 3 1) ≡ 16) × (length (edgesOf 6 3 1) ≡ 26)
+unfolding layerVertexNum layerEdgeNum gapEdgeNum
+lists-16-26 = (vertices-counted 6 3 (omega arith) 1, edges-counted 6 3 (omega arith) 1)
+
+pub list-4032 : length (verticesOf 2 63 0) ≡ 4032
+unfolding layerVertexNum
+list-4032 = vertices-counted 2 63 (omega arith) 0
+
+pub list-4092 : length (verticesOf 3 3 340) ≡ 4092
+unfolding layerVertexNum
+list-4092 = vertices-counted 3 3 (omega arith) 340
+
 pub starred : StarredExamples
 unfolding edgesOf layered each joined rows width layerEdges gapEdges rotatedLayer rotatedRow rotatedEdge rotatedPlace rotatedGap straightRows straightEdges rowEdges planarLayer planarRow planarGap circuitGap circuitRow circuitCell verticesOf layerVertices vertexOf rotatedVertex rotatedBoundary layerVertexNum layerEdgeNum gapEdgeNum kindKnown distanceSound roundsSound codeRefusal all every endsDiffer pairsApart endsInRange graphSound logSound threeLong columnsLong engineLong columnsSound engineSound firstLeast start changes byStatus offer relaxEdge relax S.takeVertex stopped next settle readBack stepInto pathIn path fromLeft nearestRight crossing
 starred = record {
@@ -167,17 +148,32 @@ starred = record {
   kind-4-edges = accepts-of refl;
   kind-6-vertices = accepts-of refl;
   kind-6-edges = accepts-of refl;
+  kind-4-lists = lists-24-41;
+  kind-6-lists = lists-16-26;
   kind-2-d-63 = accepts-of refl;
   kind-2-d-65 = refuses-of refl (λ e. absurd (omega arith));
+  kind-2-d-63-list = list-4032;
+  kind-2-d-65-built = builders-refuse 2 65 0 5 planar-65 (λ z. omega arith);
   kind-3-rounds-340 = accepts-of refl;
   kind-3-rounds-341 = refuses-of refl (λ e. absurd (omega arith));
+  kind-3-rounds-340-list = list-4092;
+  kind-3-rounds-341-built = builders-refuse 3 3 341 5 rounds-341 (λ z. omega arith);
   d-4 = even;
-  path-3-2 = refl;
+  d-4-built = λ kind rounds h. builders-refuse kind 4 rounds 3 (even-d kind rounds h) (λ z. omega arith);
+  listing-built = listing-built;
+  path-3-2 = path-3000;
   path-3-2-asked = asked-0;
+  path-3-2-called = path-called;
   edge-1-erased = erased-2000;
+  edge-1-erased-called = erased-called;
   then-reset = reset-3000;
+  then-reset-called = reset-called;
   every-weight-1 = ones-3;
+  every-weight-1-called = ones-called;
   every-p-0 = zeros;
   every-p-0-asked = zeros-asked;
+  every-p-0-computed = λ max n column₀ column r h one few long c. computed-ones max n column₀ column r (zeros-asked max n column₀ h one few long)
+      (take-all n (replicate n zeroFloat) (omega (arith, length-replicate n zeroFloat))) (zeros max n h) c;
   path-2-2 = sixteen;
+  path-2-2-called = path-refused;
 }

@@ -1,0 +1,117 @@
+-- Builders that refuse, half weights of every p 0, and the listing's graph from `new`, the logarithm computed. Assumes nothing.
+use mathlib.Core.Path.{_≡_, refl, sym, ap, _∙_}
+use mathlib.Core.Logic.{_≢_}
+use mathlib.Core.Bool.{true}
+use mathlib.Core.List.{List, [], _∷_}
+use Prim.Native.Nat.{ℕ}
+use lib.ListN.{length, take, replicate}
+use lib.Ieee.{ofBits, toBits, div, sub, mul, add, lt, eq, le, ofInt}
+use Rattle.columns.specs.Lists.{each, joined, layered, over}
+use Rattle.columns.specs.Places.{zeroFloat}
+use Rattle.columns.specs.Questions.{ask}
+use Rattle.columns.specs.declared.Done.{Done}
+use Rattle.columns.proofs.Columns.{take-over, after-accepted, after-refused}
+use Rattle.columns_answers.specs.Said.{Answered, accepts}
+use Rattle.columns_answers.specs.Done.{doneSaid}
+use Rattle.codes_writers.specs.Edges.{straightEdges, straightRows, firsts, seconds, boundaries}
+use Rattle.codes_planar.specs.Planar.{rowEdges, planarRow, planarLayer, planarGap, capacityVertex}
+use Rattle.codes_layers.specs.Codes.{rows, width, layerEdges, gapEdges, edgesOf, vertexOf, layerVertices, verticesOf}
+use Rattle.codes_layers.specs.Counts.{layerVertexNum, layerEdgeNum, gapEdgeNum}
+use Rattle.codes_layers.specs.Accepts.{kindKnown, distanceSound, roundsSound, codeRefusal}
+use Rattle.weights_recipe.specs.Logarithm.{halve, series, logarithm, edgeWeight}
+use Rattle.weights_recipe.specs.Rounding.{scaled, reaches, seek, greatest, halfWeight}
+use Rattle.weights_recipe.specs.Probabilities.{isProbability}
+use Rattle.weights_calls.specs.Calls.{halfWeights, computeRefusal, largest, someAbove, ComputedWeights}
+use Rattle.codes_calls.specs.declared.Created.{Created}
+use Rattle.codes_calls.specs.Columns.{CodeColumns, vertexRoom, edgeRoom, longEnough, HandedBack}
+use Rattle.codes_calls.specs.CreateCode.{createdSaid, createRefusal}
+use Rattle.codes_calls.specs.NewCode.{newRefusal, newRefusalIn, NewCode}
+use Rattle.codes_calls.specs.Probabilities.{probabilities, diagonalOf}
+use Rattle.access_vertices.specs.Weights.{weights as doubled}
+use Rattle.engine_columns.specs.Open.{graphColumns}
+use Rattle.claims_examples.specs.Starred.{RefusedBy, BuildersRefuse, listingP, graphOfCode, listingGraph}
+use Rattle.claims_examples.proofs.Answers.{said-accepts, said-refuses}
+
+-- ---- refusals
+
+kept : (q : ℕ) (new c₀ c : CodeColumns) → q ≢ 0 → HandedBack q new c₀ c → c ≡ c₀
+kept q new c₀ c f h = λ i. record {
+  endsA = (h .endsA-after ∙ after-refused q (new .endsA) (c₀ .endsA) f) i;
+  endsB = (h .endsB-after ∙ after-refused q (new .endsB) (c₀ .endsB) f) i;
+  p = (h .p-after ∙ after-refused q (new .p) (c₀ .p) f) i;
+  pe = (h .pe-after ∙ after-refused q (new .pe) (c₀ .pe) f) i;
+  halfWeight = (h .halfWeight-after ∙ after-refused q (new .halfWeight) (c₀ .halfWeight) f) i;
+  erasure = (h .erasure-after ∙ after-refused q (new .erasure) (c₀ .erasure) f) i;
+  posI = (h .posI-after ∙ after-refused q (new .posI) (c₀ .posI) f) i;
+  posJ = (h .posJ-after ∙ after-refused q (new .posJ) (c₀ .posJ) f) i;
+  posT = (h .posT-after ∙ after-refused q (new .posT) (c₀ .posT) f) i;
+  boundary = (h .boundary-after ∙ after-refused q (new .boundary) (c₀ .boundary) f) i;
+  defect = (h .defect-after ∙ after-refused q (new .defect) (c₀ .defect) f) i;
+  listLengths = (h .listLengths-after ∙ after-refused q (new .listLengths) (c₀ .listLengths) f) i;
+  neighborNumbers = (h .neighborNumbers-after ∙ after-refused q (new .neighborNumbers) (c₀ .neighborNumbers) f) i;
+}
+
+refused-by : (n q : ℕ) (v : ℕ × ℕ) (new c₀ c : CodeColumns) (r : Created) → Answered (createdSaid r) q v (0, 0) → HandedBack q new c₀ c → q ≡ n → n ≢ 0 → RefusedBy n c₀ c r
+refused-by n q v new c₀ c r a h e f = (said-refuses n a e f, kept q new c₀ c (λ z. f (sym e ∙ z)) h)
+
+-- a number of questions 2 to 5 refuses both calls, whatever the later questions say
+pub builders-refuse : (kind d rounds n : ℕ) → ((later : ℕ) → codeRefusal kind d rounds later ≡ n) → n ≢ 0 → BuildersRefuse kind d rounds n
+unfolding createRefusal newRefusal
+builders-refuse kind d rounds n e f = record {
+  create = λ c₀ c r h. refused-by n _ _ _ c₀ c r (h .answers) (h .columns-after) (e _) f;
+  new = λ p max c₀ c r h. refused-by n _ _ _ c₀ c r (h .answers) (h .columns-after) (e _) f;
+}
+
+pub planar-65 : (later : ℕ) → codeRefusal 2 65 0 later ≡ 5
+unfolding codeRefusal kindKnown distanceSound roundsSound layerVertexNum
+planar-65 later = refl
+
+pub rounds-341 : (later : ℕ) → codeRefusal 3 3 341 later ≡ 5
+unfolding codeRefusal kindKnown distanceSound roundsSound layerVertexNum
+rounds-341 later = refl
+
+pub even-d : (kind rounds : ℕ) → kindKnown kind ≡ true → (later : ℕ) → codeRefusal kind 4 rounds later ≡ 3
+unfolding codeRefusal distanceSound
+even-d kind rounds h later = rw h
+
+-- ---- the listing's graph
+
+half-weights : halfWeights 500 (probabilities 1 3 0 listingP (diagonalOf 1 listingP)) ≡ 500 ∷ 500 ∷ 500 ∷ []
+unfolding div sub add mul lt eq le ofInt ofBits halve series logarithm edgeWeight scaled reaches seek greatest halfWeight largest probabilities each joined layered straightEdges straightRows rowEdges planarRow planarLayer planarGap rows width layerEdges gapEdges edgesOf
+half-weights = refl
+
+new-accepted : (c₀ : CodeColumns) → longEnough 4 3 (vertexRoom c₀) (edgeRoom c₀) (length (c₀ .neighborNumbers)) ≡ true → newRefusalIn 1 3 0 listingP (diagonalOf 1 listingP) 500 c₀ ≡ 0
+unfolding newRefusal codeRefusal kindKnown distanceSound roundsSound layerVertexNum layerEdgeNum gapEdgeNum isProbability someAbove div sub add mul lt eq le ofInt ofBits toBits halve series logarithm edgeWeight probabilities each joined layered straightEdges straightRows rowEdges planarRow planarLayer planarGap rows width layerEdges gapEdges edgesOf
+new-accepted c₀ long = λ i. ask (long i) 6 0
+
+three-edges : (length (firsts (edgesOf 1 3 0)) ≡ 3) × (length (seconds (edgesOf 1 3 0)) ≡ 3) × (length (boundaries (verticesOf 1 3 0)) ≡ 4)
+unfolding each joined layered straightEdges straightRows rowEdges planarRow planarLayer planarGap rows width layerEdges gapEdges edgesOf verticesOf layerVertices vertexOf capacityVertex
+three-edges = (refl, refl, refl)
+
+twice : (column : List ℕ) → doubled 3 (over (500 ∷ 500 ∷ 500 ∷ []) column) ≡ 1000 ∷ 1000 ∷ 1000 ∷ []
+unfolding doubled each
+twice column = refl
+
+pub listing-built : (c₀ c : CodeColumns) (r : Created) → NewCode 1 3 0 listingP 500 c₀ c r → longEnough 4 3 (vertexRoom c₀) (edgeRoom c₀) (length (c₀ .neighborNumbers)) ≡ true
+    → (createdSaid r ≡ accepts (4, 3)) × (graphOfCode c ≡ listingGraph)
+unfolding layerVertexNum layerEdgeNum gapEdgeNum
+listing-built c₀ c r h long =
+    let q = newRefusalIn 1 3 0 listingP (diagonalOf 1 listingP) 500 c₀ in
+    let z : q ≡ 0 = new-accepted c₀ long in
+    let k = h .columns-after in
+    let a : take 3 (c .endsA) ≡ firsts (edgesOf 1 3 0) = ap (take 3) (k .endsA-after ∙ after-accepted q (firsts (edgesOf 1 3 0)) (c₀ .endsA) z) ∙ take-over (firsts (edgesOf 1 3 0)) (c₀ .endsA) 3 (three-edges .0) in
+    let b : take 3 (c .endsB) ≡ seconds (edgesOf 1 3 0) = ap (take 3) (k .endsB-after ∙ after-accepted q (seconds (edgesOf 1 3 0)) (c₀ .endsB) z) ∙ take-over (seconds (edgesOf 1 3 0)) (c₀ .endsB) 3 (three-edges .1) in
+    let m : take 4 (c .boundary) ≡ boundaries (verticesOf 1 3 0) = ap (take 4) (k .boundary-after ∙ after-accepted q (boundaries (verticesOf 1 3 0)) (c₀ .boundary) z) ∙ take-over (boundaries (verticesOf 1 3 0)) (c₀ .boundary) 4 (three-edges .2) in
+    let w : doubled 3 (c .halfWeight) ≡ 1000 ∷ 1000 ∷ 1000 ∷ [] =
+    ap (doubled 3) (k .halfWeight-after ∙ after-accepted q (halfWeights 500 (probabilities 1 3 0 listingP (diagonalOf 1 listingP))) (c₀ .halfWeight) z ∙ ap (λ x. over x (c₀ .halfWeight)) half-weights) ∙ twice (c₀ .halfWeight) in
+    (said-accepts (h .answers) z, λ i. graphColumns (a i) (b i) (w i) (m i))
+
+-- ---- every p 0
+
+pub computed-ones : (max n : ℕ) (column₀ column : List ℕ) (r : Done) → computeRefusal n (replicate n zeroFloat) column₀ max ≡ 0 → take n (replicate n zeroFloat) ≡ replicate n zeroFloat
+    → halfWeights max (replicate n zeroFloat) ≡ replicate n 1
+    → ComputedWeights n (replicate n zeroFloat) column₀ max column r → (doneSaid r ≡ accepts tt) × (column ≡ over (replicate n 1) column₀)
+computed-ones max n column₀ column r z t e c = (
+  said-accepts (c .answers) z,
+  c .column-after ∙ after-accepted _ (halfWeights max (take n (replicate n zeroFloat))) column₀ z ∙ ap (λ x. over x column₀) (ap (halfWeights max) t ∙ e),
+)

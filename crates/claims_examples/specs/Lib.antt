@@ -1,0 +1,3 @@
+-- Starred: document 01's checked examples with a star. Listing: the text that `codelist` prints for the example line.
+pub mod Starred
+pub mod Listing

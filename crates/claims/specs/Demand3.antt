@@ -88,9 +88,9 @@ pub record OneHistory : Type 0 where
 
 -- Demand 3 as one claim (Engine, Tally, sentence 1). The quoted words are the demand's where no section is named.
 pub record Demand3 : Type 0 where
-  -- "This holds after every list of load-erasures, load-weights, reset and crossing calls on a freshly opened graph, refused calls included." Every open, load, reset and
-  -- crossing returns, on any columns: there is an answer, and columns at exit, with what its callers learn. So every list of calls on a freshly opened graph has its
-  -- answers and an engine at its end, and is that of a `History`; one is written out.
+  -- "This holds after every list of load-erasures, load-weights, reset and crossing calls on a freshly opened graph, refused calls included." For every open, load, reset
+  -- and crossing, on any columns, there is an answer, with columns at exit, that its contract permits; that a call ends is part of each function's proof. So every list of
+  -- calls on a freshly opened graph has answers and an engine at its end, as `History` has them; one is written out.
   pub open-returns : (vertices edges : ℕ) (handed lent₀ : GraphColumns) → (r : EngineAnswer) × (lent : GraphColumns) × OpenReturned vertices edges handed lent₀ r lent
   pub modifying-returns : (call : Call) (e₀ : Engine) → (r : EngineAnswer) × (e : Engine) × Called call e₀ r e
   pub crossing-returns : (e : Engine) (weights₀ : List ℤ) (scratch₀ : ScratchColumns)

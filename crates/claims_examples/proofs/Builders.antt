@@ -5,7 +5,7 @@ use mathlib.Core.Bool.{true}
 use mathlib.Core.List.{List, [], _∷_}
 use Prim.Native.Nat.{ℕ}
 use lib.ListN.{length, take, replicate}
-use lib.Ieee.{ofBits, toBits, div, sub, mul, add, lt, eq, le, ofInt}
+use lib.Ieee.{Float, ofBits, toBits, div, sub, mul, add, lt, eq, le, ofInt}
 use Rattle.columns.specs.Lists.{each, joined, layered, over}
 use Rattle.columns.specs.Places.{zeroFloat}
 use Rattle.columns.specs.Questions.{ask}
@@ -24,11 +24,12 @@ use Rattle.weights_recipe.specs.Probabilities.{isProbability}
 use Rattle.weights_calls.specs.Calls.{halfWeights, computeRefusal, largest, someAbove, ComputedWeights}
 use Rattle.codes_calls.specs.declared.Created.{Created}
 use Rattle.codes_calls.specs.Columns.{CodeColumns, vertexRoom, edgeRoom, longEnough, HandedBack}
-use Rattle.codes_calls.specs.CreateCode.{createdSaid, createRefusal}
+use Rattle.codes_calls.specs.CreateCode.{createdSaid, createRefusal, CreateCode}
 use Rattle.codes_calls.specs.NewCode.{newRefusal, newRefusalIn, NewCode}
 use Rattle.codes_calls.specs.Probabilities.{probabilities, diagonalOf}
 use Rattle.access_vertices.specs.Weights.{weights as doubled}
 use Rattle.engine_columns.specs.Open.{graphColumns}
+use Rattle.claims_examples.specs.Called.{CreateReturned, create-returned, NewReturned, new-returned, ComputeReturned, compute-returned}
 use Rattle.claims_examples.specs.Starred.{RefusedBy, BuildersRefuse, listingP, graphOfCode, listingGraph}
 use Rattle.claims_examples.proofs.Answers.{said-accepts, said-refuses}
 
@@ -54,12 +55,21 @@ kept q new c₀ c f h = λ i. record {
 refused-by : (n q : ℕ) (v : ℕ × ℕ) (new c₀ c : CodeColumns) (r : Created) → Answered (createdSaid r) q v (0, 0) → HandedBack q new c₀ c → q ≡ n → n ≢ 0 → RefusedBy n c₀ c r
 refused-by n q v new c₀ c r a h e f = (said-refuses n a e f, kept q new c₀ c (λ z. f (sym e ∙ z)) h)
 
+created-of : (kind d rounds : ℕ) (c₀ c : CodeColumns) (r : Created) → CreateReturned kind d rounds c₀ c r → CreateCode kind d rounds c₀ c r
+created-of kind d rounds c₀ c r (create-returned κs a q s h) = h
+
+new-of : (kind d rounds : ℕ) (p : Float) (max : ℕ) (c₀ c : CodeColumns) (r : Created) → NewReturned kind d rounds p max c₀ c r → NewCode kind d rounds p max c₀ c r
+new-of kind d rounds p max c₀ c r (new-returned κs a q s h) = h
+
+computed-of : (n : ℕ) (p : List Float) (max : ℕ) (column₀ column : List ℕ) (r : Done) → ComputeReturned n p max column₀ column r → ComputedWeights n p column₀ max column r
+computed-of n p max column₀ column r (compute-returned κs a q s h) = h
+
 -- a number of questions 2 to 5 refuses both calls, whatever the later questions say
 pub builders-refuse : (kind d rounds n : ℕ) → ((later : ℕ) → codeRefusal kind d rounds later ≡ n) → n ≢ 0 → BuildersRefuse kind d rounds n
 unfolding createRefusal newRefusal
 builders-refuse kind d rounds n e f = record {
-  create = λ c₀ c r h. refused-by n _ _ _ c₀ c r (h .answers) (h .columns-after) (e _) f;
-  new = λ p max c₀ c r h. refused-by n _ _ _ c₀ c r (h .answers) (h .columns-after) (e _) f;
+  create = λ c₀ c r x. let h = created-of kind d rounds c₀ c r x in refused-by n _ _ _ c₀ c r (h .answers) (h .columns-after) (e _) f;
+  new = λ p max c₀ c r x. let h = new-of kind d rounds p max c₀ c r x in refused-by n _ _ _ c₀ c r (h .answers) (h .columns-after) (e _) f;
 }
 
 pub planar-65 : (later : ℕ) → codeRefusal 2 65 0 later ≡ 5
@@ -92,10 +102,11 @@ twice : (column : List ℕ) → doubled 3 (over (500 ∷ 500 ∷ 500 ∷ []) col
 unfolding doubled each
 twice column = refl
 
-pub listing-built : (c₀ c : CodeColumns) (r : Created) → NewCode 1 3 0 listingP 500 c₀ c r → longEnough 4 3 (vertexRoom c₀) (edgeRoom c₀) (length (c₀ .neighborNumbers)) ≡ true
+pub listing-built : (c₀ c : CodeColumns) (r : Created) → NewReturned 1 3 0 listingP 500 c₀ c r → longEnough 4 3 (vertexRoom c₀) (edgeRoom c₀) (length (c₀ .neighborNumbers)) ≡ true
     → (createdSaid r ≡ accepts (4, 3)) × (graphOfCode c ≡ listingGraph)
 unfolding layerVertexNum layerEdgeNum gapEdgeNum
-listing-built c₀ c r h long =
+listing-built c₀ c r x long =
+    let h = new-of 1 3 0 listingP 500 c₀ c r x in
     let q = newRefusalIn 1 3 0 listingP (diagonalOf 1 listingP) 500 c₀ in
     let z : q ≡ 0 = new-accepted c₀ long in
     let k = h .columns-after in
@@ -110,8 +121,7 @@ listing-built c₀ c r h long =
 
 pub computed-ones : (max n : ℕ) (column₀ column : List ℕ) (r : Done) → computeRefusal n (replicate n zeroFloat) column₀ max ≡ 0 → take n (replicate n zeroFloat) ≡ replicate n zeroFloat
     → halfWeights max (replicate n zeroFloat) ≡ replicate n 1
-    → ComputedWeights n (replicate n zeroFloat) column₀ max column r → (doneSaid r ≡ accepts tt) × (column ≡ over (replicate n 1) column₀)
-computed-ones max n column₀ column r z t e c = (
-  said-accepts (c .answers) z,
-  c .column-after ∙ after-accepted _ (halfWeights max (take n (replicate n zeroFloat))) column₀ z ∙ ap (λ x. over x column₀) (ap (halfWeights max) t ∙ e),
-)
+    → ComputeReturned n (replicate n zeroFloat) max column₀ column r → (doneSaid r ≡ accepts tt) × (column ≡ over (replicate n 1) column₀)
+computed-ones max n column₀ column r z t e x =
+    let c = computed-of n (replicate n zeroFloat) max column₀ column r x in
+    (said-accepts (c .answers) z, c .column-after ∙ after-accepted _ (halfWeights max (take n (replicate n zeroFloat))) column₀ z ∙ ap (λ y. over y column₀) (ap (halfWeights max) t ∙ e))

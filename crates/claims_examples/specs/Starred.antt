@@ -17,10 +17,9 @@ use Rattle.codes_questions.specs.declared.Count.the-variants.{Counted, Refused}
 use Rattle.codes_questions.specs.Answers.{CountsVertices, CountsEdges}
 use Rattle.codes_calls.specs.declared.Created.{Created}
 use Rattle.codes_calls.specs.Columns.{CodeColumns, vertexRoom, edgeRoom, longEnough}
-use Rattle.codes_calls.specs.CreateCode.{createdSaid, CreateCode}
-use Rattle.codes_calls.specs.NewCode.{NewCode}
+use Rattle.codes_calls.specs.CreateCode.{createdSaid}
 use Rattle.access_vertices.specs.Weights.{weights as doubled}
-use Rattle.weights_calls.specs.Calls.{isLargestHalfWeight, halfWeights, computeRefusal, ComputedWeights}
+use Rattle.weights_calls.specs.Calls.{isLargestHalfWeight, halfWeights, computeRefusal}
 use Rattle.columns.specs.Limits.{edgeLimit}
 use Rattle.codes_layers.specs.Accepts.{kindKnown}
 use Rattle.engine_columns.specs.Records.{Engine, engine, counts}
@@ -33,6 +32,7 @@ use Rattle.query_questions.specs.Scratch.{ScratchColumns, scratchFits}
 use Rattle.query_crossing_answer.specs.declared.CrossingReply.the-variants.{Crossed}
 use Rattle.query_paths.specs.declared.PathAnswer.{PathAnswer}
 use Rattle.query_paths.specs.GetPath.{foundSaid, pathAsked, pathRefusal}
+use Rattle.claims_examples.specs.Called.{CreateReturned, NewReturned, ComputeReturned}
 use Rattle.claims.specs.Listed.{CallArguments, modifyBy, listedCalls, tallyGraph, tallyWeights}
 use Rattle.claims.specs.QueriesCalled.{PathColumns, PathReturned}
 use Rattle.claims.specs.Called.{OpenCalled}
@@ -70,8 +70,8 @@ RefusedBy q c₀ c r = (createdSaid r ≡ refuses q (0, 0)) × (c ≡ c₀)
 
 -- Six builders; Weights: whatever columns it is lent, and whatever p and M `new` is given, `create_code` and `new` refuse by number q.
 pub record BuildersRefuse (kind d rounds q : ℕ) : Type 0 where
-  pub create : (c₀ c : CodeColumns) (r : Created) → CreateCode kind d rounds c₀ c r → RefusedBy q c₀ c r
-  pub new : (p : Float) (max : ℕ) (c₀ c : CodeColumns) (r : Created) → NewCode kind d rounds p max c₀ c r → RefusedBy q c₀ c r
+  pub create : (c₀ c : CodeColumns) (r : Created) → CreateReturned kind d rounds c₀ c r → RefusedBy q c₀ c r
+  pub new : (p : Float) (max : ℕ) (c₀ c : CodeColumns) (r : Created) → NewReturned kind d rounds p max c₀ c r → RefusedBy q c₀ c r
 
 -- The program codelist: the p of the example line, by its bits.
 abbrev pub listingP : Float
@@ -129,7 +129,7 @@ pub record StarredExamples : Type 0 where
   pub d-4 : (kind rounds : ℕ) → kindKnown kind ≡ true → CountsVertices kind 4 rounds (Refused 3)
   pub d-4-built : (kind rounds : ℕ) → kindKnown kind ≡ true → BuildersRefuse kind 4 rounds 3
   -- "The listing's graph": `new` with the kind, d, rounds, p and M of the example line builds it, wherever the columns lent are long enough.
-  pub listing-built : (c₀ c : CodeColumns) (r : Created) → NewCode 1 3 0 listingP 500 c₀ c r → longEnough 4 3 (vertexRoom c₀) (edgeRoom c₀) (length (c₀ .neighborNumbers)) ≡ true
+  pub listing-built : (c₀ c : CodeColumns) (r : Created) → NewReturned 1 3 0 listingP 500 c₀ c r → longEnough 4 3 (vertexRoom c₀) (edgeRoom c₀) (length (c₀ .neighborNumbers)) ≡ true
       → (createdSaid r ≡ accepts (4, 3)) × (graphOfCode c ≡ listingGraph)
   -- "path 3 to 2 is (0,1000) (1,1000) (2,1000), total 3000;"
   pub path-3-2 : path (tallyGraph (listingAfter [])) (tallyWeights (listingAfter [])) 3 2
@@ -152,7 +152,7 @@ pub record StarredExamples : Type 0 where
   pub every-p-0-asked : (max n : ℕ) (column : List ℕ) → isLargestHalfWeight max ≡ true → 1 ≤ n → n ≤ edgeLimit → n ≤ length column
       → computeRefusal n (replicate n zeroFloat) column max ≡ 0
   pub every-p-0-computed : (max n : ℕ) (column₀ column : List ℕ) (r : Done) → isLargestHalfWeight max ≡ true → 1 ≤ n → n ≤ edgeLimit → n ≤ length column₀
-      → ComputedWeights n (replicate n zeroFloat) column₀ max column r → (doneSaid r ≡ accepts tt) × (column ≡ over (replicate n 1) column₀)
+      → ComputeReturned n (replicate n zeroFloat) max column₀ column r → (doneSaid r ≡ accepts tt) × (column ≡ over (replicate n 1) column₀)
   -- "Path 2 to 2: 16."
   pub path-2-2 : pathRefusal (pathAsked listingEngine true 2 2 4 4) (path (Q.graphIn listingEngine) (Q.weightsIn listingEngine) 2 2) ≡ 16
   pub path-2-2-called : (e : Engine) (r : PathAnswer) (columns₀ columns : PathColumns) (scratch₀ scratch : ScratchColumns) → OpenCalled 4 3 listingGraph e

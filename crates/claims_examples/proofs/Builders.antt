@@ -16,7 +16,7 @@ use Rattle.columns_answers.specs.Done.{doneSaid}
 use Rattle.codes_writers.specs.Edges.{straightEdges, straightRows, firsts, seconds, boundaries}
 use Rattle.codes_planar.specs.Planar.{rowEdges, planarRow, planarLayer, planarGap, capacityVertex}
 use Rattle.codes_layers.specs.Codes.{rows, width, layerEdges, gapEdges, edgesOf, vertexOf, layerVertices, verticesOf}
-use Rattle.codes_layers.specs.Counts.{layerVertexNum, layerEdgeNum, gapEdgeNum}
+use Rattle.codes_layers.specs.Counts.{vertexNum, edgeNum, layerVertexNum, layerEdgeNum, gapEdgeNum}
 use Rattle.codes_layers.specs.Accepts.{kindKnown, distanceSound, roundsSound, codeRefusal}
 use Rattle.weights_recipe.specs.Logarithm.{halve, series, logarithm, edgeWeight}
 use Rattle.weights_recipe.specs.Rounding.{scaled, reaches, seek, greatest, halfWeight}
@@ -30,7 +30,7 @@ use Rattle.codes_calls.specs.Probabilities.{probabilities, diagonalOf}
 use Rattle.access_vertices.specs.Weights.{weights as doubled}
 use Rattle.engine_columns.specs.Open.{graphColumns}
 use Rattle.claims_examples.specs.Called.{CreateReturned, create-returned, NewReturned, new-returned, ComputeReturned, compute-returned}
-use Rattle.claims_examples.specs.Starred.{RefusedBy, BuildersRefuse, listingP, graphOfCode, listingGraph}
+use Rattle.claims_examples.specs.Starred.{RefusedBy, BuildersRefuse, CreateGives, listingP, graphOfCode, listingGraph}
 use Rattle.claims_examples.proofs.Answers.{said-accepts, said-refuses}
 
 -- ---- refusals
@@ -83,6 +83,32 @@ rounds-341 later = refl
 pub even-d : (kind rounds : ℕ) → kindKnown kind ≡ true → (later : ℕ) → codeRefusal kind 4 rounds later ≡ 3
 unfolding codeRefusal distanceSound
 even-d kind rounds h later = rw h
+
+-- ---- counts
+
+-- questions 2 to 5 met, and 6 by the columns' lengths
+gives : (kind d rounds v e : ℕ) → ((later : ℕ) → codeRefusal kind d rounds later ≡ later) → vertexNum kind d rounds ≡ v → edgeNum kind d rounds ≡ e → CreateGives kind d rounds v e
+unfolding createRefusal
+gives kind d rounds v e met same-v same-e c₀ c r x long =
+    let h = created-of kind d rounds c₀ c r x in
+    let z = met _ ∙ (λ i. ask (longEnough (same-v i) (same-e i) (vertexRoom c₀) (edgeRoom c₀) (length (c₀ .neighborNumbers))) 6 0) ∙ (λ i. ask (long i) 6 0) in
+    said-accepts (h .answers) z ∙ (λ i. accepts (same-v i, same-e i))
+
+pub circuit-24-41 : CreateGives 4 3 1 24 41
+unfolding codeRefusal kindKnown distanceSound roundsSound layerVertexNum layerEdgeNum gapEdgeNum
+circuit-24-41 = gives 4 3 1 24 41 (λ later. refl) refl refl
+
+pub rotated-16-26 : CreateGives 6 3 1 16 26
+unfolding codeRefusal kindKnown distanceSound roundsSound layerVertexNum layerEdgeNum gapEdgeNum
+rotated-16-26 = gives 6 3 1 16 26 (λ later. refl) refl refl
+
+pub planar-63 : CreateGives 2 63 0 4032 7813
+unfolding codeRefusal kindKnown distanceSound roundsSound layerVertexNum layerEdgeNum gapEdgeNum
+planar-63 = gives 2 63 0 4032 7813 (λ later. refl) refl refl
+
+pub rounds-340 : CreateGives 3 3 340 4092 6473
+unfolding codeRefusal kindKnown distanceSound roundsSound layerVertexNum layerEdgeNum gapEdgeNum
+rounds-340 = gives 3 3 340 4092 6473 (λ later. refl) refl refl
 
 -- ---- the listing's graph
 

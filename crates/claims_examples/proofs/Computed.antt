@@ -46,7 +46,7 @@ use Rattle.query_paths.specs.GetPath.{pathAsked, pathRefusal}
 use Rattle.claims.specs.Listed.{tallyGraph, tallyWeights}
 use Rattle.codes_layers.proofs.Counted.{vertices-counted, edges-counted}
 use Rattle.claims_examples.proofs.Graph.{written, columns, by-parts, crossing-2000, crossing-3000, crossing-3, path-3000}
-use Rattle.claims_examples.proofs.Builders.{builders-refuse, planar-65, rounds-341, even-d, listing-built, computed-ones}
+use Rattle.claims_examples.proofs.Builders.{builders-refuse, planar-65, rounds-341, even-d, circuit-24-41, rotated-16-26, planar-63, rounds-340, listing-built, computed-ones}
 use Rattle.claims_examples.proofs.OnListing.{path-called, path-refused, erased-called, reset-called, ones-called}
 use Rattle.claims_examples.specs.Starred.{StarredExamples, fed, crossingAfter, listingEngine}
 
@@ -150,13 +150,17 @@ starred = record {
   kind-6-edges = accepts-of refl;
   kind-4-lists = lists-24-41;
   kind-6-lists = lists-16-26;
+  kind-4-built = circuit-24-41;
+  kind-6-built = rotated-16-26;
   kind-2-d-63 = accepts-of refl;
   kind-2-d-65 = refuses-of refl (λ e. absurd (omega arith));
   kind-2-d-63-list = list-4032;
+  kind-2-d-63-built = planar-63;
   kind-2-d-65-built = builders-refuse 2 65 0 5 planar-65 (λ z. omega arith);
   kind-3-rounds-340 = accepts-of refl;
   kind-3-rounds-341 = refuses-of refl (λ e. absurd (omega arith));
   kind-3-rounds-340-list = list-4092;
+  kind-3-rounds-340-built = rounds-340;
   kind-3-rounds-341-built = builders-refuse 3 3 341 5 rounds-341 (λ z. omega arith);
   d-4 = even;
   d-4-built = λ kind rounds h. builders-refuse kind 4 rounds 3 (even-d kind rounds h) (λ z. omega arith);

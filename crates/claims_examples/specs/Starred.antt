@@ -73,6 +73,12 @@ pub record BuildersRefuse (kind d rounds q : ℕ) : Type 0 where
   pub create : (c₀ c : CodeColumns) (r : Created) → CreateReturned kind d rounds c₀ c r → RefusedBy q c₀ c r
   pub new : (p : Float) (max : ℕ) (c₀ c : CodeColumns) (r : Created) → NewReturned kind d rounds p max c₀ c r → RefusedBy q c₀ c r
 
+-- Six builders: wherever the columns lent are long enough, `create_code` answers with v vertices and e edges.
+abbrev pub CreateGives : (kind d rounds v e : ℕ) → Type 0
+CreateGives kind d rounds v e =
+    (c₀ c : CodeColumns) (r : Created) → CreateReturned kind d rounds c₀ c r → longEnough v e (vertexRoom c₀) (edgeRoom c₀) (length (c₀ .neighborNumbers)) ≡ true
+    → createdSaid r ≡ accepts (v, e)
+
 -- The program codelist: the p of the example line, by its bits.
 abbrev pub listingP : Float
 listingP = ofBits binary64 0x3fc0000000000000
@@ -115,15 +121,19 @@ pub record StarredExamples : Type 0 where
   pub kind-6-edges : CountsEdges 6 3 1 (Counted 26)
   pub kind-4-lists : (length (verticesOf 4 3 1) ≡ 24) × (length (edgesOf 4 3 1) ≡ 41)
   pub kind-6-lists : (length (verticesOf 6 3 1) ≡ 16) × (length (edgesOf 6 3 1) ≡ 26)
+  pub kind-4-built : CreateGives 4 3 1 24 41
+  pub kind-6-built : CreateGives 6 3 1 16 26
   -- "Kind 2: d 63 gives 4,032 vertices; d 65 refuses 5."
   pub kind-2-d-63 : CountsVertices 2 63 0 (Counted 4032)
   pub kind-2-d-65 : CountsVertices 2 65 0 (Refused 5)
   pub kind-2-d-63-list : length (verticesOf 2 63 0) ≡ 4032
+  pub kind-2-d-63-built : CreateGives 2 63 0 4032 7813
   pub kind-2-d-65-built : BuildersRefuse 2 65 0 5
   -- "Kind 3, d 3: rounds 340 gives 4,092; 341 refuses 5."
   pub kind-3-rounds-340 : CountsVertices 3 3 340 (Counted 4092)
   pub kind-3-rounds-341 : CountsVertices 3 3 341 (Refused 5)
   pub kind-3-rounds-340-list : length (verticesOf 3 3 340) ≡ 4092
+  pub kind-3-rounds-340-built : CreateGives 3 3 340 4092 6473
   pub kind-3-rounds-341-built : BuildersRefuse 3 3 341 5
   -- "d 4: 3." For every kind.
   pub d-4 : (kind rounds : ℕ) → kindKnown kind ≡ true → CountsVertices kind 4 rounds (Refused 3)

@@ -24,7 +24,7 @@ use Rattle.engine_walks.proofs.LeastCrossing.{crossing-is-least}
 use Rattle.engine_walks.proofs.TwoGraphs.{weights-compare}
 use Rattle.query_questions.specs.Scratch.{ScratchColumns, scratchOf, scratchLong}
 use Rattle.query_crossing_answer.specs.declared.CrossingReply.the-variants.{Crossed}
-use Rattle.query_crossing_answer.specs.Crossing.{replyNumber, replyWeight}
+use Rattle.query_crossing_answer.specs.Crossing.{replyNumber, replyWeight, weightFound}
 use Rattle.claims.specs.Listed.{CallArguments, modifyBy, crossWith, listedCalls, ownLengths, tallyGraph, before18, tallyCrossingRefusal, modifying, numbers}
 use Rattle.claims.specs.Called.{open-called, crossing-called}
 use Rattle.claims.specs.Demand3.{OneHistory, History, CrossingThen, TwoLists, tallyFirst, tallyLast, graphAtEnd, weightsAtEnd, refusedBefore, Demand3}
@@ -32,10 +32,6 @@ use Rattle.claims.proofs.Agreeing.{CrossingBy, range, edges-are, weight
 use Rattle.claims.proofs.Runs.{FreshGraph, fresh-of, crossing-of, runs}
 use Rattle.claims.proofs.Returns.{oneEdge, one-edge-opened, open-returns, opened-when, modifying-returns, crossing-returns, list-returns, lengths-at-end}
 use Rattle.claims.proofs.Built.{BuiltGraph, built-of, handed-on, built-distance}
-
-abbrev valueOf : Option ℕ → ℕ
-valueOf none = 0
-valueOf (some k) = k
 
 module _ (h : History) where
   fresh : FreshGraph (h .vertices) (h .edges) (h .handed) (h .fresh)
@@ -120,7 +116,7 @@ module _ (h : History) where
         r ∙ ap Crossed (same-some W d (sym q ∙ f))
       where
         same-some : (x y : ℕ) → some x ≡ some y → x ≡ y
-        same-some x y p = ap valueOf p
+        same-some x y p = ap weightFound p
 
 -- ---- two lists
 
@@ -137,7 +133,7 @@ module _ (h h′ : History) (c : CrossingThen h) (c′ : CrossingThen h′) (two
       let q = weights-compare (graphAtEnd h) (graphAtEnd h′) (weightsAtEnd h) (weightsAtEnd h′) (in-range h) (two .alike) .1 (λ e l. same e (omega (arith, edges-left h, l))) in
       let (W, f, r, k) = reports h c (two .accepted) in
       let (W′, f′, r′, k′) = reports h′ c′ (two .accepted′) in (
-        ap replyWeight r ∙ ap valueOf (sym f ∙ q .crossings ∙ f′) ∙ sym (ap replyWeight r′),
+        ap replyWeight r ∙ ap weightFound (sym f ∙ q .crossings ∙ f′) ∙ sym (ap replyWeight r′),
         λ v l. at h c (two .accepted) v l ∙ ap (λ (column : List ℤ). weightIn column v) (q .columns) ∙ sym (at h′ c′ (two .accepted′) v (inside v l)),
       )
 
@@ -216,7 +212,7 @@ one-history = record {
   crossing = one-crossing;
   reports =
       let (W, f, r, k) = reports one one-crossing (accepted one one-crossing one-asked 3 one-found) in
-      r ∙ ap (λ o. Crossed (valueOf o)) (sym f ∙ one-found);
+      r ∙ ap (λ o. Crossed (weightFound o)) (sym f ∙ one-found);
 }
 
 -- the demand

@@ -98,7 +98,7 @@ pub record Demand3 : Type 0 where
   pub list-returns : (vertices edges : ℕ) (handed : GraphColumns) (fresh : Engine) → OpenCalled vertices edges handed fresh → (list : List CallArguments)
       → (answers : List ℕ) × (at-end : Engine) × Calls fresh (listedCalls (lengthsOf fresh) list) answers at-end
   pub one-history : OneHistory
-  -- A freshly opened graph is there exactly where questions 6 and 7 of open are met, of what is handed over and of some columns lent to it.
+  -- Engine, Open; questions at the door, 6 and 7: an open is accepted, with the counts handed over and an empty log, exactly where these are met.
   pub opened-when : (vertices edges : ℕ) (handed lent₀ : GraphColumns) (r : EngineAnswer) (lent : GraphColumns) → OpenReturned vertices edges handed lent₀ r lent
       → (openRefusal vertices edges handed lent₀ ≡ 0) ↔ (r ≡ Counts (counts vertices edges 0))
   -- "Each call is accepted or refused as document 01's questions say."

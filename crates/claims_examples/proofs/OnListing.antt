@@ -3,7 +3,7 @@
 use mathlib.Core.Path.{_≡_, refl, sym, ap, _∙_, subst}
 use mathlib.Core.Bool.{true, cond}
 use mathlib.Core.List.{List, [], _∷_}
-use mathlib.Core.Option.{Option, some, none}
+use mathlib.Core.Option.{Option, some}
 use Prim.Native.Nat.{ℕ, _≤_, _<_}
 use native.Mathlib.Omega.{arith}
 use lib.ListN.{length, replicate}
@@ -23,6 +23,7 @@ use Rattle.engine_walks.specs.Answers.{path, crossing}
 use Rattle.query_questions.specs.Queries as Q
 use Rattle.query_questions.specs.Scratch.{ScratchColumns, scratchFits, isFree}
 use Rattle.query_crossing_answer.specs.declared.CrossingReply.the-variants.{Crossed}
+use Rattle.query_crossing_answer.specs.Crossing.{weightFound}
 use Rattle.query_paths.specs.declared.PathAnswer.{PathAnswer}
 use Rattle.query_paths.specs.GetPath.{foundSaid, pathAsked, pathRefusal, lengthAndTotal, verticesAfter, stepsAfter, GotPath}
 use Rattle.claims.specs.Listed.{CallArguments, modifyBy, listedCalls, tallyGraph, tallyWeights, tallyAtEnd, numbers}
@@ -128,10 +129,6 @@ record After (list : List CallArguments) (weight : ℕ) : Type 0 where
   pub weighs : (k : Lengths) → Roomy k
       → crossing (tallyGraph (tallyAtEnd (listedCalls k list) (tallyOf 4 3 written))) (tallyWeights (tallyAtEnd (listedCalls k list) (tallyOf 4 3 written))) ≡ some weight
 
-abbrev valueOf : Option ℕ → ℕ
-valueOf none = 0
-valueOf (some k) = k
-
 crosses-at : (list : List CallArguments) (weight : ℕ) → After list weight → CrossesAt list weight
 crosses-at list weight x h c on asked =
     let k = lengthsOf (h .fresh) in
@@ -145,7 +142,7 @@ crosses-at list weight x h c on asked =
     }) in
     let f : found h ≡ some weight = (λ i. crossing (tallyGraph (tallyAtEnd (on .calls-are i) (first-is i))) (tallyWeights (tallyAtEnd (on .calls-are i) (first-is i)))) ∙ x .weighs k room in
     let (W, is, r, column) = reports h c (accepted h c asked weight f) in
-    (run h .0 ∙ (λ i. numbers (on .calls-are i) (first-is i)) ∙ x .all-accepted k room, r ∙ ap (λ o. Crossed (valueOf o)) (sym is ∙ f))
+    (run h .0 ∙ (λ i. numbers (on .calls-are i) (first-is i)) ∙ x .all-accepted k room, r ∙ ap (λ o. Crossed (weightFound o)) (sym is ∙ f))
 
 module _ (k : Lengths) (room : Roomy k) where
   abbrev fresh : Tally

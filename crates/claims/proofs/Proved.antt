@@ -25,11 +25,11 @@ use Rattle.engine_walks.proofs.TwoGraphs.{weights-compare}
 use Rattle.query_questions.specs.Scratch.{ScratchColumns, scratchOf, scratchLong}
 use Rattle.query_crossing_answer.specs.declared.CrossingReply.the-variants.{Crossed}
 use Rattle.query_crossing_answer.specs.Crossing.{replyNumber, replyWeight, weightFound}
-use Rattle.claims.specs.Listed.{CallArguments, modifyBy, crossWith, listedCalls, ownLengths, tallyGraph, before18, tallyCrossingRefusal, modifying, numbers}
+use Rattle.claims.specs.Listed.{CallArguments, modifyBy, crossWith, listedCalls, ownLengths, tallyGraph, before18, tallyCrossingRefusal, modifying, modifyingAnswers, numbers}
 use Rattle.claims.specs.Called.{open-called, crossing-called}
 use Rattle.claims.specs.Demand3.{OneHistory, History, CrossingThen, TwoLists, tallyFirst, tallyLast, graphAtEnd, weightsAtEnd, refusedBefore, Demand3}
 use Rattle.claims.proofs.Agreeing.{CrossingBy, range, edges-are, weight-at, crossing-number, accepted-of, accepted-when, column-at, graph-kept}
-use Rattle.claims.proofs.Runs.{FreshGraph, fresh-of, crossing-of, runs}
+use Rattle.claims.proofs.Runs.{FreshGraph, fresh-of, crossing-of, runs, modifying-numbers}
 use Rattle.claims.proofs.Returns.{oneEdge, one-edge-opened, open-returns, opened-when, modifying-returns, crossing-returns, list-returns, lengths-at-end}
 use Rattle.claims.proofs.Built.{BuiltGraph, built-of, handed-on, built-distance}
 
@@ -228,6 +228,7 @@ demand-3 = record {
   crossing-then = number;
   counts = λ h. agrees h .counts-are;
   edge-weighs = λ h k l. sym (tally-weighs h k l) ∙ weighs-last-named (h .vertices) (h .edges) (h .handed) (fresh h .weights-long) (modifying (h .calls)) k l;
+  accepted-answers = λ h. modifying-numbers (h .calls) (tallyFirst h) ∙ ap (modifyingAnswers (h .calls)) (sym (run h .0));
   tally-weighs = tally-weighs;
   joined = joined;
   none-less = λ h c z. is-crossing h c z .every-set;

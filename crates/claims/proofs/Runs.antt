@@ -1,6 +1,6 @@
 -- Every list of calls of the real functions keeps columns and tally in agreement. Assumes nothing.
 use mathlib.Core.Path.{_≡_, refl, sym, subst}
-use mathlib.Core.List.{List, _∷_}
+use mathlib.Core.List.{List, [], _∷_}
 use Prim.Native.Nat.{ℕ, _≤_}
 use lib.ListN.{length}
 use lib.IntN.{ℤ}
@@ -11,13 +11,13 @@ use Rattle.engine_columns.specs.declared.EngineAnswer.the-variants.{Counts}
 use Rattle.engine_columns.specs.Records.{Engine, engine, counts}
 use Rattle.engine_columns.specs.Calls.{Call, Modified}
 use Rattle.engine_columns.specs.Open.{GraphColumns, openRefusal, Opened}
-use Rattle.engine_tally.specs.Tally.{Tally, tallyOf, lengthsOf, tallyStep}
+use Rattle.engine_tally.specs.Tally.{Tally, tallyOf, lengthsOf, tallyRefusal, tallyStep, tallyNumbers}
 use Rattle.engine_tally.proofs.Agreement.{Agrees, step-agrees, opened-agrees}
 use Rattle.engine_columns.proofs.Refusals.{opens-of}
 use Rattle.query_questions.specs.Scratch.{ScratchColumns}
 use Rattle.query_crossing_answer.specs.declared.CrossingReply.{CrossingReply}
 use Rattle.query_crossing_answer.specs.Crossing.{FoundCrossing}
-use Rattle.claims.specs.Listed.{OwnLengths, ListedCall, tallyAtEnd, numbers}
+use Rattle.claims.specs.Listed.{OwnLengths, ListedCall, modifies, crosses, modifying, modifyingAnswers, tallyAtEnd, numbers}
 use Rattle.claims.specs.QueriesCalled.{CrossingReturned, crossing-returned}
 use Rattle.claims.specs.Called.{OpenReturned, open-returned, OpenCalled, open-called, Called, load-erasures-called, load-weights-called, reset-called, CrossingCalled, crossing-called, Calls, no-call, modified-then, crossed-then}
 use Rattle.claims.proofs.Agreeing.{CrossingBy, crossing-number}
@@ -74,3 +74,9 @@ runs e cs ns e₂ t a (crossed-then {cs = ds} {ns = ms} o r column₀ column s r
     let n = crossing-number t e a o r column₀ column (crossing-of e o r column₀ column s) in
     let (m, a₂) = runs e ds ms e₂ t a rest in
     ((λ i. n i ∷ m i), a₂)
+
+-- the answers to loads and resets
+pub modifying-numbers : (cs : List ListedCall) (t : Tally) → tallyNumbers (modifying cs) t ≡ modifyingAnswers cs (numbers cs t)
+modifying-numbers [] t = refl
+modifying-numbers (modifies f ∷ cs) t = λ i. tallyRefusal (f .call) (f .lent) t ∷ modifying-numbers cs (tallyStep f t) i
+modifying-numbers (crosses k o ∷ cs) t = modifying-numbers cs t

@@ -20,7 +20,7 @@ use Rattle.query_questions.specs.Scratch.{ScratchColumns}
 use Rattle.query_crossing_answer.specs.declared.CrossingReply.{CrossingReply}
 use Rattle.query_crossing_answer.specs.declared.CrossingReply.the-variants.{Crossed}
 use Rattle.query_crossing_answer.specs.Crossing.{replyNumber, replyWeight}
-use Rattle.claims.specs.Listed.{OwnLengths, ListedCall, CallArguments, modifyBy, crossWith, listedCalls, tallyGraph, tallyWeights, before18, tallyCrossingRefusal, modifying, tallyAtEnd, numbers}
+use Rattle.claims.specs.Listed.{OwnLengths, ListedCall, CallArguments, modifyBy, crossWith, listedCalls, tallyGraph, tallyWeights, before18, tallyCrossingRefusal, modifying, modifyingAnswers, tallyAtEnd, numbers}
 use Rattle.claims.specs.QueriesCalled.{CrossingReturned}
 use Rattle.claims.specs.Called.{OpenReturned, OpenCalled, Called, Calls, CrossingCalled, CodeBuilt}
 
@@ -109,6 +109,8 @@ pub record Demand3 : Type 0 where
   -- "An edge weighs what an accepted load last named for it since the last accepted reset (0 if erased), else its opening weight."
   pub edge-weighs : (h : History) (k : ℕ) → k < h .edges
       → getD (h .at-end .weights) k 0 ≡ weightBy (setByCalls (modifying (h .calls)) (tallyNumbers (modifying (h .calls)) (tallyFirst h)) k) (getD (h .handed .weights) k 0)
+  -- A load or reset counts as accepted there exactly where it answered 0: the tally's numbers are the answers.
+  pub accepted-answers : (h : History) → tallyNumbers (modifying (h .calls)) (tallyFirst h) ≡ modifyingAnswers (h .calls) (h .answers)
   pub tally-weighs : (h : History) (k : ℕ) → k < h .edges → weightsAtEnd h k ≡ getD (h .at-end .weights) k 0
   -- "Unless a question before 18 refuses it, a crossing called then is accepted exactly when some walk joins a left vertex to a right one."
   pub joined : (h : History) (c : CrossingThen h) → refusedBefore h c ≡ 0 → (replyNumber (c .reply) ≡ 0) ↔ LeftJoinsRight (graphAtEnd h)

@@ -68,6 +68,13 @@ modifying [] = []
 modifying (modifies f ∷ cs) = f ∷ modifying cs
 modifying (crosses k o ∷ cs) = modifying cs
 
+-- Demand 3, sentence 3: of the answers to a list of calls, those to its loads and resets.
+abbrev pub modifyingAnswers : List ListedCall → (answers : List ℕ) → List ℕ
+modifyingAnswers [] ns = []
+modifyingAnswers (c ∷ cs) [] = []
+modifyingAnswers (modifies f ∷ cs) (n ∷ ns) = n ∷ modifyingAnswers cs ns
+modifyingAnswers (crosses k o ∷ cs) (n ∷ ns) = modifyingAnswers cs ns
+
 -- Engine, Tally, sentences 4 and 10: the tally at a list's end: crossings leave it.
 abbrev pub tallyAtEnd : List ListedCall → Tally → Tally
 tallyAtEnd cs t = tallyAfter (modifying cs) t

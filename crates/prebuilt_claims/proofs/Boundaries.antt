@@ -78,7 +78,7 @@ module _ (g : Graph) (w : ℕ → ℕ) (v : ℕ) where
   -- ---- by what is reported
 
   -- one excludes the other
-  excluded : (u k : ℕ) → NearestVirtual g w v u k → NoneVirtual g v → ⊥
+  pub excluded : (u k : ℕ) → NearestVirtual g w v u k → NoneVirtual g v → ⊥
   excluded u k n (inl q) = let z : _≡_ {A = ℕ} 0 1 = (let r = sym q ∙ n .inner in cc) in omega arith
   excluded u k n (inr f) = f u (n .is-virtual) (n .some-walk .0, n .some-walk .1)
 

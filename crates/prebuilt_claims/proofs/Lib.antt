@@ -1,4 +1,5 @@
--- Scans: the Rust's loop over the peers, and the nearest virtual vertex. Boundaries: boundary weights and walks. Proved: the claim.
+-- Scans: the Rust's loop over the peers, and the nearest virtual vertex. Boundaries: boundary weights and walks. Edges: where a row has no edge. Proved: the claim.
 mod Scans
 mod Boundaries
+mod Edges
 mod Proved

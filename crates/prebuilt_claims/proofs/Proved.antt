@@ -36,6 +36,7 @@ use Rattle.prebuilt_claims.specs.Called.{BoundariesFilled, RowFilled, Bo
 use Rattle.prebuilt_claims.specs.Called as called
 use Rattle.prebuilt_claims.specs.PrebuiltRows.{PrebuiltRows}
 use Rattle.prebuilt_claims.proofs.Scans.{peerOf, scanned, weight-column, vertex-column, entry-is}
+use Rattle.prebuilt_claims.proofs.Edges.{no-edge-when}
 use Rattle.prebuilt_claims.proofs.Boundaries.{BoundaryIs, boundary-is, entry-nearest, entry-none, values-nearest, values-none}
 use Rattle.query_questions.specs.Scratch.{scratchFits, ScratchColumns}
 
@@ -148,6 +149,9 @@ asked-of e v r (called.BoundaryAsked.boundary-asked κs a q s l) z =
     found-is none = refl
     found-is (some u) = refl
 
+row-in : (e : Engine) (v : ℕ) (near out : List ℤ) → RowFilled e v near out → v < e .counts .vertices
+row-in e v near out (called.RowFilled.row-filled κs a s l) = row-asked e _ v _ _ _ (zero-of (l .answers)) .v-in
+
 pub prebuilt-rows : PrebuiltRows
 prebuilt-rows = record {
   boundaries = λ e weights vertices f v h. (weight-of e weights vertices f v h, vertex-of e weights vertices f v h);
@@ -161,5 +165,7 @@ prebuilt-rows = record {
       values-nearest (graphIn e) (weightsIn e) v (getBoundaryWeight (graphIn e) (weightsIn e) v) (b .boundary) u k (sym (ap (λ x. x .values) p) ∙ b .values-are);
   asked-none = λ e v r a z. let b = asked-of e v r a z in values-none (graphIn e) (weightsIn e) v (getBoundaryWeight (graphIn e) (weightsIn e) v) (b .boundary) _ (b .values-are);
   rows = λ e weights vertices f v out r u h. row-of e v weights out r (weight-of e weights vertices f) u h;
+  no-edge = λ e weights vertices f v out r u h.
+      no-edge-when (graphIn e) (weightsIn e) (fill-range e weights vertices f) v u (row-in e v weights out r) h _ (row-of e v weights out r (weight-of e weights vertices f) u h);
   least = λ e v weights out r u k h p. least-of e v weights out r u k h p;
 }

@@ -103,3 +103,21 @@ pub record NearestVirtual (g : Graph) (w : ℕ → ℕ) (v u k : ℕ) : Type 0 w
 -- complete_graph.rs, `get_boundary_weight`: v is virtual, or no walk joins it to a virtual vertex.
 abbrev pub NoneVirtual : Graph → ℕ → Type 0
 NoneVirtual g v = (virtual g v ≡ true) ⊎ ((x : ℕ) → VirtualVertex g x → ¬ Joined g v x)
+
+-- complete_graph.rs, "remove edges in the middle": v and u have nearest virtual vertices, at weights a and b, and every walk from v to u weighs more than a and b together.
+pub record NearerByBoundary (g : Graph) (w : ℕ → ℕ) (v u : ℕ) : Type 0 where
+  pub a : ℕ
+  pub b : ℕ
+  pub of-v : ℕ
+  pub of-u : ℕ
+  pub own : NearestVirtual g w v of-v a
+  pub peer : NearestVirtual g w u of-u b
+  pub heavier : (s : List ℕ) → Walk g v s u → a + b < sum s w
+
+-- complete_graph.rs, `get_edge_weight(v, u)`: why there is no edge: v or u is virtual, they are one vertex, no walk joins them, or they are nearer by way of the boundary.
+pub data NoEdge (g : Graph) (w : ℕ → ℕ) (v u : ℕ) : Type 0 where
+  own-virtual : virtual g v ≡ true → NoEdge g w v u
+  peer-virtual : virtual g u ≡ true → NoEdge g w v u
+  itself : u ≡ v → NoEdge g w v u
+  not-joined : ¬ Joined g v u → NoEdge g w v u
+  by-boundary : NearerByBoundary g w v u → NoEdge g w v u

@@ -12,7 +12,7 @@ use Rattle.engine_walks.specs.Answers.{weightIn}
 use Rattle.query_questions.specs.Queries.{graphIn, weightsIn}
 use Rattle.prebuilt_calls.specs.declared.nearest.BoundaryAnswer.{BoundaryAnswer}
 use Rattle.prebuilt_calls.specs.Nearest.{nearestSaid}
-use Rattle.prebuilt_claims.specs.Prebuilt.{getBoundaryWeight, getEdgeWeight, edgeEntry, weightEntry, vertexEntry, boundaryValues, NearestVirtual, NoneVirtual}
+use Rattle.prebuilt_claims.specs.Prebuilt.{getBoundaryWeight, getEdgeWeight, edgeEntry, weightEntry, vertexEntry, boundaryValues, NearestVirtual, NoneVirtual, NoEdge}
 use Rattle.prebuilt_claims.specs.Called.{BoundariesFilled, RowFilled, BoundaryAsked}
 
 -- complete_graph.rs, `PrebuiltCompleteGraph`: what accepted calls of the three give, for every engine graph.
@@ -40,3 +40,6 @@ pub record PrebuiltRows : Type 0 where
   -- And an edge that is there weighs k: some walk from v to the peer weighs k, and none weighs less.
   pub least : (e : Engine) (v : ℕ) (weights row : List ℤ) → RowFilled e v weights row → (u k : ℕ) → u < e .counts .vertices → weightIn row u ≡ pos k
       → LeastWeight (graphIn e) (weightsIn e) (λ x. x ≡ v) u k
+  -- -1 stands exactly where v or the peer is virtual, where the peer is v, where no walk joins them, or where they are nearer to one another by way of the boundary.
+  pub no-edge : (e : Engine) (weights : List ℤ) (vertices : List ℕ) → BoundariesFilled e weights vertices → (v : ℕ) (row : List ℤ) → RowFilled e v weights row
+      → (u : ℕ) → u < e .counts .vertices → (weightIn row u ≡ negsuc 0) ↔ NoEdge (graphIn e) (weightsIn e) v u

@@ -12,7 +12,7 @@ use borrow.Author.Tests.{eq-eqb, ne-eqb, le-leb}
 use Rattle.columns.specs.Lists.{each, over}
 use Rattle.columns.specs.Questions.{ask, vertexCountSound, edgeCountSound, marksSound}
 use Rattle.columns.specs.declared.Done.the-variants.{Accepted}
-use Rattle.columns.proofs.Columns.{over-in, over-past, length-over, after-accepted}
+use Rattle.columns.proofs.Columns.{over-in, length-over, after-accepted}
 use Rattle.columns.proofs.Counting.{length-each, getD-each}
 use Rattle.columns.proofs.Refusals.{met, goes-on, asks, ands}
 use Rattle.columns.proofs.Tests.{both-and, at-within}
@@ -23,7 +23,7 @@ use Rattle.columns_answers.specs.declared.SyndromeCounts.the-variants.{Counts}
 use Rattle.columns_answers.proofs.Said.{zero-of, values-of}
 use Rattle.columns_room.specs.Room.{twoLong}
 use Rattle.columns_marks.specs.Marks.{isSet, listed, names, marks}
-use Rattle.columns_marks.proofs.Listing.{chosen-at, chosen-has, listed-few, listed-ascends}
+use Rattle.columns_marks.proofs.Listing.{chosen-at, chosen-has, listed-few, listed-list}
 use Rattle.access_calls.specs.Calls.{Syndrome, setMarksRefusal, SetMarks, countsSound, setSyndromeRefusal, SetSyndrome, getMarksRefusal, GotMarks, getSyndromeRefusal, GotSyndrome, Code, Initializer, initializerRefusal, GotInitializer}
 use Rattle.access_calls.proofs.Refusals.{set-met, set-syndrome-met, get-met, get-syndrome-met, initializer-met}
 use Rattle.access_claims.specs.AccessCalled.{DefectsGot, defects-got, ErasuresGot, erasures-got, SyndromeGot, syndrome-got, InitializerGot, initializer-got, DefectsSet, defects-set, ErasuresSet, erasures-set, SyndromeSet, syndrome-set}
@@ -61,9 +61,8 @@ module _ (n : ℕ) (bytes list₀ list : List ℕ) (count : ℕ) (g : Got n byte
 
   lists-bytes : ListsBytes n bytes list₀ list count
   lists-bytes = record {
-    ascends = listed-ascends n count bytes list₀ list (g .count-is) (g .list-is);
+    ascending = listed-list n count bytes list₀ list (g .count-is) (g .list-is);
     lists-set = λ k. (stands-set k, set-stands k);
-    past-count = λ i h. ap (λ (l : List ℕ). getD l i 0) (g .list-is) ∙ over-past (listed n bytes) list₀ 0 i (omega (arith, g .count-is));
     same-length = ap length (g .list-is) ∙ length-over (listed n bytes) list₀ (omega (arith, g .room, listed-few bytes n));
   }
 
@@ -178,7 +177,7 @@ module _ (n : ℕ) (handed bytes : List ℕ) (s : Set n handed bytes) where
 
   same-numbers : (list₀ list : List ℕ) (count : ℕ) → ListsBytes n bytes list₀ list count → SameNumbers handed list count
   same-numbers list₀ list count l = record {
-    ascends = l .ascends;
+    ascends = l .ascending .ascends;
     same = λ k. ((λ x. byte-handed k (l .lists-set k .0 x)), λ x. l .lists-set k .1 (handed-byte k x));
   }
 

@@ -1,12 +1,12 @@
 -- What a getter hands back: "A list of defects, erasures or virtual vertices handed back ascends; .. places past the count are unchanged."
-use Prim.Native.Nat.{ℕ, _≤_, _<_}
+use Prim.Native.Nat.{ℕ, _<_}
 use mathlib.Core.Path.{_≡_}
 use mathlib.Core.Logic.{_↔_}
 use mathlib.Core.List.{List}
 use lib.ListN.{length, getD}
 use Rattle.columns_answers.specs.declared.ListCount.the-variants.{Count}
 use Rattle.columns_answers.specs.declared.SyndromeCounts.the-variants.{Counts}
-use Rattle.columns_marks.specs.Marks.{Ascending}
+use Rattle.columns_marks.specs.Marks.{AscendingList}
 use Rattle.access_calls.specs.Calls.{Syndrome}
 use Rattle.access_claims.specs.AccessCalled.{DefectsGot, ErasuresGot, SyndromeGot, InitializerGot}
 
@@ -20,12 +20,10 @@ ByteSet n bytes k = (k < n) × (getD bytes k 0 ≡ 0 → ⊥)
 
 -- Sampling, syndromes, reordering, paragraph 2, sentence 4: the column of a list before a call and afterwards; `count` numbers were listed, of the n bytes lent.
 pub record ListsBytes (n : ℕ) (bytes list₀ list : List ℕ) (count : ℕ) : Type 0 where
-  -- "A list of defects, erasures or virtual vertices handed back ascends;"
-  pub ascends : Ascending count list
+  -- "A list of defects, erasures or virtual vertices handed back ascends; .. places past the count are unchanged."
+  pub ascending : AscendingList count list₀ list
   -- It has all of them and nothing else.
   pub lists-set : (k : ℕ) → StandsIn count list k ↔ ByteSet n bytes k
-  -- "places past the count are unchanged."
-  pub past-count : (i : ℕ) → count ≤ i → getD list i 0 ≡ getD list₀ i 0
   pub same-length : length list ≡ length list₀
 
 -- Sampling, syndromes, reordering, paragraph 2, sentence 4: of every accepted getter that hands back such a list.

@@ -10,10 +10,10 @@ use lib.ListN.{length, getD, length-append, List·getD-append}
 use lib.Seq.{sets, getD-append-add}
 use lib.Dec.{eqb}
 use Rattle.columns.specs.Lists.{joined, when, over}
-use Rattle.columns.proofs.Columns.{sets-append, over-in}
+use Rattle.columns.proofs.Columns.{sets-append, over-in, over-past}
 use Rattle.columns.proofs.Counting.{joined-more, joined-same}
 use Rattle.columns_neighbors.specs.Lists.{chosen}
-use Rattle.columns_marks.specs.Marks.{isSet, listed, Ascending}
+use Rattle.columns_marks.specs.Marks.{isSet, listed, AscendingList}
 
 pub when-few : {A : Type 0} (b : Bool) (x : A) → length (when b x) ≤ 1
 when-few true x = omega arith
@@ -115,17 +115,22 @@ pub chosen-same : (n : ℕ) (f g : ℕ → Bool) → ((k : ℕ) → k < n → f 
 unfolding chosen
 chosen-same n f g h = joined-same n _ _ (λ k l. ap (λ (b : Bool). when b k) (h k l))
 
--- the first places of a column that was written with such a list ascend
-pub listed-ascends : (n count : ℕ) (column list₀ list : List ℕ) → count ≡ length (listed n column) → list ≡ over (listed n column) list₀ → Ascending count list
+-- a column that was written with such a list
+pub chosen-list : (test : ℕ → Bool) (k n : ℕ) (list₀ list : List ℕ) → n ≡ length (chosen k test) → list ≡ over (chosen k test) list₀ → AscendingList n list₀ list
+chosen-list test k n list₀ list many is = record {
+  ascends = λ i j h l.
+      omega (
+        arith,
+        ap (λ (x : List ℕ). getD x i 0) is ∙ over-in (chosen k test) list₀ 0 i (omega arith),
+        ap (λ (x : List ℕ). getD x j 0) is ∙ over-in (chosen k test) list₀ 0 j (omega arith),
+        chosen-ascends test k i j h (omega arith),
+      );
+  unchanged = λ i h. ap (λ (x : List ℕ). getD x i 0) is ∙ over-past (chosen k test) list₀ 0 i (omega arith);
+}
+
+pub listed-list : (k n : ℕ) (column list₀ list : List ℕ) → n ≡ length (listed k column) → list ≡ over (listed k column) list₀ → AscendingList n list₀ list
 unfolding listed
-listed-ascends n count column list₀ list many is i j h l =
-    let xs = listed n column in
-    omega (
-      arith,
-      ap (λ (x : List ℕ). getD x i 0) is ∙ over-in xs list₀ 0 i (omega arith),
-      ap (λ (x : List ℕ). getD x j 0) is ∙ over-in xs list₀ 0 j (omega arith),
-      chosen-ascends (λ k. isSet (getD column k 0)) n i j h (omega arith),
-    )
+listed-list k n column list₀ list many is = chosen-list (λ u. isSet (getD column u 0)) k n list₀ list many is
 
 -- ---- a loop that lists the bytes that are set
 

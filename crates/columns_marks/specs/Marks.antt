@@ -1,5 +1,5 @@
 -- Bytes that are set, and lists of their numbers.
-use Prim.Native.Nat.{ℕ, _<_}
+use Prim.Native.Nat.{ℕ, _<_, _≤_}
 use mathlib.Core.Path.{_≡_}
 use mathlib.Core.Bool.{Bool, false, not, _||_, cond}
 use mathlib.Core.List.{List, [], _∷_}
@@ -20,6 +20,11 @@ listed n column = chosen n (λ k. isSet (getD column k 0))
 -- Sampling, syndromes, reordering, paragraph 2, sentence 4: the first n places of a list ascend.
 abbrev pub Ascending : (n : ℕ) → List ℕ → Type 0
 Ascending n list = (i j : ℕ) → i < j → j < n → getD list i 0 < getD list j 0
+
+-- Sampling, syndromes, reordering, paragraph 2, sentence 4: a list of n numbers handed back in a column: it ascends, and places past the count are unchanged.
+pub record AscendingList (n : ℕ) (list₀ list : List ℕ) : Type 0 where
+  pub ascends : Ascending n list
+  pub unchanged : (i : ℕ) → n ≤ i → getD list i 0 ≡ getD list₀ i 0
 
 -- Sampling, syndromes, reordering, paragraph 2, sentence 4: such a list goes on; where its first places hold the numbers
 -- below `from` whose byte is set, they hold those below `to` afterwards.

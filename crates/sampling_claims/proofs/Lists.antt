@@ -1,37 +1,14 @@
 -- Every list handed back names the numbers that pass a test, from the smallest on, in a column's first places. Assumes nothing.
-use mathlib.Core.Path.{_≡_, ap, _∙_}
-use mathlib.Core.Bool.{Bool}
 use mathlib.Core.List.{List}
 use Prim.Native.Nat.{ℕ}
-use native.Mathlib.Omega.{arith}
-use lib.ListN.{length, getD}
-use Rattle.columns.specs.Lists.{over}
-use Rattle.columns.proofs.Columns.{over-in, over-past}
-use Rattle.columns_neighbors.specs.Lists.{chosen}
-use Rattle.columns_marks.specs.Marks.{isSet, listed}
-use Rattle.columns_marks.proofs.Listing.{chosen-ascends}
+use Rattle.columns_marks.specs.Marks.{AscendingList}
+use Rattle.columns_marks.proofs.Listing.{chosen-list, listed-list}
 use Rattle.columns_answers.specs.declared.SyndromeCounts.the-variants.{Counts}
 use Rattle.sampling_calls.specs.Records.{SyndromeColumns}
 use Rattle.sampling_calls.specs.Errors.{SyndromeAfter}
 use Rattle.sampling_calls.specs.Syndrome.{isDefectOf, syndromeOf}
-use Rattle.sampling_claims.specs.Lists.{AscendingList, ListsAscend}
+use Rattle.sampling_claims.specs.Lists.{ListsAscend}
 use Rattle.sampling_claims.proofs.Accepted.{sampling-promise, errors-promise, syndrome-promise, how-many-defects, how-many-erasures, defectList-over, erasureList-over, how-many, syndrome-over}
-
-chosen-list : (test : ℕ → Bool) (k n : ℕ) (list₀ list : List ℕ) → n ≡ length (chosen k test) → list ≡ over (chosen k test) list₀ → AscendingList n list₀ list
-chosen-list test k n list₀ list many is = record {
-  ascends = λ i j h l.
-      omega (
-        arith,
-        ap (λ (x : List ℕ). getD x i 0) is ∙ over-in (chosen k test) list₀ 0 i (omega arith),
-        ap (λ (x : List ℕ). getD x j 0) is ∙ over-in (chosen k test) list₀ 0 j (omega arith),
-        chosen-ascends test k i j h (omega arith),
-      );
-  unchanged = λ i h. ap (λ (x : List ℕ). getD x i 0) is ∙ over-past (chosen k test) list₀ 0 i (omega arith);
-}
-
-listed-list : (k n : ℕ) (column list₀ list : List ℕ) → n ≡ length (listed k column) → list ≡ over (listed k column) list₀ → AscendingList n list₀ list
-unfolding listed
-listed-list k n column list₀ list many is = chosen-list (λ u. isSet (getD column u 0)) k n list₀ list many is
 
 both : {q v e : ℕ} {defects erasures : List ℕ} {s₀ s : SyndromeColumns} {m n : ℕ} → SyndromeAfter q v e defects erasures s₀ (Counts m n) s
     → AscendingList m (s₀ .defectList) (s .defectList) × AscendingList n (s₀ .erasureList) (s .erasureList)

@@ -1,20 +1,13 @@
 -- The lists of defects and erasures that the calls hand back.
-use Prim.Native.Nat.{ℕ, _≤_}
-use mathlib.Core.Path.{_≡_}
+use Prim.Native.Nat.{ℕ}
 use mathlib.Core.List.{List}
-use lib.ListN.{getD}
 use lib.Ieee.{Float}
 use Rattle.columns_answers.specs.declared.SyndromeCounts.the-variants.{Counts}
 use Rattle.columns_answers.specs.declared.ListCount.the-variants.{Count}
 use Rattle.columns_room.specs.Graph.{CodeGraph}
-use Rattle.columns_marks.specs.Marks.{Ascending}
+use Rattle.columns_marks.specs.Marks.{AscendingList}
 use Rattle.sampling_calls.specs.Records.{SyndromeColumns}
 use Rattle.sampling_claims.specs.Called.{SamplingReturned, ErrorsReturned, SyndromeReturned}
-
--- Sampling, syndromes, reordering, paragraph 2, sentence 4: a list of n numbers handed back in a column: it ascends, and places past the count are unchanged.
-pub record AscendingList (n : ℕ) (list₀ list : List ℕ) : Type 0 where
-  pub ascends : Ascending n list
-  pub unchanged : (i : ℕ) → n ≤ i → getD list i 0 ≡ getD list₀ i 0
 
 -- Sampling, syndromes, reordering, paragraph 2, sentence 4: every list of defects or erasures that an accepted call hands back.
 pub record ListsAscend : Type 0 where

@@ -10,7 +10,7 @@ use Rattle.columns_answers.specs.Counts.{listSaid, syndromeSaid}
 use Rattle.c_reports.specs.declared.OneCount.{OneCount}
 use Rattle.c_reports.specs.declared.TwoCounts.{TwoCounts}
 
--- Expected forms by place, last paragraph, for C: a call of the library that meets its contract gave an answer, and r is what is reported of it.
+-- Expected forms by place, last paragraph, for C: there is an answer that the call's contract permits, and r is what is reported of it. A contract fixes its answer, so that is the answer given.
 pub record Reported {A : Type 0} {B : Type 0} (Reports : A → B → Type 0) (Call : A → Type 0) (r : B) : Type 0 where
   pub answer : A
   pub called : Call answer

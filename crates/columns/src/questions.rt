@@ -49,14 +49,14 @@ pub fn equal(a: usize, b: usize) -> bool
     a == b
 }
 
-// Whether a column of a length has room for more entries beside those used.
-pub fn has_room(used: usize, more: usize, length: usize) -> bool
-    ensures { λ r. ⌜ r ≡ leb (used + more) length ⌝ }
+// Whether a column of so many places has room for more entries beside those used.
+pub fn has_room(used: usize, more: usize, places: usize) -> bool
+    ensures { λ r. ⌜ r ≡ leb (used + more) places ⌝ }
 {
-    if length < used {
+    if places < used {
         return false;
     }
-    more <= length - used
+    more <= places - used
 }
 
 // The lesser of two sizes.

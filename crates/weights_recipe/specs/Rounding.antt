@@ -39,3 +39,7 @@ atLeastOne (suc n) = suc n
 -- Weights, on half weights, sentence 1: the half weight of an edge of weight w.
 unfoldable pub halfWeight : ℕ → Float → Float → ℕ
 halfWeight max w largest = atLeastOne (greatest (scaled max w largest) max)
+
+-- Weights, on half weights, sentence 1: the greatest M for which the search is proved: whole numbers up to it, and the next one, are f64 exactly.
+abbrev pub searchLimit : ℕ
+searchLimit = 500000000000

@@ -3,7 +3,7 @@ ghost use mathlib.Core.Path.{_≡_};
 ghost use mathlib.Core.Bool.{true, false};
 ghost use mathlib.Core.Logic.{_⊎_};
 ghost use Prim.Native.Nat.{ℕ, _+_, _<_, _≤_};
-ghost use Rattle.weights_recipe.specs.Rounding.{reaches, greatest, halfWeight};
+ghost use Rattle.weights_recipe.specs.Rounding.{reaches, greatest, halfWeight, searchLimit};
 use columns::Weight;
 
 // A number that mostly is the greatest: v + 0.5 without its fraction, or the end of 0 to max that is nearer.
@@ -23,7 +23,7 @@ fn near(max: u64, v: f64) -> u64
 
 // Whether v >= n - 0.5.
 fn is_reached(v: f64, n: u64) -> bool
-    requires { ⌜ n ≤ 500_000_000_001 ⌝ }
+    requires { ⌜ n ≤ searchLimit + 1 ⌝ }
     ensures { λ r. ⌜ r ≡ reaches v n ⌝ }
 {
     v >= (n as f64) - 0.5
@@ -31,7 +31,7 @@ fn is_reached(v: f64, n: u64) -> bool
 
 // n where v reaches it, else 0.
 fn reached_at(v: f64, n: u64) -> u64
-    requires { ⌜ n ≤ 500_000_000_000 ⌝ }
+    requires { ⌜ n ≤ searchLimit ⌝ }
     ensures { λ r. ⌜ (r ≤ n) × ((r ≡ 0) ⊎ (reaches v r ≡ true)) ⌝ }
 {
     if is_reached(v, n) { n } else { 0 }
@@ -39,7 +39,7 @@ fn reached_at(v: f64, n: u64) -> u64
 
 // The number after n where v does not reach it, else the one after max: v reaches none from there to max.
 fn missed_from(max: u64, v: f64, n: u64) -> u64
-    requires { ⌜ (n ≤ max) × (max ≤ 500_000_000_000) ⌝ }
+    requires { ⌜ (n ≤ max) × (max ≤ searchLimit) ⌝ }
     ensures { λ r. ⌜ (n < r) × (r ≤ max + 1) × ((k : ℕ) → r ≤ k → k ≤ max → reaches v k ≡ false) ⌝ }
 {
     if is_reached(v, n + 1) { max + 1 } else { n + 1 }
@@ -48,7 +48,7 @@ fn missed_from(max: u64, v: f64, n: u64) -> u64
 // The greatest n of 0 to max with n = 0 or v >= n - 0.5: lo is such a number, and no number from hi on is. Two tests of a near number
 // mostly leave nothing between them.
 fn greatest_reached(max: u64, v: f64) -> u64
-    requires { ⌜ max ≤ 500_000_000_000 ⌝ }
+    requires { ⌜ max ≤ searchLimit ⌝ }
     ensures { λ r. ⌜ r ≡ greatest v max ⌝ }
 {
     let n = near(max, v);

@@ -16,10 +16,10 @@ rest u m l h = elim (decLe m (l - u)) [
 ]
 
 returns : tie.Need-returns
-returns c = let s = c .before .args in sym (lt-leb (s .used + s .more) (s .length) (omega arith))
+returns c = let s = c .before .args in sym (lt-leb (s .used + s .more) (s .places) (omega arith))
 
 returns-2 : tie.Need-returns-2
-returns-2 c = let s = c .before .args in rest (s .used) (s .more) (s .length) (c .if1 .left)
+returns-2 c = let s = c .before .args in rest (s .used) (s .more) (s .places) (c .if1 .left)
 
 pub has-room-spec : {M : Type 1} → statement M
 has-room-spec = tie.close (tie.spec returns returns-2)

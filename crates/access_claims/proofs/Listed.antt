@@ -23,7 +23,7 @@ use Rattle.columns_answers.specs.declared.SyndromeCounts.the-variants.{Counts}
 use Rattle.columns_answers.proofs.Said.{zero-of, values-of}
 use Rattle.columns_room.specs.Room.{twoLong}
 use Rattle.columns_marks.specs.Marks.{isSet, listed, names, marks}
-use Rattle.columns_marks.proofs.Listing.{chosen-at, chosen-has, listed-few, listed-list}
+use Rattle.columns_marks.proofs.Listing.{chosen-at, chosen-has, listed-list}
 use Rattle.access_calls.specs.Calls.{Syndrome, setMarksRefusal, SetMarks, countsSound, setSyndromeRefusal, SetSyndrome, getMarksRefusal, GotMarks, getSyndromeRefusal, GotSyndrome, Code, Initializer, initializerRefusal, GotInitializer}
 use Rattle.access_calls.proofs.Refusals.{set-met, set-syndrome-met, get-met, get-syndrome-met, initializer-met}
 use Rattle.access_claims.specs.AccessCalled.{DefectsGot, defects-got, ErasuresGot, erasures-got, SyndromeGot, syndrome-got, InitializerGot, initializer-got, DefectsSet, defects-set, ErasuresSet, erasures-set, SyndromeSet, syndrome-set}
@@ -61,9 +61,8 @@ module _ (n : ℕ) (bytes list₀ list : List ℕ) (count : ℕ) (g : Got n byte
 
   lists-bytes : ListsBytes n bytes list₀ list count
   lists-bytes = record {
-    ascending = listed-list n count bytes list₀ list (g .count-is) (g .list-is);
+    ascending = listed-list n count bytes list₀ list (g .room) (g .count-is) (g .list-is);
     lists-set = λ k. (stands-set k, set-stands k);
-    same-length = ap length (g .list-is) ∙ length-over (listed n bytes) list₀ (omega (arith, g .room, listed-few bytes n));
   }
 
 -- from what the calls promise

@@ -3,7 +3,7 @@ use Prim.Native.Nat.{ℕ, _<_}
 use mathlib.Core.Path.{_≡_}
 use mathlib.Core.Logic.{_↔_}
 use mathlib.Core.List.{List}
-use lib.ListN.{length, getD}
+use lib.ListN.{getD}
 use Rattle.columns_answers.specs.declared.ListCount.the-variants.{Count}
 use Rattle.columns_answers.specs.declared.SyndromeCounts.the-variants.{Counts}
 use Rattle.columns_marks.specs.Marks.{AscendingList}
@@ -24,7 +24,6 @@ pub record ListsBytes (n : ℕ) (bytes list₀ list : List ℕ) (count : ℕ) : 
   pub ascending : AscendingList count list₀ list
   -- It has all of them and nothing else.
   pub lists-set : (k : ℕ) → StandsIn count list k ↔ ByteSet n bytes k
-  pub same-length : length list ≡ length list₀
 
 -- Sampling, syndromes, reordering, paragraph 2, sentence 4: of every accepted getter that hands back such a list.
 pub record GetterLists : Type 0 where

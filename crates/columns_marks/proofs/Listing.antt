@@ -10,7 +10,7 @@ use lib.ListN.{length, getD, length-append, List·getD-append}
 use lib.Seq.{sets, getD-append-add}
 use lib.Dec.{eqb}
 use Rattle.columns.specs.Lists.{joined, when, over}
-use Rattle.columns.proofs.Columns.{sets-append, over-in, over-past}
+use Rattle.columns.proofs.Columns.{sets-append, over-in, over-past, length-over}
 use Rattle.columns.proofs.Counting.{joined-more, joined-same}
 use Rattle.columns_neighbors.specs.Lists.{chosen}
 use Rattle.columns_marks.specs.Marks.{isSet, listed, AscendingList}
@@ -116,8 +116,8 @@ unfolding chosen
 chosen-same n f g h = joined-same n _ _ (λ k l. ap (λ (b : Bool). when b k) (h k l))
 
 -- a column that was written with such a list
-pub chosen-list : (test : ℕ → Bool) (k n : ℕ) (list₀ list : List ℕ) → n ≡ length (chosen k test) → list ≡ over (chosen k test) list₀ → AscendingList n list₀ list
-chosen-list test k n list₀ list many is = record {
+pub chosen-list : (test : ℕ → Bool) (k n : ℕ) (list₀ list : List ℕ) → k ≤ length list₀ → n ≡ length (chosen k test) → list ≡ over (chosen k test) list₀ → AscendingList n list₀ list
+chosen-list test k n list₀ list room many is = record {
   ascends = λ i j h l.
       omega (
         arith,
@@ -126,11 +126,13 @@ chosen-list test k n list₀ list many is = record {
         chosen-ascends test k i j h (omega arith),
       );
   unchanged = λ i h. ap (λ (x : List ℕ). getD x i 0) is ∙ over-past (chosen k test) list₀ 0 i (omega arith);
+  fits = let few = chosen-few test k in omega (arith, ap length is ∙ length-over (chosen k test) list₀ (omega (arith, few, room)), few);
+  same-length = ap length is ∙ length-over (chosen k test) list₀ (omega (arith, chosen-few test k, room));
 }
 
-pub listed-list : (k n : ℕ) (column list₀ list : List ℕ) → n ≡ length (listed k column) → list ≡ over (listed k column) list₀ → AscendingList n list₀ list
+pub listed-list : (k n : ℕ) (column list₀ list : List ℕ) → k ≤ length list₀ → n ≡ length (listed k column) → list ≡ over (listed k column) list₀ → AscendingList n list₀ list
 unfolding listed
-listed-list k n column list₀ list many is = chosen-list (λ u. isSet (getD column u 0)) k n list₀ list many is
+listed-list k n column list₀ list room many is = chosen-list (λ u. isSet (getD column u 0)) k n list₀ list room many is
 
 -- ---- a loop that lists the bytes that are set
 

@@ -3,7 +3,7 @@ use Prim.Native.Nat.{ℕ, _<_, _≤_}
 use mathlib.Core.Path.{_≡_}
 use mathlib.Core.Bool.{Bool, false, not, _||_, cond}
 use mathlib.Core.List.{List, [], _∷_}
-use lib.ListN.{getD}
+use lib.ListN.{getD, length}
 use lib.Seq.{sets}
 use lib.Dec.{eqb}
 use Rattle.columns.specs.Lists.{each}
@@ -25,6 +25,8 @@ Ascending n list = (i j : ℕ) → i < j → j < n → getD list i 0 < getD list
 pub record AscendingList (n : ℕ) (list₀ list : List ℕ) : Type 0 where
   pub ascends : Ascending n list
   pub unchanged : (i : ℕ) → n ≤ i → getD list i 0 ≡ getD list₀ i 0
+  pub fits : n ≤ length list
+  pub same-length : length list ≡ length list₀
 
 -- Sampling, syndromes, reordering, paragraph 2, sentence 4: such a list goes on; where its first places hold the numbers
 -- below `from` whose byte is set, they hold those below `to` afterwards.

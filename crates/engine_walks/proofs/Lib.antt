@@ -1,7 +1,7 @@
--- Examples: document 01's listing and small graphs, computed. Sums: laws of lists. LowerBound, UpperBound: potentials, cancelled walks.
+-- Computed: document 01's listing and small graphs. Sums: laws of lists. LowerBound, UpperBound: potentials, cancelled walks.
 -- LeastWeights, Offers, FirstLeast, Turns, Stopping: settling gives least weights, comes to rest and stops at its end. Tree, Limits: the way back, the size of sums.
 -- TableAndPath, LeastCrossing, TwoGraphs: the claims. Neighbors, TurnCases: settling along neighbour lists and case by case, for code.
-pub mod Examples
+pub mod Computed
 pub mod Sums
 pub mod LowerBound
 pub mod UpperBound

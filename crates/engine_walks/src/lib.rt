@@ -1,5 +1,6 @@
 // Walks, edge sets and settling: what is claimed of their definitions. Each claim is the contract of a function with nothing to do.
 ghost use Rattle.engine_walks.specs.Claims.{SettlingIsLeast, TableIsLeast, PathIsLeast, SumsFit, CrossingIsLeast, CrossingIsBounded, CertificateDecides, WeightsCompare};
+ghost use Rattle.engine_walks.specs.Examples.{SettlingExamples};
 
 // A taken vertex has the least weight of a walk from a source, also after an early stop; where nothing waits, all that is joined was taken.
 pub fn settling_is_least()
@@ -40,4 +41,9 @@ pub fn certificate_decides()
 // Two graphs alike in ends and boundary bytes: equal weights give equal crossings, left columns and table weights, nowhere greater weights nowhere greater ones.
 pub fn weights_compare()
     ensures { λ _. ⌜ WeightsCompare ⌝ }
+{}
+
+// Settling, tables, paths and crossings on document 01's listing and on graphs that tell wrong tie rules apart.
+pub fn settling_examples()
+    ensures { λ _. ⌜ SettlingExamples ⌝ }
 {}

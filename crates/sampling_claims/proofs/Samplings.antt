@@ -7,7 +7,7 @@ use native.Mathlib.Decide.{ℕ-discrete}
 use native.Mathlib.Omega.{arith}
 use lib.ListN.{length, getD, take, replicate, length-replicate, getD-replicate}
 use lib.Seq.{take-append-le, take-all}
-use lib.Ieee.{Float, lt}
+use lib.Ieee.{Float, binary64, ofBits, lt}
 use lib.Dec.{eqb}
 use borrow.Author.Tests.{eq-eqb, ne-eqb}
 use Rattle.columns.specs.Lists.{each}
@@ -128,12 +128,13 @@ draws-at r m e (draw-then κs a d s h ds) (suc i) l =
     draws-at r (suc m) (h .1 ∙ ap nextOf e) ds i (omega arith) ∙ ap (λ (n : ℕ). drawNumber r n) same
 
 pub takes-two-draws : TakesTwoDraws
-unfolding advanced
+unfolding advanced drawOf ofBits
 takes-two-draws = record {
   two-draws = λ seed g p pe s₀ s d e c. two-draws seed g p pe s₀ s d e (sampling-promise c);
   in-order = λ seed g values c ds i l.
       let same : 0 + i + 1 ≡ i + 1 = omega arith in
       draws-at (seedFromU64 seed) 0 (seed-is c) ds i l ∙ ap (λ (n : ℕ). drawNumber (seedFromU64 seed) n) same;
+  fraction = λ word. (ofBits binary64 0x4330000000000000, (refl, refl), refl);
 }
 
 -- ---- the syndrome

@@ -1,17 +1,19 @@
 -- Samplings: two draws for every edge, what two with one seed have in common, and which syndrome one leaves.
-use Prim.Native.Nat.{ℕ, _+_, _*_, _≤_, _<_}
+use Prim.Native.Nat.{ℕ, _+_, _*_, _/_, _^_, _≤_, _<_}
 use mathlib.Core.Path.{_≡_}
-use mathlib.Core.Bool.{cond}
+use mathlib.Core.Bool.{false, cond}
 use mathlib.Core.List.{List}
 use lib.ListN.{length, getD, take}
-use lib.Ieee.{Float, lt}
+use lib.IntN.{pos}
+use lib.Ieee.{Float, binary64, div, ofInt, lt}
+use lib.Ieee.Exact.{HasValue}
 use Rattle.columns.specs.Places.{zeroFloat, half}
 use Rattle.columns_answers.specs.declared.SyndromeCounts.the-variants.{Counts}
 use Rattle.columns_answers.specs.declared.ListCount.the-variants.{Count}
 use Rattle.columns_room.specs.Graph.{CodeGraph}
 use Rattle.columns_marks.specs.Marks.{Ascending, names, marks}
 use Rattle.sampling_generator.specs.declared.DeterministicRng.{DeterministicRng}
-use Rattle.sampling_generator.specs.Random.{seedFromU64}
+use Rattle.sampling_generator.specs.Random.{seedFromU64, drawOf}
 use Rattle.sampling_edges.specs.Draws.{drawNumber, sampledErrors}
 use Rattle.sampling_calls.specs.Records.{SyndromeColumns}
 use Rattle.sampling_calls.specs.Syndrome.{syndromeOf}
@@ -52,11 +54,12 @@ pub record TwoDraws (seed : ℕ) (g : CodeGraph) (p pe : List Float) (s : Syndro
   pub ascends : Ascending (length (drawnErrors seed g p pe)) (drawnErrors seed g p pe)
 
 -- Sampling, syndromes, reordering, paragraph 1, sentences 4 and 5: of every accepted sampling; and draw number n of a seed is what the generator that the seed gives
--- yields as its draw number n.
+-- yields as its draw number n; a draw is (word >> 12) / 2⁵².
 pub record TakesTwoDraws : Type 0 where
   pub two-draws : (seed : ℕ) (g : CodeGraph) (p pe : List Float) (s₀ s : SyndromeColumns) (d e : ℕ) → SamplingReturned seed g p pe s₀ (Counts d e) s → TwoDraws seed g p pe s
   pub in-order : (seed : ℕ) (g : DeterministicRng) (values : List Float) → SeedReturned seed g → DrawsReturned g values
       → (i : ℕ) → i < length values → getD values i zeroFloat ≡ drawOfSeed seed (i + 1)
+  pub fraction : (word : ℕ) → (d : Float) × HasValue d false (2 ^ 52) 1 × (drawOf word ≡ div binary64 (ofInt binary64 (pos (word / 2 ^ 12))) d)
 
 -- ---- the syndrome of a sampling
 

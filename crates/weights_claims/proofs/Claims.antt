@@ -1,11 +1,12 @@
 -- The claims, from what the calls promise and from the theorems about the definitions. Assumes nothing.
 use mathlib.Core.Path.{_≡_, refl, sym, ap, _∙_}
 use mathlib.Core.Logic.{inl, inr}
-use mathlib.Core.Bool.{Bool, true, false, _&&_, false≢true}
-use mathlib.Core.List.{List}
+use mathlib.Core.Bool.{Bool, true, false, _&&_, _||_, false≢true}
+use mathlib.Core.List.{List, [], _∷_}
 use Prim.Native.Nat.{ℕ, zero, suc, _≤_, _<_}
 use native.Mathlib.Omega.{arith}
-use lib.ListN.{length, getD, take, length-map, List·getD-map}
+use lib.ListN.{length, getD, take, length-take, length-map, List·getD-map}
+use lib.Seq.{getD-take}
 use lib.Dec.{leb, eqb}
 use lib.Ieee.{Float, lt, le, ofBits, toBits}
 use borrow.Author.Tests.{leb-true}
@@ -19,7 +20,7 @@ use Rattle.columns_answers.proofs.Said.{values-of}
 use Rattle.weights_recipe.specs.Probabilities.{isProbability}
 use Rattle.weights_recipe.specs.Logarithm.{edgeWeight}
 use Rattle.weights_recipe.specs.Rounding.{greatest, scaled, atLeastOne, halfWeight}
-use Rattle.weights_recipe.proofs.Floats.{in-range}
+use Rattle.weights_recipe.proofs.Floats.{in-range, one-is, half-is, two-is, three-is, thirty-five-is, least-is}
 use Rattle.weights_recipe.proofs.Recipe.{zero-weight}
 use Rattle.weights_recipe.proofs.Halvings.{by-recipe}
 use Rattle.weights_recipe.proofs.Search.{greatest-is, nan-reaches}
@@ -29,7 +30,7 @@ use Rattle.weights_calls.specs.Calls.{edgeWeights, largestWeight, someAbove, is
 use Rattle.weights_calls.proofs.Largest.{is-largest, some-above}
 use Rattle.weights_calls.proofs.Theorems.{written, one-to-max, one-zero, all-half}
 use Rattle.weights_claims.specs.Called.{WeightReturned, weight-returned, WeightsReturned, weights-returned}
-use Rattle.weights_claims.specs.Claims.{HalvedUntilBelow2, IsLargest, IsHalfWeight, HalfWeightsAreGreatest, OneZero, AllHalf}
+use Rattle.weights_claims.specs.Claims.{HalvedUntilBelow2, IsLargest, IsHalfWeight, HalfWeightsAreGreatest, OneZero, AllHalf, ConstantsAre}
 
 -- ---- the call's own promise
 
@@ -108,8 +109,35 @@ half-weights-are-greatest = record {
   nan-reaches-none = nan-reaches;
 }
 
+-- the w of p = 0 is above 0
+some-zero : (ps : List Float) (i : ℕ) → i < length ps → getD ps i zeroFloat ≡ zeroFloat → someAbove (edgeWeights ps) ≡ true
+unfolding someAbove lt ofBits
+some-zero [] i h e = absurd (omega arith)
+some-zero (p ∷ ps) zero h e = ap (λ (x : Float). lt zeroFloat x || someAbove (edgeWeights ps)) (ap edgeWeight e ∙ zero-weight)
+some-zero (p ∷ ps) (suc i) h e = ap (λ (b : Bool). lt zeroFloat (edgeWeight p) || b) (some-zero ps i (omega arith) e) ∙ or-true (lt zeroFloat (edgeWeight p))
+  where
+    or-true : (b : Bool) → (b || true) ≡ true
+    or-true true = refl
+    or-true false = refl
+
+-- a question, and what follows where it is met
+met-then : (b : Bool) (q n m : ℕ) → (b ≡ true → n ≡ m) → ask b q n ≡ ask b q m
+met-then true q n m f = f refl
+met-then false q n m f = refl
+
 pub one-zero-one : OneZero
-one-zero-one edges p column₀ max column c i l e k h = one-zero (promise c) refl i l e k h
+one-zero-one = record {
+  half-weights = λ edges p column₀ max column c i l e k h. one-zero (promise c) refl i l e k h;
+  number = λ edges p column₀ max r column c i l e.
+      promise c .answers .number-is
+      ∙ met-then (leb edges (length p) && leb edges (length column₀)) 6 _ _ (λ six.
+      let long = leb-true edges (length p) (and-both (leb edges (length p)) (leb edges (length column₀)) six .0) in
+      ap (λ (b : Bool). ask (leb edges edgeLimit) 7 (ask (isLargestHalfWeight max) 8 (ask (all isProbability (take edges p)) 9 (ask b 10 0))))
+      (some-zero (take edges p) i (omega (arith, length-take edges p, long)) (getD-take edges p i zeroFloat l ∙ e)));
+}
+
+pub constants : ConstantsAre
+constants = record { one-is = one-is; half-is = half-is; two-is = two-is; three-is = three-is; thirty-five-is = thirty-five-is; least-is = least-is }
 
 -- ---- every p 0.5
 
@@ -129,4 +157,4 @@ all-half-ten edges p column₀ max r column c f =
     let long = and-both (leb edges (length p)) (leb edges (length column₀)) six in
     let range = and-both (leb 1 max) (leb max halfWeightLimit) eight in
     all-half edges p column₀ max (leb-true edges (length p) (long .0)) (leb-true edges (length column₀) (long .1)) (leb-true edges edgeLimit seven) (leb-true 1 max (range .0))
-    (leb-true max halfWeightLimit (range .1)) f)
+    (leb-true max halfWeightLimit (range .1)) (λ k h. f k h (omega (arith, leb-true edges (length p) (long .0)))))

@@ -39,7 +39,7 @@ pub record BuiltCode (kind d rounds : ℕ) : Type 0 where
   pub touched : (v : ℕ) → v < vertexNum kind d rounds → 1 ≤ length (listOf kind d rounds v)
   pub ascending : (v j k : ℕ) → j < k → k < length (listOf kind d rounds v) → getD (listOf kind d rounds v) j 0 < getD (listOf kind d rounds v) k 0
 
--- Six builders and Questions at the door, 7: for every accepted code. The verdict 0 of `sanity_check` is claimed in the crate claims, SoundCodes.
+-- Six builders and Questions at the door, 7: for every accepted code. The verdict 0 of `sanity_check` is claimed in the crate sanity_claims.
 abbrev pub CodesAreSound : Type 0
 CodesAreSound = (kind d rounds : ℕ) → Buildable kind d rounds → BuiltCode kind d rounds
 

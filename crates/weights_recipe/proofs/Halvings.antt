@@ -19,7 +19,7 @@ use lib.Ieee.Positive.{num, den, den-pos, positive, positive-of-value, le→cros
 use Rattle.columns.specs.Places.{zeroFloat, one, half}
 use Rattle.weights_recipe.specs.Constants.{two, leastP}
 use Rattle.weights_recipe.specs.Probabilities.{isInRange}
-use Rattle.weights_recipe.specs.Logarithm.{Halved, halve, halved, odds, logarithm, edgeWeight, ByRecipe}
+use Rattle.weights_recipe.specs.Logarithm.{Halved, halve, halvedTimes, odds, logarithm, edgeWeight, ByRecipe}
 use Rattle.weights_recipe.proofs.Floats.{half-is, half-pos, one-pos, two-pos, least-pos}
 use Rattle.weights_recipe.proofs.Recipe.{from, ended, past-zero}
 
@@ -216,14 +216,14 @@ module _ where
   pub record Place (q : Float) (k : ℕ) (m : Halved) : Type 0 where
     pub count : ℕ
     pub times : m .k ≡ k + count
-    pub rest : m .m ≡ halved count q
-    pub before : (j : ℕ) → j < count → lt (halved j q) two ≡ false
+    pub rest : m .m ≡ halvedTimes count q
+    pub before : (j : ℕ) → j < count → lt (halvedTimes j q) two ≡ false
 
   none : (j : ℕ) {P : Type 0} → j < 0 → P
   none j h = absurd (not-suc-le-zero h)
 
   place : (fuel : ℕ) (b : Bool) (q : Float) (k : ℕ) → lt q two ≡ b → Place q k (halve fuel b q k)
-  unfolding halve halved
+  unfolding halve halvedTimes
   place zero b q k e = record { count = 0; times = omega arith; rest = refl; before = λ j h. none j h }
   place (suc f) true q k e = record { count = 0; times = omega arith; rest = refl; before = λ j h. none j h }
   place (suc f) false q k e =
@@ -233,7 +233,7 @@ module _ where
       next : (a b : ℕ) → a + 1 + b ≡ a + suc b
       next a b = omega arith
 
-      at-each : {n : ℕ} (j : ℕ) → j < suc n → ((i : ℕ) → i < n → lt (halved i (mul binary64 q half)) two ≡ false) → lt (halved j q) two ≡ false
+      at-each : {n : ℕ} (j : ℕ) → j < suc n → ((i : ℕ) → i < n → lt (halvedTimes i (mul binary64 q half)) two ≡ false) → lt (halvedTimes j q) two ≡ false
       at-each zero h g = e
       at-each (suc j) h g = g j (le-of-suc-le-suc h)
 
@@ -248,7 +248,7 @@ by-recipe p t =
       k = r .count;
       few = subst (λ (n : ℕ). n ≤ 40) c (e .turns);
       until = record { below = subst (λ (x : Float). lt x two ≡ true) (r .rest) (e .below); before = r .before };
-      result = sym (past-zero p m (range-not-zero p t) refl) ∙ same m (r .count) (halved (r .count) (odds p)) c (r .rest);
+      result = sym (past-zero p m (range-not-zero p t) refl) ∙ same m (r .count) (halvedTimes (r .count) (odds p)) c (r .rest);
     }
   where
     plus : (n : ℕ) → 0 + n ≡ n

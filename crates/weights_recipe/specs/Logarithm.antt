@@ -24,14 +24,14 @@ halve (suc most) true q k = record { m = q; k = k }
 halve (suc most) false q k = halve most (lt (mul binary64 q half) two) (mul binary64 q half) (k + 1)
 
 -- Weights, on the logarithm, sentence 3: q halved k times, for any k.
-unfoldable pub halved : (k : ℕ) (q : Float) → Float
-halved zero q = q
-halved (suc k) q = halved k (mul binary64 q half)
+unfoldable pub halvedTimes : (k : ℕ) (q : Float) → Float
+halvedTimes zero q = q
+halvedTimes (suc k) q = halvedTimes k (mul binary64 q half)
 
 -- Weights, on the logarithm, sentence 3: halve q until it is below 2, k times: halved k times it is below 2, halved fewer times it is not.
 pub record UntilBelow2 (q : Float) (k : ℕ) : Type 0 where
-  pub below : lt (halved k q) two ≡ true
-  pub before : (j : ℕ) → j < k → lt (halved j q) two ≡ false
+  pub below : lt (halvedTimes k q) two ≡ true
+  pub before : (j : ℕ) → j < k → lt (halvedTimes j q) two ≡ false
 
 -- Weights, on the logarithm, sentence 3: h = h·z + 1/(2n+1) for each n from `count` - 1 down to 0.
 unfoldable pub series : (count : ℕ) (z h : Float) → Float
@@ -58,4 +58,4 @@ pub record ByRecipe (p w : Float) : Type 0 where
   pub k : ℕ
   pub few : k ≤ 40
   pub until : UntilBelow2 (odds p) k
-  pub result : w ≡ logarithm (record { m = halved k (odds p); k = k })
+  pub result : w ≡ logarithm (record { m = halvedTimes k (odds p); k = k })

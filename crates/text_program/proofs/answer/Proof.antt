@@ -1,11 +1,11 @@
--- `codelist::answer` meets its contract: `codelist` gives a text for every input where the column has room, and `show` promises the length of that text. Assumes nothing.
+-- `text_program::answer` meets its contract: `codelist` gives a text for every input where the column has room, and `show` promises the length of that text. Assumes nothing.
 use mathlib.Core.Path.{_≡_}
 use Prim.Native.Nat.{ℕ}
 use native.Mathlib.Omega.{arith}
-use Rattle.codelist.proofs.Shown.{shown, never}
+use Rattle.text_program.proofs.Shown.{shown, never}
 use borrow.Author.Needs.{needs}
-use Rattle.codelist.proofs.answer.Statement.{statement}
-use Rattle.codelist.proofs.answer.Tie as tie
+use Rattle.text_program.proofs.answer.Statement.{statement}
+use Rattle.text_program.proofs.answer.Tie as tie
 
 show-requires : tie.Need-show-requires
 show-requires c κs =

@@ -1,0 +1,4 @@
+// `codelist` on an empty input.
+fn main() {
+    text_program::run();
+}

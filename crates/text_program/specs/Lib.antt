@@ -1,0 +1,2 @@
+-- Reading: what a read answers.
+pub mod Reading

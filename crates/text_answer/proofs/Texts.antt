@@ -19,10 +19,17 @@ use Rattle.text_input.specs.declared.LineRead.{LineRead}
 use Rattle.text_input.specs.declared.LineRead.the-variants.{WellFormed, NotWellFormed}
 use Rattle.text_input.specs.Line.{wellFormed, lineOf, ReadsLine}
 use Rattle.text_listing.specs.Listing.{codeText}
-use Rattle.text_listing.proofs.Texts.{renamed}
+use Rattle.text_listing.proofs.Texts.{renamed, fitting}
 use Rattle.text_answer.specs.declared.Listed.the-variants as call
 use Rattle.text_answer.specs.Answer.{textBy, textOf, answerText, textRoom, textRefusal, CodeListed}
 use Rattle.text_answer.proofs.Sizes.{every-text-fits}
+
+module _ (line : LineRead) {room : ℕ} where
+  pub damaged-fits : line ≡ NotWellFormed → length (textOf line) ≤ room → length (refusalLine 1) ≤ room
+  damaged-fits q h = fitting (ap textOf (sym q)) h
+
+  pub sound-fits : (l : CodeLine) (x : Float) → x ≡ ofBits binary64 (l .bits) → line ≡ WellFormed l → length (textOf line) ≤ room → length (codeText (l .kind) (l .d) (l .rounds) x (l .max)) ≤ room
+  sound-fits l x f q h = fitting (ap (λ (y : Float). codeText (l .kind) (l .d) (l .rounds) y (l .max)) f ∙ ap textOf (sym q)) h
 
 module _ (line : LineRead) {t₀ t : List ℕ} {r : ℕ} where
   pub damaged-line : Put t₀ 0 (refusalLine 1) t r → line ≡ NotWellFormed → Put t₀ 0 (textOf line) t r

@@ -5,6 +5,8 @@ use text_input::read_line;
 use text_listing::CodeArguments;
 use text_listing::write_code;
 use text_numbers::lines::write_refusal;
+ghost use Prim.Native.Nat.{_≤_};
+ghost use lib.ListN.{length};
 ghost use Rattle.text_numbers.specs.Steps.{Put};
 ghost use Rattle.text_answer.specs.Answer.{textOf, CodeListed};
 ghost use Rattle.text_answer.specs.Claims.{EveryTextFits};
@@ -20,6 +22,7 @@ pub const TEXT_ROOM: usize = 320_000;
 
 // The text for an input line.
 fn write_answer(line: LineRead, text: &mut [u8]) -> usize
+    requires { ⌜ length (textOf line) ≤ length (now text) ⌝ }
     ensures { λ r. ⌜ Put (now (text .entry)) 0 (textOf line) (now (text .exit)) r ⌝ }
 {
     match line {

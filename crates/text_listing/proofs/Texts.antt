@@ -2,9 +2,9 @@
 use mathlib.Core.Path.{_≡_, refl, sym, ap, _∙_, subst}
 use mathlib.Core.List.{List, [], _∷_, _++_}
 use mathlib.Core.Option.{Option, some, none}
-use Prim.Native.Nat.{ℕ, _<_}
+use Prim.Native.Nat.{ℕ, _≤_, _<_}
 use native.Mathlib.Omega.{arith}
-use lib.ListN.{getD, take}
+use lib.ListN.{length, getD, take}
 use lib.Seq.{getD-take}
 use lib.Ieee.{Float}
 use Rattle.columns.specs.Lists.{joined}
@@ -66,6 +66,29 @@ module _ (kind d rounds : ℕ) (p : Float) (max v e : ℕ) (a b w m : List ℕ) 
 pub renamed : {xs ys t₀ t : List ℕ} {at r : ℕ} → xs ≡ ys → Put t₀ at xs t r → Put t₀ at ys t r
 renamed {xs} {ys} {t₀} {t} {at} {r} e p = subst (λ (l : List ℕ). Put t₀ at l t r) e p
 
+-- a text that is another has its room
+pub fitting : {xs ys : List ℕ} {room : ℕ} → xs ≡ ys → length ys ≤ room → length xs ≤ room
+fitting {xs} {ys} {room} e h = subst (λ (l : List ℕ). length l ≤ room) (sym e) h
+
+module _ (kind d rounds v e : ℕ) (m a b w : List ℕ) (reply : CrossingReply) {room : ℕ} where
+  pub refused-reply-fits : (n : ℕ) → reply ≡ Refused n → length (replyText kind d rounds v e m a b w reply) ≤ room → length (refusalLine n) ≤ room
+  refused-reply-fits n q h = fitting (ap (replyText kind d rounds v e m a b w) (sym q)) h
+
+  pub crossed-reply-fits : (weight : ℕ) → reply ≡ Crossed weight → length (replyText kind d rounds v e m a b w reply) ≤ room → length (listing kind d rounds v e m a b w weight) ≤ room
+  crossed-reply-fits weight q h = fitting (ap (replyText kind d rounds v e m a b w) (sym q)) h
+
+-- an answer that is no refusal has the listing
+built-text : (kind d rounds : ℕ) (p : Float) (max : ℕ) (answer : Created) → ((n : ℕ) → answer ≡ made.Refused n → ⊥) → listingOf kind d rounds p max ≡ madeText kind d rounds p max answer
+built-text kind d rounds p max (made.Code v e) f = refl
+built-text kind d rounds p max (made.Refused n) f = absurd (f n refl)
+
+module _ (kind d rounds : ℕ) (p : Float) (max : ℕ) (answer : Created) {room : ℕ} where
+  pub refused-made-fits : (n : ℕ) → answer ≡ made.Refused n → length (madeText kind d rounds p max answer) ≤ room → length (refusalLine n) ≤ room
+  refused-made-fits n q h = fitting (ap (madeText kind d rounds p max) (sym q)) h
+
+  pub built-made-fits : ((n : ℕ) → answer ≡ made.Refused n → ⊥) → length (madeText kind d rounds p max answer) ≤ room → length (listingOf kind d rounds p max) ≤ room
+  built-made-fits f h = fitting (built-text kind d rounds p max answer f) h
+
 module _ (kind d rounds v e : ℕ) (m a b w : List ℕ) (reply : CrossingReply) {t₀ t : List ℕ} {r : ℕ} where
   pub refused-reply : (n : ℕ) → Put t₀ 0 (refusalLine n) t r → reply ≡ Refused n → Put t₀ 0 (replyText kind d rounds v e m a b w reply) t r
   refused-reply n p q = renamed (ap (replyText kind d rounds v e m a b w) (sym q)) p
@@ -82,11 +105,7 @@ module _ (kind d rounds : ℕ) (p : Float) (max : ℕ) (answer : Created) {t₀ 
   refused-made n x q = renamed (ap (madeText kind d rounds p max) (sym q)) x
 
   pub built-made : Put t₀ 0 (listingOf kind d rounds p max) t r → ((n : ℕ) → answer ≡ made.Refused n → ⊥) → Put t₀ 0 (madeText kind d rounds p max answer) t r
-  built-made x f = renamed (go answer refl) x
-    where
-      go : (y : Created) → answer ≡ y → listingOf kind d rounds p max ≡ madeText kind d rounds p max answer
-      go (made.Code v e) q = ap (madeText kind d rounds p max) (sym q)
-      go (made.Refused n) q = absurd (f n q)
+  built-made x f = renamed (built-text kind d rounds p max answer f) x
 
 pub holds-made : {kind d rounds : ℕ} {p : Float} {max : ℕ} {a b h m : List ℕ} (answer : Created) (v e : ℕ) → MadeHolds kind d rounds p max a b h m answer → answer ≡ made.Code v e → HoldsCode kind d rounds p max v e a b h m
 holds-made {kind} {d} {rounds} {p} {max} {a} {b} {h} {m} answer v e x q = subst (MadeHolds kind d rounds p max a b h m) q x
@@ -99,6 +118,9 @@ module _ (kind d rounds : ℕ) (p : Float) (max : ℕ) (lent back : CodeColumns)
   made-text : (answer : Created) → NewCode kind d rounds p max lent back answer → madeText kind d rounds p max answer ≡ codeText kind d rounds p max
   made-text (made.Code v e) c = accepted-text kind d rounds p max lent back room v e c
   made-text (made.Refused n) c = refused-text kind d rounds p max lent back room n c
+
+  pub made-fits : (answer : Created) → NewCode kind d rounds p max lent back answer → {n : ℕ} → length (codeText kind d rounds p max) ≤ n → length (madeText kind d rounds p max answer) ≤ n
+  made-fits answer c h = fitting (made-text answer c) h
 
   pub made-put : (answer : Created) → NewCode kind d rounds p max lent back answer → {t₀ t : List ℕ} {r : ℕ} → Put t₀ 0 (madeText kind d rounds p max answer) t r → Put t₀ 0 (codeText kind d rounds p max) t r
   made-put answer c x = renamed (made-text answer c) x

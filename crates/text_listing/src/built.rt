@@ -127,6 +127,7 @@ fn write_reply(
 ) -> usize
     requires { ⌜ (v ≤ 1024) × (v ≤ length (now boundary)) × (e ≤ 6144) × (e ≤ length (now «ends_a»)) × (e ≤ length (now «ends_b»)) ⌝ }
     requires { ⌜ e ≤ length (now weights) ⌝ }
+    requires { ⌜ length (replyText (code .kind) (code .d) (code .rounds) v e (now boundary) (now «ends_a») (now «ends_b») (now weights) reply) ≤ length (now text) ⌝ }
     ensures { λ r. ⌜ Put (now (text .entry)) 0 (replyText (code .kind) (code .d) (code .rounds) v e (now (boundary .entry)) (now («ends_a» .entry)) (now («ends_b» .entry)) (now (weights .entry)) reply) (now (text .exit)) r ⌝ }
 {
     match reply {
@@ -163,6 +164,7 @@ fn write_weighed(
 ) -> usize
     requires { ⌜ HoldsCode (code .kind) (code .d) (code .rounds) (code .probability) (code .max) v e (now «ends_a») (now «ends_b») (now «half_weight») (now boundary) ⌝ }
     requires { ⌜ length (now weights) ≡ 6144 ⌝ }
+    requires { ⌜ length (listingOf (code .kind) (code .d) (code .rounds) (code .probability) (code .max)) ≤ length (now text) ⌝ }
     ensures { λ r. ⌜ Put (now (text .entry)) 0 (listingOf (code .kind) (code .d) (code .rounds) (code .probability) (code .max)) (now (text .exit)) r ⌝ }
 {
     store_weights(half_weight, e as usize, weights);
@@ -182,6 +184,7 @@ pub fn write_built(
     text: &mut [u8],
 ) -> usize
     requires { ⌜ HoldsCode (code .kind) (code .d) (code .rounds) (code .probability) (code .max) v e (now «ends_a») (now «ends_b») (now «half_weight») (now boundary) ⌝ }
+    requires { ⌜ length (listingOf (code .kind) (code .d) (code .rounds) (code .probability) (code .max)) ≤ length (now text) ⌝ }
     ensures { λ r. ⌜ Put (now (text .entry)) 0 (listingOf (code .kind) (code .d) (code .rounds) (code .probability) (code .max)) (now (text .exit)) r ⌝ }
 {
     let mut weights: [Weight; 6144] = [0; 6144];

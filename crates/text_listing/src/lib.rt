@@ -7,6 +7,8 @@ use codes_calls::Created;
 use codes_calls::weighted::new;
 use columns::Weight;
 use text_numbers::lines::write_refusal;
+ghost use Prim.Native.Nat.{_≤_};
+ghost use lib.ListN.{length};
 ghost use Rattle.text_numbers.specs.Steps.{Put};
 ghost use Rattle.text_listing.specs.Listing.{codeText};
 ghost use Rattle.text_listing.specs.Claims.{EveryCodeCrosses};
@@ -23,6 +25,7 @@ fn write_made(
     text: &mut [u8],
 ) -> usize
     requires { ⌜ MadeHolds (code .kind) (code .d) (code .rounds) (code .probability) (code .max) (now «ends_a») (now «ends_b») (now «half_weight») (now boundary) made ⌝ }
+    requires { ⌜ length (madeText (code .kind) (code .d) (code .rounds) (code .probability) (code .max) made) ≤ length (now text) ⌝ }
     ensures { λ r. ⌜ Put (now (text .entry)) 0 (madeText (code .kind) (code .d) (code .rounds) (code .probability) (code .max) made) (now (text .exit)) r ⌝ }
 {
     match made {
@@ -31,8 +34,9 @@ fn write_made(
     }
 }
 
-// The text for a code, over columns for 1,024 vertices.
+// The text for a code, over columns for 1,024 vertices. The text column has to have room for all of it.
 pub fn write_code(code: CodeArguments, text: &mut [u8]) -> usize
+    requires { ⌜ length (codeText (code .kind) (code .d) (code .rounds) (code .probability) (code .max)) ≤ length (now text) ⌝ }
     ensures { λ r. ⌜ Put (now (text .entry)) 0 (codeText (code .kind) (code .d) (code .rounds) (code .probability) (code .max)) (now (text .exit)) r ⌝ }
 {
     let mut ends_a = [0u32; 6144];

@@ -1,4 +1,4 @@
-// Bytes and decimal numbers of a text, and the lines of a listing. A text column that is too short keeps as much of it as it has places for.
+// Bytes and decimal numbers of a text, and the lines of a listing.
 pub mod lines;
 
 ghost use mathlib.Core.Path.{_≡_};
@@ -18,7 +18,7 @@ fn store(text: &mut [u8], at: usize, b: u8)
 }
 
 // Stores a byte where the text has a place for it.
-pub fn put_byte(text: &mut [u8], at: usize, b: u8) -> usize
+fn put_byte(text: &mut [u8], at: usize, b: u8) -> usize
     requires { ⌜ at ≤ 20000000 ⌝ }
     ensures { λ r. ⌜ Put (now (text .entry)) at (b ∷ []) (now (text .exit)) r ⌝ }
 {
@@ -78,7 +78,7 @@ fn put_decimal(text: &mut [u8], at: usize, n: u32) -> usize
 }
 
 // Stores a comma and a number.
-pub fn put_field(text: &mut [u8], at: usize, n: u32) -> usize
+fn put_field(text: &mut [u8], at: usize, n: u32) -> usize
     requires { ⌜ at ≤ 18000000 ⌝ }
     ensures { λ r. ⌜ Put (now (text .entry)) at (0x2c ∷ decimal n) (now (text .exit)) r × (r ≤ at + 11) ⌝ }
 {

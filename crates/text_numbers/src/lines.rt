@@ -1,4 +1,4 @@
-// The text that `codelist` prints. A text column that is too short keeps as much of it as it has places for.
+// The text that `codelist` prints, in a text column that has room for it.
 use super::put_byte;
 use super::put_field;
 use columns::EdgeIndex;
@@ -102,6 +102,7 @@ fn put_graph(text: &mut [u8], kind: u32, d: u32, rounds: u32, vertices: u32, edg
 
 // Writes a refusal; answers how many bytes it has.
 pub fn write_refusal(text: &mut [u8], number: u32) -> usize
+    requires { ⌜ length (refusalLine number) ≤ length (now text) ⌝ }
     ensures { λ r. ⌜ Put (now (text .entry)) 0 (refusalLine number) (now (text .exit)) r ⌝ }
 {
     put_one(text, 0, b'r', number)
@@ -128,6 +129,7 @@ pub fn write_listing(
 ) -> usize
     requires { ⌜ (g .vertices ≤ 4096) × (g .vertices ≤ length (now boundary)) ⌝ }
     requires { ⌜ (g .edges ≤ 32768) × (g .edges ≤ length (now «ends_a»)) × (g .edges ≤ length (now «ends_b»)) × (g .edges ≤ length (now weights)) ⌝ }
+    requires { ⌜ length (listing (g .kind) (g .d) (g .rounds) (g .vertices) (g .edges) (now boundary) (now «ends_a») (now «ends_b») (now weights) crossing) ≤ length (now text) ⌝ }
     ensures { λ r. ⌜ Put (now (text .entry)) 0 (listing (g .kind) (g .d) (g .rounds) (g .vertices) (g .edges) (now (boundary .entry)) (now («ends_a» .entry)) (now («ends_b» .entry)) (now (weights .entry)) crossing) (now (text .exit)) r ⌝ }
 {
     let a = put_graph(text, g.kind, g.d, g.rounds, g.vertices, g.edges);

@@ -4,7 +4,7 @@ use Prim.Native.Nat.{ℕ}
 use lib.Ieee.{Float, binary64, ofBits}
 use lib.ListN.{length-replicate}
 use Rattle.text_listing.proofs.Room.{room-of}
-use Rattle.text_listing.proofs.Texts.{made-holds, made-put}
+use Rattle.text_listing.proofs.Texts.{made-holds, made-fits, made-put}
 use Rattle.text_listing.proofs.write_code.Statement.{statement}
 use Rattle.text_listing.proofs.write_code.Tie as tie
 
@@ -36,7 +36,9 @@ slice-aggregate-write-made-4 : tie.Need-slice-aggregate-write-made-4
 slice-aggregate-write-made-4 c = sym (c .before .before .before .before .before .before .before .boundary2 .given ∙ length-replicate {A = ℕ} 1024 0)
 
 write-made-requires : tie.Need-write-made-requires
-write-made-requires c κs = made-holds _ _ _ _ _ _ _ (room-of _ (length-replicate {A = ℕ} 6144 0) (length-replicate {A = ℕ} 6144 0) (length-replicate {A = Float} 6144 (ofBits binary64 0x0)) (length-replicate {A = Float} 6144 (ofBits binary64 0x0)) (length-replicate {A = ℕ} 6144 0) (length-replicate {A = ℕ} 6144 0) (length-replicate {A = Float} 1024 (ofBits binary64 0x0)) (length-replicate {A = Float} 1024 (ofBits binary64 0x0)) (length-replicate {A = Float} 1024 (ofBits binary64 0x0)) (length-replicate {A = ℕ} 1024 0) (length-replicate {A = ℕ} 1024 0) (length-replicate {A = ℕ} 1024 0) (length-replicate {A = ℕ} 12288 0)) (c .before .before .before .before .before .before .before .before .before .before .before .before .before .before .before .before .before .before .new .result) (c .before .before .before .before .before .before .before .before .before .before .before .before .before .before .before .before .before .before .new .ensures)
+write-made-requires c κs =
+    let made = c .before .before .before .before .before .before .before .before .before .before .before .before .before .before .before .before .before .before .new in
+    (made-holds _ _ _ _ _ _ _ (room-of _ (length-replicate {A = ℕ} 6144 0) (length-replicate {A = ℕ} 6144 0) (length-replicate {A = Float} 6144 (ofBits binary64 0x0)) (length-replicate {A = Float} 6144 (ofBits binary64 0x0)) (length-replicate {A = ℕ} 6144 0) (length-replicate {A = ℕ} 6144 0) (length-replicate {A = Float} 1024 (ofBits binary64 0x0)) (length-replicate {A = Float} 1024 (ofBits binary64 0x0)) (length-replicate {A = Float} 1024 (ofBits binary64 0x0)) (length-replicate {A = ℕ} 1024 0) (length-replicate {A = ℕ} 1024 0) (length-replicate {A = ℕ} 1024 0) (length-replicate {A = ℕ} 12288 0)) (made .result) (made .ensures), made-fits _ _ _ _ _ _ _ (room-of _ (length-replicate {A = ℕ} 6144 0) (length-replicate {A = ℕ} 6144 0) (length-replicate {A = Float} 6144 (ofBits binary64 0x0)) (length-replicate {A = Float} 6144 (ofBits binary64 0x0)) (length-replicate {A = ℕ} 6144 0) (length-replicate {A = ℕ} 6144 0) (length-replicate {A = Float} 1024 (ofBits binary64 0x0)) (length-replicate {A = Float} 1024 (ofBits binary64 0x0)) (length-replicate {A = Float} 1024 (ofBits binary64 0x0)) (length-replicate {A = ℕ} 1024 0) (length-replicate {A = ℕ} 1024 0) (length-replicate {A = ℕ} 1024 0) (length-replicate {A = ℕ} 12288 0)) (made .result) (made .ensures) (c .before .before .before .before .before .before .before .before .before .before .before .before .before .before .before .before .before .before .before .before .before .before .before .before .before .before .before .before .before .before .before .before .before .pre))
 
 returns : tie.Need-returns
 returns c = made-put _ _ _ _ _ _ _ (room-of _ (length-replicate {A = ℕ} 6144 0) (length-replicate {A = ℕ} 6144 0) (length-replicate {A = Float} 6144 (ofBits binary64 0x0)) (length-replicate {A = Float} 6144 (ofBits binary64 0x0)) (length-replicate {A = ℕ} 6144 0) (length-replicate {A = ℕ} 6144 0) (length-replicate {A = Float} 1024 (ofBits binary64 0x0)) (length-replicate {A = Float} 1024 (ofBits binary64 0x0)) (length-replicate {A = Float} 1024 (ofBits binary64 0x0)) (length-replicate {A = ℕ} 1024 0) (length-replicate {A = ℕ} 1024 0) (length-replicate {A = ℕ} 1024 0) (length-replicate {A = ℕ} 12288 0)) (c .before .before .before .before .before .before .before .before .before .before .before .before .before .before .before .before .before .before .before .before .before .new .result) (c .before .before .before .before .before .before .before .before .before .before .before .before .before .before .before .before .before .before .before .before .before .new .ensures) (c .before .before .write-made .ensures)

@@ -3,7 +3,7 @@ use native.Mathlib.Omega.{arith}
 use Prim.Native.Nat.{ℕ, _≤_}
 use Rattle.text_listing.proofs.Holds.{h-few, h-long, holds-weights}
 use Rattle.text_listing.proofs.Crossed.{lengths}
-use Rattle.text_listing.proofs.Texts.{listed-reply}
+use Rattle.text_listing.proofs.Texts.{listed-reply, reply-is, fitting}
 use Rattle.text_listing.proofs.built.write_weighed.Statement.{statement}
 use Rattle.text_listing.proofs.built.write_weighed.Tie as tie
 
@@ -11,16 +11,18 @@ store-weights-requires : tie.Need-store-weights-requires
 store-weights-requires c κs =
     let s = c .before .before .before .before .before .before .before .args in
     let h = c .before .before .before .before .before .before .before .pre .0 in
-    ((h-long _ _ _ _ _ _ _ _ _ _ _ h, omega (arith, c .before .before .before .before .before .before .before .pre .1, h .few-edges)), h-few _ _ _ _ _ _ _ _ _ _ _ h)
+    ((h-long _ _ _ _ _ _ _ _ _ _ _ h, omega (arith, c .before .before .before .before .before .before .before .pre .1 .0, h .few-edges)), h-few _ _ _ _ _ _ _ _ _ _ _ h)
 
 crossing-of-requires : tie.Need-crossing-of-requires
 crossing-of-requires c κs = holds-weights _ _ _ _ _ _ _ _ _ _ _ (c .before .before .before .before .before .before .before .before .before .before .before .pre .0) _ _ (c .before .before .before .store-weights .ensures)
 
 write-reply-requires : tie.Need-write-reply-requires
 write-reply-requires c κs =
-    let h = c .before .before .before .before .before .before .before .before .before .before .before .before .before .before .pre .0 in
-    let w = lengths _ _ _ _ _ _ _ _ _ _ _ (holds-weights _ _ _ _ _ _ _ _ _ _ _ h _ _ (c .before .before .before .before .before .before .store-weights .ensures)) in
-    ((h .few-vertices, w .3, h .few-edges, w .0, w .1), w .2)
+    let s = c .before .before .before .before .before .before .before .before .before .before .before .before .before .before in
+    let h = s .pre .0 in
+    let k = holds-weights _ _ _ _ _ _ _ _ _ _ _ h _ _ (c .before .before .before .before .before .before .store-weights .ensures) in
+    let w = lengths _ _ _ _ _ _ _ _ _ _ _ k in
+    ((h .few-vertices, w .3, h .few-edges, w .0, w .1), (w .2, fitting (reply-is _ _ _ _ _ _ _ _ _ _ _ k (c .before .before .crossing-of .result) (c .before .before .crossing-of .ensures)) (s .pre .1 .1)))
 
 returns : tie.Need-returns
 returns c =

@@ -14,11 +14,11 @@ put-vertices-requires c κs = (omega (arith, c .before .before .before .put-grap
 
 put-edges-requires : tie.Need-put-edges-requires
 put-edges-requires c κs =
-    let p = c .before .before .before .before .before .before .before .before .before .before .before .before .before .before .pre .1 in
+    let p = c .before .before .before .before .before .before .before .before .before .before .before .before .before .before .pre .1 .0 in
     (omega (arith, c .before .before .before .put-vertices .ensures .next, c .before .before .before .before .before .before .before .put-graph .ensures .next, c .before .before .before .before .before .before .before .before .before .before .before .before .before .before .pre .0 .0, ended-few (c .before .before .before .before .before .before .before .before .before .before .before .before .before .before .args .g .kind ∷ c .before .before .before .before .before .before .before .before .before .before .before .before .before .before .args .g .d ∷ c .before .before .before .before .before .before .before .before .before .before .before .before .before .before .args .g .rounds ∷ c .before .before .before .before .before .before .before .before .before .before .before .before .before .before .args .g .vertices ∷ c .before .before .before .before .before .before .before .before .before .before .before .before .before .before .args .g .edges ∷ []), vertex-lines-few (c .before .before .before .before .before .before .before .before .before .before .before .before .before .before .args .g .vertices) (c .before .before .before .before .before .before .before .before .before .before .before .before .before .before .args .boundary .now)), p .0, p .1, p .2, p .3)
 
 put-one-requires : tie.Need-put-one-requires
-put-one-requires c κs = omega (arith, c .before .before .before .put-edges .ensures .next, c .before .before .before .before .before .before .before .put-vertices .ensures .next, c .before .before .before .before .before .before .before .before .before .before .before .put-graph .ensures .next, c .before .before .before .before .before .before .before .before .before .before .before .before .before .before .before .before .before .before .pre .0 .0, c .before .before .before .before .before .before .before .before .before .before .before .before .before .before .before .before .before .before .pre .1 .0, ended-few (c .before .before .before .before .before .before .before .before .before .before .before .before .before .before .before .before .before .before .args .g .kind ∷ c .before .before .before .before .before .before .before .before .before .before .before .before .before .before .before .before .before .before .args .g .d ∷ c .before .before .before .before .before .before .before .before .before .before .before .before .before .before .before .before .before .before .args .g .rounds ∷ c .before .before .before .before .before .before .before .before .before .before .before .before .before .before .before .before .before .before .args .g .vertices ∷ c .before .before .before .before .before .before .before .before .before .before .before .before .before .before .before .before .before .before .args .g .edges ∷ []), vertex-lines-few (c .before .before .before .before .before .before .before .before .before .before .before .before .before .before .before .before .before .before .args .g .vertices) (c .before .before .before .before .before .before .before .before .before .before .before .before .before .before .before .before .before .before .args .boundary .now), edge-lines-few (c .before .before .before .before .before .before .before .before .before .before .before .before .before .before .before .before .before .before .args .g .edges) (c .before .before .before .before .before .before .before .before .before .before .before .before .before .before .before .before .before .before .args .ends-a .now) (c .before .before .before .before .before .before .before .before .before .before .before .before .before .before .before .before .before .before .args .ends-b .now) (c .before .before .before .before .before .before .before .before .before .before .before .before .before .before .before .before .before .before .args .weights .now))
+put-one-requires c κs = omega (arith, c .before .before .before .put-edges .ensures .next, c .before .before .before .before .before .before .before .put-vertices .ensures .next, c .before .before .before .before .before .before .before .before .before .before .before .put-graph .ensures .next, c .before .before .before .before .before .before .before .before .before .before .before .before .before .before .before .before .before .before .pre .0 .0, c .before .before .before .before .before .before .before .before .before .before .before .before .before .before .before .before .before .before .pre .1 .0 .0, ended-few (c .before .before .before .before .before .before .before .before .before .before .before .before .before .before .before .before .before .before .args .g .kind ∷ c .before .before .before .before .before .before .before .before .before .before .before .before .before .before .before .before .before .before .args .g .d ∷ c .before .before .before .before .before .before .before .before .before .before .before .before .before .before .before .before .before .before .args .g .rounds ∷ c .before .before .before .before .before .before .before .before .before .before .before .before .before .before .before .before .before .before .args .g .vertices ∷ c .before .before .before .before .before .before .before .before .before .before .before .before .before .before .before .before .before .before .args .g .edges ∷ []), vertex-lines-few (c .before .before .before .before .before .before .before .before .before .before .before .before .before .before .before .before .before .before .args .g .vertices) (c .before .before .before .before .before .before .before .before .before .before .before .before .before .before .before .before .before .before .args .boundary .now), edge-lines-few (c .before .before .before .before .before .before .before .before .before .before .before .before .before .before .before .before .before .before .args .g .edges) (c .before .before .before .before .before .before .before .before .before .before .before .before .before .before .before .before .before .before .args .ends-a .now) (c .before .before .before .before .before .before .before .before .before .before .before .before .before .before .before .before .before .before .args .ends-b .now) (c .before .before .before .before .before .before .before .before .before .before .before .before .before .before .before .before .before .before .args .weights .now))
 
 returns : tie.Need-returns
 unfolding listing

@@ -1,12 +1,15 @@
 // Vertices from edges.
 ghost use mathlib.Core.Path.{_≡_};
 ghost use Prim.Native.Nat.{_*_, _≤_};
-ghost use lib.ListN.{length};
+ghost use lib.ListN.{length, replicate};
+ghost use lib.Seq.{sets};
 ghost use Rattle.columns.specs.Lists.{over};
+ghost use Rattle.columns.specs.Places.{zeroFloat};
 ghost use Rattle.columns_neighbors.specs.Lists.{lists, degrees};
 ghost use Rattle.columns_neighbors.specs.Steps.{InRange};
 ghost use Rattle.access_calls.specs.Fill.{vertexColumnsLong, fillRefusal, FilledVertices, verticesIn};
 use columns::Done;
+use columns::VisualizePosition;
 use columns::done_of;
 use columns::questions::asked;
 use columns::questions::both;
@@ -14,7 +17,6 @@ use columns_neighbors::lists::fill_lists;
 use columns_neighbors::sound::graph_sound;
 use columns_room::edge_columns_long;
 use columns_room::three_long;
-use columns_stores::fill_f64;
 use columns_stores::fill_u8;
 
 // Question 6 of the vertex columns.
@@ -92,6 +94,20 @@ fn write_lists(
     );
 }
 
+// Builds a position for each of n vertices: 0, 0, 0.
+fn fill_positions(pos_i: &mut [f64], pos_j: &mut [f64], pos_t: &mut [f64], n: usize)
+    ensures { λ _. ⌜ now («pos_i» .exit) ≡ sets (now («pos_i» .entry)) 0 (replicate n zeroFloat) ⌝ }
+    ensures { λ _. ⌜ now («pos_j» .exit) ≡ sets (now («pos_j» .entry)) 0 (replicate n zeroFloat) ⌝ }
+    ensures { λ _. ⌜ now («pos_t» .exit) ≡ sets (now («pos_t» .entry)) 0 (replicate n zeroFloat) ⌝ }
+{
+    let mut v: usize = 0;
+    while v < n {
+        let position = VisualizePosition::new(0.0, 0.0, 0.0);
+        position.store(pos_i, pos_j, pos_t, v);
+        v += 1;
+    }
+}
+
 // New vertices for the edges: at position 0, inner, without defect, with their neighbour lists.
 pub fn fill_vertices(
     vertex_num: u32,
@@ -126,9 +142,7 @@ pub fn fill_vertices(
     );
     if number == 0 {
         let n = vertex_num as usize;
-        fill_f64(pos_i, n, 0.0);
-        fill_f64(pos_j, n, 0.0);
-        fill_f64(pos_t, n, 0.0);
+        fill_positions(pos_i, pos_j, pos_t, n);
         fill_u8(boundary, n, 0);
         fill_u8(defect, n, 0);
         write_lists(

@@ -15,34 +15,34 @@ use Rattle.access_calls.proofs.fill.fill_vertices.Tie as tie
 
 write-lists-requires : tie.Need-write-lists-requires
 write-lists-requires c κs =
-    let s = c .before .before .before .before .before .before .before .before .before .before .before .before .before .before .before .before .before .before .before .before .before .before .before .before .before .before .before .before .before .before .before .before .before .before .before .before .before .before .before .before .args in
+    let s = c .before .before .before .before .before .before .before .before .before .before .before .before .before .before .before .before .before .before .before .before .before .before .before .before .before .before .before .before .before .before .before .before .before .before .before .before .before .before .args in
     let a = s .ends-a .now in
     let b = s .ends-b .now in
     let col = vertices (s .pos-i .now) (s .pos-j .now) (s .pos-t .now) (s .boundary .now) (s .defect .now) (s .list-lengths .now) (s .neighbor-numbers .now) in
     let v = s .vertex-num in
     let e = s .edge-num in
     let q = fillRefusal v e a b col in
-    let m = fill-met v e a b col (sym (c .before .before .before .before .before .before .before .before .before .before .before .before .before .before .before .before .before .before .before .before .before .before .before .fill-refusal .ensures) ∙ c .before .before .before .before .before .before .before .before .before .before .before .before .before .before .before .before .before .before .before .before .before .before .if1 .taken) in
+    let m = fill-met v e a b col (sym (c .before .before .before .before .before .before .before .before .before .before .before .before .before .before .before .before .before .before .before .before .before .fill-refusal .ensures) ∙ c .before .before .before .before .before .before .before .before .before .before .before .before .before .before .before .before .before .before .before .before .if1 .taken) in
     let g = m .sound in
     ((g .long-a, g .long-b, m .listLengths, m .neighborNumbers), (g .few-edges, g .few-vertices, g .in-a, g .in-b))
 
 returns : tie.Need-returns
 returns c =
-    let s = c .before .before .before .before .before .before .before .before .before .before .before .before .before .before .before .before .before .before .before .before .before .before .before .before .before .before .before .before .before .before .before .before .before .before .before .before .before .before .before .before .before .before .before .before .before .args in
+    let s = c .before .before .before .before .before .before .before .before .before .before .before .before .before .before .before .before .before .before .before .before .before .before .before .before .before .before .before .before .before .before .before .before .before .before .before .before .before .before .before .before .before .before .before .args in
     let a = s .ends-a .now in
     let b = s .ends-b .now in
     let col = vertices (s .pos-i .now) (s .pos-j .now) (s .pos-t .now) (s .boundary .now) (s .defect .now) (s .list-lengths .now) (s .neighbor-numbers .now) in
     let v = s .vertex-num in
     let e = s .edge-num in
     let q = fillRefusal v e a b col in
-    let z : q ≡ 0 = sym (c .before .before .before .before .before .before .before .before .before .before .before .before .before .before .before .before .before .before .before .before .before .before .before .before .before .before .before .before .fill-refusal .ensures) ∙ c .before .before .before .before .before .before .before .before .before .before .before .before .before .before .before .before .before .before .before .before .before .before .before .before .before .before .before .if1 .taken in
+    let z : q ≡ 0 = sym (c .before .before .before .before .before .before .before .before .before .before .before .before .before .before .before .before .before .before .before .before .before .before .before .before .before .before .fill-refusal .ensures) ∙ c .before .before .before .before .before .before .before .before .before .before .before .before .before .before .before .before .before .before .before .before .before .before .before .before .before .if1 .taken in
     let m = fill-met v e a b col z in
     let w = c .before .before .before .before .write-lists .ensures in
     record {
       answers = accepts-of z;
-      posI-after = c .before .before .before .before .before .before .before .before .before .before .before .before .before .before .before .before .before .before .before .before .before .before .before .before .before .fill-f64 .ensures ∙ fill-after v q (s .pos-i .now) zeroFloat z (m .posI);
-      posJ-after = c .before .before .before .before .before .before .before .before .before .before .before .before .before .before .before .before .before .before .before .before .before .fill-f642 .ensures ∙ fill-after v q (s .pos-j .now) zeroFloat z (m .posJ);
-      posT-after = c .before .before .before .before .before .before .before .before .before .before .before .before .before .before .before .before .before .fill-f643 .ensures ∙ fill-after v q (s .pos-t .now) zeroFloat z (m .posT);
+      posI-after = c .before .before .before .before .before .before .before .before .before .before .before .before .before .before .before .before .before .before .before .before .before .fill-positions .ensures .0 ∙ fill-after v q (s .pos-i .now) zeroFloat z (m .posI);
+      posJ-after = c .before .before .before .before .before .before .before .before .before .before .before .before .before .before .before .before .before .before .before .before .before .fill-positions .ensures .1 .0 ∙ fill-after v q (s .pos-j .now) zeroFloat z (m .posJ);
+      posT-after = c .before .before .before .before .before .before .before .before .before .before .before .before .before .before .before .before .before .before .before .before .before .fill-positions .ensures .1 .1 ∙ fill-after v q (s .pos-t .now) zeroFloat z (m .posT);
       boundary-after = c .before .before .before .before .before .before .before .before .before .before .before .before .before .fill-u8 .ensures ∙ fill-after v q (s .boundary .now) 0 z (m .boundary);
       defect-after = c .before .before .before .before .before .before .before .before .before .fill-u82 .ensures ∙ fill-after v q (s .defect .now) 0 z (m .defect);
       listLengths-after = w .0 ∙ sym (after-accepted q (degrees a b e v) (s .list-lengths .now) z);
@@ -72,4 +72,4 @@ returns-2 c =
     }
 
 pub fill-vertices-spec : {M : Type 1} → statement M
-fill-vertices-spec = tie.close (tie.spec (λ c κs. tt) (λ c κs. tt) (λ c κs. tt) (λ c κs. tt) (λ c κs. tt) (λ c κs. tt) write-lists-requires (λ c. c .before .before .before .before .before .before .before .before .before .before .before .before .before .before .before .before .before .before .before .before .before .before .before .before .pos-i .given) (λ c. c .before .before .before .before .before .before .before .before .before .before .before .before .before .before .before .before .before .before .before .before .pos-j .given) (λ c. c .before .before .before .before .before .before .before .before .before .before .before .before .before .before .before .before .pos-t .given) (λ c. c .before .before .before .before .before .before .before .before .before .before .before .before .boundary .given) (λ c. c .before .before .before .before .before .before .before .before .defect .given) (λ c. c .before .before .before .list-lengths .given) (λ c. c .before .neighbor-numbers .given) returns (λ c κs. tt) (λ c. search needs) (λ c. search needs) (λ c. search needs) (λ c. search needs) (λ c. search needs) (λ c. search needs) (λ c. search needs) returns-2)
+fill-vertices-spec = tie.close (tie.spec (λ c κs. tt) (λ c κs. tt) (λ c κs. tt) (λ c κs. tt) write-lists-requires (λ c. c .before .before .before .before .before .before .before .before .before .before .before .before .before .before .before .before .before .before .before .before .pos-i .given) (λ c. c .before .before .before .before .before .before .before .before .before .before .before .before .before .before .before .before .before .before .pos-j .given) (λ c. c .before .before .before .before .before .before .before .before .before .before .before .before .before .before .before .before .pos-t .given) (λ c. c .before .before .before .before .before .before .before .before .before .before .before .before .boundary .given) (λ c. c .before .before .before .before .before .before .before .before .defect .given) (λ c. c .before .before .before .list-lengths .given) (λ c. c .before .neighbor-numbers .given) returns (λ c κs. tt) (λ c. search needs) (λ c. search needs) (λ c. search needs) (λ c. search needs) (λ c. search needs) (λ c. search needs) (λ c. search needs) returns-2)

@@ -11,20 +11,27 @@ use borrow.Author.Needs.{needs}
 use Rattle.access_vertices.proofs.positions.get_positions.Statement.{statement}
 use Rattle.access_vertices.proofs.positions.get_positions.Tie as tie
 
+copy-positions-requires : tie.Need-copy-positions-requires
+copy-positions-requires c κs =
+    let s = c .before .before .before .before .before .before .before .before .before .before .before .before .before .before .args in
+    let l = positions-long (s .vertex-num) (positions (s .pos-i .now) (s .pos-j .now) (s .pos-t .now)) (positions (s .to-i .now) (s .to-j .now) (s .to-t .now)) (sym (c .before .before .before .before .positions-refusal .ensures) ∙ c .before .before .before .if1 .taken) in
+    (l .0 .0, l .0 .1, l .0 .2)
+
 returns : tie.Need-returns
 returns c =
-    let s = c .before .before .before .before .before .before .before .before .before .before .before .before .before .before .before .before .before .before .before .before .before .before .before .args in
+    let s = c .before .before .before .before .before .before .before .before .before .before .before .before .before .before .before .before .before .before .before .before .before .args in
     let from = positions (s .pos-i .now) (s .pos-j .now) (s .pos-t .now) in
     let to = positions (s .to-i .now) (s .to-j .now) (s .to-t .now) in
     let v = s .vertex-num in
     let q = positionsRefusal v from to in
-    let z : q ≡ 0 = sym (c .before .before .before .before .before .before .before .before .before .before .before .before .before .positions-refusal .ensures) ∙ c .before .before .before .before .before .before .before .before .before .before .before .before .if1 .taken in
+    let z : q ≡ 0 = sym (c .before .before .before .before .before .before .before .before .before .before .before .positions-refusal .ensures) ∙ c .before .before .before .before .before .before .before .before .before .before .if1 .taken in
     let l = positions-long v from to z in
+    let e = c .before .before .before .before .before .before .copy-positions .ensures in
     record {
       answers = accepts-of z;
-      posI-after = c .before .before .before .before .before .before .before .before .before .before .copy-f64 .ensures ∙ copy-after v q (to .posI) (from .posI) z (l .0 .0) (l .1 .0);
-      posJ-after = c .before .before .before .before .before .before .copy-f642 .ensures ∙ copy-after v q (to .posJ) (from .posJ) z (l .0 .1) (l .1 .1);
-      posT-after = c .before .before .copy-f643 .ensures ∙ copy-after v q (to .posT) (from .posT) z (l .0 .2) (l .1 .2);
+      posI-after = e .0 ∙ copy-after v q (to .posI) (from .posI) z (l .0 .0) (l .1 .0);
+      posJ-after = e .1 .0 ∙ copy-after v q (to .posJ) (from .posJ) z (l .0 .1) (l .1 .1);
+      posT-after = e .1 .1 ∙ copy-after v q (to .posT) (from .posT) z (l .0 .2) (l .1 .2);
     }
 
 returns-2 : tie.Need-returns-2
@@ -44,4 +51,4 @@ returns-2 c =
     }
 
 pub get-positions-spec : {M : Type 1} → statement M
-get-positions-spec = tie.close (tie.spec (λ c κs. tt) (λ c κs. tt) (λ c κs. tt) (λ c κs. tt) (λ c. c .before .before .before .before .before .before .before .before .before .to-i .given) (λ c. c .before .before .before .before .before .to-j .given) (λ c. c .before .to-t .given) returns (λ c κs. tt) (λ c. search needs) (λ c. search needs) (λ c. search needs) returns-2)
+get-positions-spec = tie.close (tie.spec (λ c κs. tt) copy-positions-requires (λ c. c .before .before .before .before .before .to-i .given) (λ c. c .before .before .before .to-j .given) (λ c. c .before .to-t .given) returns (λ c κs. tt) (λ c. search needs) (λ c. search needs) (λ c. search needs) returns-2)

@@ -1,3 +1,2 @@
--- Shown: the text column starts with the text. Signs: what a read answered, by its sign.
+-- Shown: the text column starts with the text.
 mod Shown
-mod Signs

@@ -1,16 +1,14 @@
 // The program `codelist`, as one call that several programs make.
 // Every byte of standard output goes through `print`, whose caller has to show that it lends the whole text for the input and nothing else. No contract can say
-// what a call of C reads or writes, so this is left to the reader and to the runs of the programs: that `read_input` reads standard input to the buffer,
+// what a call of C reads or writes, so this is left to the reader and to the runs of the programs: that `text_reading::read_input` reads standard input to the buffer,
 // that `run` makes its one call, that `read_and_answer` hands on exactly the bytes read, and that `print` and `report` write. Of an input longer than the
 // buffer a part is read, which is refused as the whole would be (`text_input::long_inputs_alike`).
-mod reading;
-
 use libc::STDERR_FILENO;
 use libc::STDOUT_FILENO;
-use reading::InputRead;
-use reading::read_input;
 use text_answer::Listed;
 use text_answer::codelist;
+use text_reading::InputRead;
+use text_reading::read_input;
 ghost use mathlib.Core.Path.{_≡_};
 ghost use Prim.Native.Nat.{_≤_};
 ghost use lib.ListN.{length, take};

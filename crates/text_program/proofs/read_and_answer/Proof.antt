@@ -1,7 +1,7 @@
 -- `text_program::read_and_answer` meets its contract: no more bytes were read than the buffer has places. Assumes nothing.
 use mathlib.Core.Path.{sym}
 use lib.Seq.{length-take-le}
-use Rattle.text_program.proofs.Signs.{bytes-within}
+use Rattle.text_reading.proofs.Signs.{bytes-within}
 use borrow.Author.Needs.{needs}
 use Rattle.text_program.proofs.read_and_answer.Statement.{statement}
 use Rattle.text_program.proofs.read_and_answer.Tie as tie

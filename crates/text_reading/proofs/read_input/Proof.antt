@@ -1,12 +1,12 @@
--- `text_program::reading::read_input` meets its contract. Invariant: `done` bytes are read, no more than the buffer has places; each turn reads some. Assumes nothing.
+-- `text_reading::read_input` meets its contract. Invariant: `done` bytes are read, no more than the buffer has places; each turn reads some. Assumes nothing.
 use mathlib.Core.Path.{_≡_, _∙_}
 use Prim.Native.Nat.{_≤_, _-_}
 use native.Mathlib.Omega.{arith}
 use lib.ListN.{length}
 use borrow.Author.Needs.{needs}
-use Rattle.text_program.proofs.Signs.{bytes-within}
-use Rattle.text_program.proofs.reading.read_input.Statement.{statement}
-use Rattle.text_program.proofs.reading.read_input.Tie as tie
+use Rattle.text_reading.proofs.Signs.{bytes-within}
+use Rattle.text_reading.proofs.read_input.Statement.{statement}
+use Rattle.text_reading.proofs.read_input.Tie as tie
 
 abbrev Inv-loop : tie.InvT-loop
 Inv-loop buffer₀ done₀ buffer done = (done ≤ length buffer) × (length buffer ≡ length buffer₀)

@@ -1,8 +1,8 @@
 -- What reading standard input answers: document 01, "The program `codelist`".
 use Prim.Native.Nat.{ℕ, _≤_, min}
 use lib.IntN.{ℤ, pos, negsuc}
-use Rattle.text_program.specs.declared.reading.InputRead.{InputRead}
-use Rattle.text_program.specs.declared.reading.InputRead.the-variants.{Bytes, Failed}
+use Rattle.text_reading.specs.declared.InputRead.{InputRead}
+use Rattle.text_reading.specs.declared.InputRead.the-variants.{Bytes, Failed}
 
 -- The program codelist, sentence 1: what a read of C answers: below 0 where it failed, else how many bytes it put, 0 at the input's end.
 abbrev pub readOf : (got : ℤ) (places : ℕ) → InputRead

@@ -10,9 +10,9 @@ use mir.Syntax.{w64}
 use mir.Val.{toZ, ofZ, SFits}
 use mir.ValLaws.{toZ-ofZ}
 use Rattle.io.specs.Counts.{clamped}
-use Rattle.text_program.specs.declared.reading.InputRead.{InputRead}
-use Rattle.text_program.specs.declared.reading.InputRead.the-variants.{Bytes, Failed}
-use Rattle.text_program.specs.Reading.{readOf, ReadWithin}
+use Rattle.text_reading.specs.declared.InputRead.{InputRead}
+use Rattle.text_reading.specs.declared.InputRead.the-variants.{Bytes, Failed}
+use Rattle.text_reading.specs.Reading.{readOf, ReadWithin}
 
 -- a test of what was read back from the bits is one of the number
 tested : (got : ℤ) → SFits w64 got → {b : Bool} → ltZ (toZ w64 (ofZ w64 got)) (pos 0) ≡ b → ltZ got (pos 0) ≡ b

@@ -1,8 +1,8 @@
--- `text_program::reading::read_of` meets its contract: the test tells the sign, and `count` promises the number. Assumes nothing.
+-- `text_reading::read_of` meets its contract: the test tells the sign, and `count` promises the number. Assumes nothing.
 use lib.ListN.{length}
-use Rattle.text_program.proofs.Signs.{failed, counted}
-use Rattle.text_program.proofs.reading.read_of.Statement.{statement}
-use Rattle.text_program.proofs.reading.read_of.Tie as tie
+use Rattle.text_reading.proofs.Signs.{failed, counted}
+use Rattle.text_reading.proofs.read_of.Statement.{statement}
+use Rattle.text_reading.proofs.read_of.Tie as tie
 
 returns : tie.Need-returns
 returns c = let s = c .before .before in failed (length (s .args .places .now)) (s .args .got) (s .fits .got) (c .if1 .taken)

@@ -3,7 +3,7 @@ use libc::STDIN_FILENO;
 ghost use mathlib.Core.Path.{_≡_};
 ghost use Prim.Native.Nat.{_-_, _≤_};
 ghost use lib.ListN.{length};
-ghost use Rattle.text_program.specs.Reading.{readOf, ReadWithin};
+ghost use Rattle.text_reading.specs.Reading.{readOf, ReadWithin};
 
 // How many bytes were read to the buffer, or that a read failed.
 pub enum InputRead {

@@ -1,0 +1,2 @@
+-- Signs: what a read answered, by its sign.
+pub mod Signs

@@ -1,19 +1,27 @@
 -- Demand 3. Assumes nothing.
 use mathlib.Core.Path.{_≡_, refl, sym, ap, _∙_, subst}
 use mathlib.Core.Logic.{_↔_}
+use mathlib.Core.Bool.{true}
 use mathlib.Core.List.{List, [], _∷_}
 use mathlib.Core.Option.{Option, some, none}
-use Prim.Native.Nat.{ℕ, _≤_, _<_}
+use Prim.Native.Nat.{ℕ, _*_, _≤_, _<_}
 use native.Mathlib.Omega.{arith}
-use lib.ListN.{getD}
+use lib.ListN.{length, getD, take, replicate, length-replicate, getD-replicate}
+use lib.Seq.{take-all}
+use borrow.Author.Tests.{le-leb}
 use lib.IntN.{ℤ, pos}
 use Rattle.columns.specs.Lists.{each, over}
-use Rattle.columns.specs.Questions.{all}
+use Rattle.columns.specs.Limits.{weightLimit}
+use Rattle.columns.specs.Questions.{ask, all, allWithin, weightsSound}
+use Rattle.columns.proofs.Tests.{both-and, at-within}
 use Rattle.columns_room.specs.Room.{threeLong}
+use Rattle.engine_columns.specs.declared.EngineAnswer.the-variants.{Counts}
 use Rattle.engine_columns.specs.Records.{Engine, engine, counts}
 use Rattle.engine_columns.specs.Calls.{loadErasures, loadWeights}
+use Rattle.engine_columns.specs.Open.{GraphColumns, graphColumns, openRefusal}
+use Rattle.engine_columns.proofs.Refusals.{columns-long-from, long-from}
 use Rattle.engine_tally.specs.Tally.{lengthsOf}
-use Rattle.engine_tally.proofs.Agreement.{Agrees}
+use Rattle.engine_tally.proofs.Agreement.{Agrees, long-same}
 use Rattle.engine_tally.proofs.LastNamed.{weighs-last-named}
 use Rattle.engine_walks.specs.Graph.{Graph, edges, GraphInRange, LeftJoinsRight}
 use Rattle.engine_walks.specs.Settling as S
@@ -25,13 +33,14 @@ use Rattle.engine_walks.proofs.TwoGraphs.{weights-compare}
 use Rattle.query_questions.specs.Scratch.{ScratchColumns, scratchOf, scratchLong}
 use Rattle.query_crossing_answer.specs.declared.CrossingReply.the-variants.{Crossed}
 use Rattle.query_crossing_answer.specs.Crossing.{replyNumber, replyWeight, weightFound}
-use Rattle.claims.specs.Listed.{CallArguments, modifyBy, crossWith, listedCalls, ownLengths, tallyGraph, before18, tallyCrossingRefusal, modifying, modifyingAnswers, numbers}
-use Rattle.claims.specs.Called.{open-called, crossing-called}
-use Rattle.claims.specs.Demand3.{OneHistory, History, CrossingThen, TwoLists, tallyFirst, tallyLast, graphAtEnd, weightsAtEnd, refusedBefore, Demand3}
+use Rattle.claims.specs.Listed.{CallArguments, modifyBy, crossWith, listedCalls, ownLengths, tallyGraph, crossingLong, before18, tallyCrossingRefusal, modifying, modifyingAnswers, numbers}
+use Rattle.claims.specs.Called.{OpenReturned, open-called, crossing-called, no-call}
+use Rattle.claims.specs.Demand3.{OneHistory, DistanceReported, History, CrossingThen, TwoLists, tallyFirst, tallyLast, graphAtEnd, weightsAtEnd, refusedBefore, Demand3}
 use Rattle.claims.proofs.Agreeing.{CrossingBy, range, edges-are, weight-at, crossing-number, accepted-of, accepted-when, column-at, graph-kept}
-use Rattle.claims.proofs.Runs.{FreshGraph, fresh-of, crossing-of, runs, modifying-numbers}
-use Rattle.claims.proofs.Returns.{oneEdge, one-edge-opened, open-returns, opened-when, modifying-returns, crossing-returns, list-returns, lengths-at-end}
-use Rattle.claims.proofs.Built.{BuiltGraph, built-of, handed-on, built-distance}
+use Rattle.claims.proofs.Runs.{FreshGraph, opened-of, fresh-of, crossing-of, runs, modifying-numbers}
+use Rattle.claims.proofs.Returns.{oneEdge, one-edge-opened, open-returns, accepted-open, modifying-returns, crossing-returns, list-returns, lengths-at-end}
+use Rattle.claims.proofs.SomeCode.{some-code}
+use Rattle.claims.proofs.Built.{BuiltGraph, built-of, handed-on, built-distance, built-long, built-accepted}
 
 module _ (h : History) where
   fresh : FreshGraph (h .vertices) (h .edges) (h .handed) (h .fresh)
@@ -215,6 +224,82 @@ one-history = record {
       r ∙ ap (λ o. Crossed (weightFound o)) (sym f ∙ one-found);
 }
 
+-- ---- a built code, opened with every weight 1
+
+module _ (kind d rounds v e : ℕ) (a b m : List ℕ) (g : BuiltGraph kind d rounds v e a b m) where
+  abbrev ones : List ℕ
+  ones = replicate e 1
+
+  abbrev code : GraphColumns
+  code = graphColumns a b ones m
+
+  ones-long : e ≤ length ones
+  ones-long = omega (arith, length-replicate {A = ℕ} e 1)
+
+  ones-whole : take e ones ≡ ones
+  ones-whole = take-all e ones (omega (arith, length-replicate {A = ℕ} e 1))
+
+  ones-sound : weightsSound e ones ≡ true
+  ones-sound = ap (allWithin weightLimit) ones-whole ∙ at-within weightLimit ones (λ i h. omega (arith, getD-replicate {A = ℕ} e i 1 0 (omega (arith, length-replicate {A = ℕ} e 1, h))))
+
+  code-accepted : openRefusal v e code code ≡ 0
+  code-accepted = built-accepted kind d rounds v e a b m g ones code ones-long ones-sound (columns-long-from v e a b ones m (built-long kind d rounds v e a b m g ones ones-long))
+
+  code-opened : (lent : GraphColumns) × OpenReturned v e code code (Counts (counts v e 0)) lent
+  code-opened =
+      let (r, lent, o) = open-returns v e code code in
+      (lent, subst (λ x. OpenReturned v e code code x lent) (accepted-open v e code code r lent o code-accepted) o)
+
+  abbrev freshCode : Engine
+  freshCode = engine (counts v e 0) (code-opened .0 .endsA) (code-opened .0 .endsB) (code-opened .0 .weights) (code-opened .0 .boundary) [] []
+
+  abbrev code-history : History
+  code-history = record {
+    vertices = v;
+    edges = e;
+    handed = code;
+    fresh = freshCode;
+    calls = [];
+    answers = [];
+    at-end = freshCode;
+    opened = open-called (counts v e 0) [] [] (code-opened .1);
+    called = no-call;
+  }
+
+  abbrev code-weights : List ℤ
+  code-weights = replicate v (pos 0)
+
+  abbrev code-scratch : ScratchColumns
+  code-scratch = let c = replicate {A = ℕ} v 0 in scratchOf (replicate (2 * e) 0) c c c c c c
+
+  code-crossing : CrossingThen code-history
+  code-crossing =
+      let (r, column, left, c) = crossing-returns freshCode code-weights code-scratch in
+      record { own = ownLengths code-weights code-scratch; reply = r; column₀ = code-weights; column = column; called = crossing-called code-scratch left c }
+
+  code-long : crossingLong (lengthsOf freshCode) (ownLengths code-weights code-scratch) (counts v e 0) ≡ true
+  unfolding scratchLong
+  code-long =
+      let c = le-leb v (length (replicate {A = ℕ} v 0)) (omega (arith, length-replicate {A = ℕ} v 0)) in
+      both-and (sym (long-same 0 freshCode (counts v e 0) refl) ∙ long-from 0 freshCode (agrees code-history .long))
+      (both-and (le-leb v (length code-weights) (omega (arith, length-replicate v (pos 0))))
+      (both-and (le-leb (2 * e) _ (omega (arith, length-replicate {A = ℕ} (2 * e) 0))) (both-and c (both-and c (both-and c (both-and c (both-and c c)))))))
+
+  code-asked : refusedBefore code-history code-crossing ≡ 0
+  unfolding code-crossing
+  code-asked = λ i. ask (code-long i) 6 0
+
+  distance-reported : DistanceReported d v e a b m
+  distance-reported = record {
+    history = code-history;
+    vertices-are = refl;
+    edges-are = refl;
+    handed-are = refl;
+    calls-are = refl;
+    crossing = code-crossing;
+    reports = distance code-history code-crossing kind d rounds g (λ k l. ap (λ (w : List ℕ). getD w k 0) ones-whole ∙ getD-replicate e k 1 0 l) code-asked;
+  }
+
 -- the demand
 pub demand-3 : Demand3
 demand-3 = record {
@@ -223,7 +308,9 @@ demand-3 = record {
   crossing-returns = crossing-returns;
   list-returns = λ v e handed fresh o list. list-returns list (lengthsOf fresh) fresh refl;
   one-history = one-history;
-  opened-when = opened-when;
+  opened-when = λ v e handed lent₀ r lent o. opened-of v e handed lent₀ r lent o .answers;
+  built-opens = λ kind d rounds v e a b m w lent₀ r lent built l s t o.
+      accepted-open v e (graphColumns a b w m) lent₀ r lent o (built-accepted kind d rounds v e a b m (built-of kind d rounds v e a b m built) w lent₀ l s t);
   each-call = λ h. run h .0;
   crossing-then = number;
   counts = λ h. agrees h .counts-are;
@@ -239,4 +326,6 @@ demand-3 = record {
   nowhere-greater = nowhere-greater;
   distance = λ h c kind d rounds a b m built same-a same-b same-m.
       distance h c kind d rounds (handed-on (built-of kind d rounds (h .vertices) (h .edges) a b m built) same-a same-b same-m);
+  distance-reported = λ kind d rounds v e a b m built. distance-reported kind d rounds v e a b m (built-of kind d rounds v e a b m built);
+  some-code = some-code;
 }

@@ -1,7 +1,6 @@
 -- Every open, load, reset and crossing has an answer and columns with what its callers learn, and every list of them answers and an engine at its end: the relations that
 -- the contracts cite are equations for the answer and for each column, and what a search leaves in scratch is built from the state it settles in. Assumes nothing.
 use mathlib.Core.Path.{_≡_, refl, sym, ap, _∙_, subst}
-use mathlib.Core.Logic.{_↔_}
 use mathlib.Core.Bool.{Bool, true, false, cond}
 use mathlib.Core.List.{List, [], _∷_, _++_}
 use Prim.Native.Nat.{ℕ, _+_}
@@ -54,13 +53,13 @@ use Rattle.claims.proofs.LeastKeys.{nodes, nodes-length, nodes-tree}
 use Rattle.claims.proofs.Runs.{step-of, opened-of}
 
 -- columns lent, with no lifetime to speak of
-abbrev ref : {A : Type 0} → A → RefT A
+abbrev pub ref : {A : Type 0} → A → RefT A
 ref xs = record { ptr = (0, 0); name = 0; now = xs }
 
 abbrev six : Lfts 6
 six = ([], ([], ([], ([], ([], ([], tt))))))
 
-abbrev eight : Lfts 8
+abbrev pub eight : Lfts 8
 eight = ([], ([], six))
 
 -- ---- open
@@ -95,11 +94,9 @@ one-edge-opened =
     let s : AtExit (endedOf 8 open-kinds.ps open-kinds.r) eight = a in
     open-returned eight a (Counts (counts 2 1 0)) s (record { answers = accepts-of refl; endsA-after = refl; endsB-after = refl; weights-after = refl; boundary-after = refl })
 
-pub opened-when : (v e : ℕ) (h l : GraphColumns) (r : EngineAnswer) (o : GraphColumns) → OpenReturned v e h l r o
-    → (openRefusal v e h l ≡ 0) ↔ (r ≡ Counts (counts v e 0))
-opened-when v e h l r o x =
-    let a = opened-of v e h l r o x .answers in
-    (λ z. there r a z, λ q. sym (a .number-is) ∙ ap (λ (y : EngineAnswer). engineSaid y .number) q)
+-- an open whose questions are met answers the counts
+pub accepted-open : (v e : ℕ) (h l : GraphColumns) (r : EngineAnswer) (o : GraphColumns) → OpenReturned v e h l r o → openRefusal v e h l ≡ 0 → r ≡ Counts (counts v e 0)
+accepted-open v e h l r o x = there r (opened-of v e h l r o x .answers)
   where
     there : (y : EngineAnswer) → Answered (engineSaid y) (openRefusal v e h l) (counts v e 0) noCounts → openRefusal v e h l ≡ 0 → y ≡ Counts (counts v e 0)
     there (Counts c) a z = ap Counts (values-of a z)

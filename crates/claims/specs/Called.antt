@@ -1,4 +1,4 @@
--- Calls of the real functions. `Learnt` is what a caller of a function learns of a call, made from the function's own contract: lifetimes, the arguments
+-- Calls of the engine's functions. `Learnt` is what a caller of a function learns of a call, made from the function's own contract: lifetimes, the arguments
 -- as they were passed, the result, and the parameters at exit. A parameter that is only read is at exit as it was passed.
 use Prim.Native.Nat.{ℕ}
 use mathlib.Core.List.{List, [], _∷_}
@@ -16,7 +16,6 @@ use Rattle.engine_columns.specs.Open.{GraphColumns, graphColumns}
 use Rattle.engine_tally.specs.Tally.{lengthsOf}
 use Rattle.query_crossing_answer.specs.declared.CrossingReply.{CrossingReply}
 use Rattle.query_crossing_answer.specs.Crossing.{replyNumber}
-use Rattle.codes_calls.specs.declared.Created.the-variants.{Code}
 use Rattle.claims.specs.Listed.{OwnLengths, ownLengths, ListedCall, modifies, crosses}
 use Rattle.claims.specs.QueriesCalled.{CrossingReturned}
 use Rattle.engine_calls.proofs.open.Kinds as open-kinds
@@ -27,12 +26,6 @@ use Rattle.engine_calls.proofs.load_dynamic_weights.Kinds as weights-kinds
 use Rattle.engine_calls.proofs.load_dynamic_weights.Reads as weights-reads
 use Rattle.engine_calls.proofs.reset.Kinds as reset-kinds
 use Rattle.engine_calls.proofs.reset.Reads as reset-reads
-use Rattle.codes_calls.proofs.create.create_code.Kinds as create-kinds
-use Rattle.codes_calls.proofs.create.create_code.Reads as create-reads
-use Rattle.codes_calls.proofs.weighted.new.Kinds as new-kinds
-use Rattle.codes_calls.proofs.weighted.new.Reads as new-reads
-use Rattle.codes_calls.proofs.weighted.new_diagonal.Kinds as diagonal-kinds
-use Rattle.codes_calls.proofs.weighted.new_diagonal.Reads as diagonal-reads
 use Rattle.query_questions.specs.Scratch.{ScratchColumns}
 
 -- Engine, Open: an open that returned: the counts, what it was handed, the answer, and the engine's columns before and after.
@@ -81,16 +74,3 @@ pub data Calls : Engine → List ListedCall → List ℕ → Engine → Type 0 w
       → Called call e r e₁ → Calls e₁ cs ns e₂ → Calls e (modifies (record { call = call; lent = lengthsOf e }) ∷ cs) (engineSaid r .number ∷ ns) e₂
   crossed-then : {e e₂ : Engine} {cs : List ListedCall} {ns : List ℕ} (own : OwnLengths) (r : CrossingReply) (column₀ column : List ℤ)
       → CrossingCalled e own r column₀ column → Calls e cs ns e₂ → Calls e (crosses (lengthsOf e) own ∷ cs) (replyNumber r ∷ ns) e₂
-
--- Six builders; Engine, Tally, sentence 11: a code that was built, by any of the three functions
--- that build one: the counts, the ends and the boundary bytes in the columns as the call left them.
-pub data CodeBuilt : (kind d rounds vertices edges : ℕ) (endsA endsB boundary : List ℕ) → Type 0 where
-  create-called : (κs : Lfts 13) (a : Dens κs create-kinds.ps) (vertices edges : ℕ) (s : AtExit (endedOf 13 create-kinds.ps create-kinds.r) κs)
-      → create-reads.Learnt κs a (Code vertices edges) s
-      → CodeBuilt (a .0) (a .1 .0) (a .1 .1 .0) vertices edges (now (s .1 .1 .1 .0)) (now (s .1 .1 .1 .1 .0)) (now (s .1 .1 .1 .1 .1 .1 .1 .1 .1 .1 .1 .1 .0))
-  new-called : (κs : Lfts 13) (a : Dens κs new-kinds.ps) (vertices edges : ℕ) (s : AtExit (endedOf 13 new-kinds.ps new-kinds.r) κs)
-      → new-reads.Learnt κs a (Code vertices edges) s
-      → CodeBuilt (a .0) (a .1 .0) (a .1 .1 .0) vertices edges (now (s .1 .1 .1 .1 .1 .0)) (now (s .1 .1 .1 .1 .1 .1 .0)) (now (s .1 .1 .1 .1 .1 .1 .1 .1 .1 .1 .1 .1 .1 .1 .0))
-  new-diagonal-called : (κs : Lfts 13) (a : Dens κs diagonal-kinds.ps) (vertices edges : ℕ) (s : AtExit (endedOf 13 diagonal-kinds.ps diagonal-kinds.r) κs)
-      → diagonal-reads.Learnt κs a (Code vertices edges) s
-      → CodeBuilt 4 (a .0) (a .1 .0) vertices edges (now (s .1 .1 .1 .1 .1 .0)) (now (s .1 .1 .1 .1 .1 .1 .0)) (now (s .1 .1 .1 .1 .1 .1 .1 .1 .1 .1 .1 .1 .1 .1 .0))

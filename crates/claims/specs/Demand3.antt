@@ -2,12 +2,17 @@
 use Prim.Native.Nat.{ℕ, _≤_, _<_}
 use mathlib.Core.Path.{_≡_}
 use mathlib.Core.Logic.{_↔_}
+use mathlib.Core.Bool.{true}
 use mathlib.Core.List.{List, [], _∷_}
-use lib.ListN.{getD, take}
+use lib.ListN.{length, getD, take, replicate}
 use lib.IntN.{ℤ}
+use Rattle.columns.specs.Questions.{weightsSound}
+use Rattle.columns_answers.specs.Said.{Answered}
+use Rattle.codes_layers.specs.Accepts.{Buildable}
 use Rattle.engine_columns.specs.declared.EngineAnswer.{EngineAnswer}
 use Rattle.engine_columns.specs.declared.EngineAnswer.the-variants.{Counts}
-use Rattle.engine_columns.specs.Records.{Engine, counts}
+use Rattle.engine_columns.specs.Records.{Engine, counts, noCounts, engineSaid}
+use Rattle.engine_columns.specs.Questions.{columnsLong}
 use Rattle.engine_columns.specs.Calls.{Call, loadErasures, loadWeights}
 use Rattle.engine_columns.specs.Open.{GraphColumns, graphColumns, openRefusal}
 use Rattle.engine_tally.specs.Tally.{Tally, tallyOf, tallyNumbers, lengthsOf}
@@ -22,7 +27,8 @@ use Rattle.query_crossing_answer.specs.declared.CrossingReply.the-variants.{Cro
 use Rattle.query_crossing_answer.specs.Crossing.{replyNumber, replyWeight}
 use Rattle.claims.specs.Listed.{OwnLengths, ListedCall, CallArguments, modifyBy, crossWith, listedCalls, tallyGraph, tallyWeights, before18, tallyCrossingRefusal, modifying, modifyingAnswers, tallyAtEnd, numbers}
 use Rattle.claims.specs.QueriesCalled.{CrossingReturned}
-use Rattle.claims.specs.Called.{OpenReturned, OpenCalled, Called, Calls, CrossingCalled, CodeBuilt}
+use Rattle.claims.specs.BuildersCalled.{CodeBuilt}
+use Rattle.claims.specs.Called.{OpenReturned, OpenCalled, Called, Calls, CrossingCalled}
 
 -- Demand 3, sentence 1; Engine, Tally, sentence 2: a freshly opened graph and a list of
 -- calls on it, with the number of each answer; `at-end`: the engine's columns at its end.
@@ -86,6 +92,16 @@ pub record OneHistory : Type 0 where
   pub crossing : CrossingThen history
   pub reports : crossing .reply ≡ Crossed 3
 
+-- Demand 3, the clause about d: a built code, by its counts, ends and boundary bytes, is opened with every weight 1, and a crossing called then reports d.
+pub record DistanceReported (d vertices edges : ℕ) (endsA endsB boundary : List ℕ) : Type 0 where
+  pub history : History
+  pub vertices-are : history .vertices ≡ vertices
+  pub edges-are : history .edges ≡ edges
+  pub handed-are : history .handed ≡ graphColumns endsA endsB (replicate edges 1) boundary
+  pub calls-are : history .calls ≡ []
+  pub crossing : CrossingThen history
+  pub reports : crossing .reply ≡ Crossed d
+
 -- Demand 3 as one claim (Engine, Tally, sentence 1). The quoted words are the demand's where no section is named.
 pub record Demand3 : Type 0 where
   -- "This holds after every list of load-erasures, load-weights, reset and crossing calls on a freshly opened graph, refused calls included." For every open, load, reset
@@ -98,9 +114,18 @@ pub record Demand3 : Type 0 where
   pub list-returns : (vertices edges : ℕ) (handed : GraphColumns) (fresh : Engine) → OpenCalled vertices edges handed fresh → (list : List CallArguments)
       → (answers : List ℕ) × (at-end : Engine) × Calls fresh (listedCalls (lengthsOf fresh) list) answers at-end
   pub one-history : OneHistory
-  -- Engine, Open; questions at the door, 6 and 7: an open is accepted, with the counts handed over and an empty log, exactly where these are met.
+  -- Engine, Open; questions at the door, 6 and 7: an open's number is that of the first of these that is not met, 0 where
+  -- both are; it answers the counts handed over, with an empty log, where it is 0, and else zeros.
   pub opened-when : (vertices edges : ℕ) (handed lent₀ : GraphColumns) (r : EngineAnswer) (lent : GraphColumns) → OpenReturned vertices edges handed lent₀ r lent
-      → (openRefusal vertices edges handed lent₀ ≡ 0) ↔ (r ≡ Counts (counts vertices edges 0))
+      → Answered (engineSaid r) (openRefusal vertices edges handed lent₀) (counts vertices edges 0) noCounts
+  -- Engine, Tally, sentence 11: "A built code may open with any sound weights." Handed the counts, the ends and the boundary bytes that an accepted builder left, and
+  -- weights that meet questions 6 and 7, every open is accepted whose own columns are long enough.
+  pub built-opens : (kind d rounds vertices edges : ℕ) (endsA endsB boundary weights : List ℕ) (lent₀ : GraphColumns) (r : EngineAnswer) (lent : GraphColumns)
+      → CodeBuilt kind d rounds vertices edges endsA endsB boundary
+      → edges ≤ length weights → weightsSound edges weights ≡ true
+      → columnsLong vertices edges (lent₀ .endsA) (lent₀ .endsB) (lent₀ .weights) (lent₀ .boundary) ≡ true
+      → OpenReturned vertices edges (graphColumns endsA endsB weights boundary) lent₀ r lent
+      → r ≡ Counts (counts vertices edges 0)
   -- "Each call is accepted or refused as document 01's questions say."
   pub each-call : (h : History) → h .answers ≡ numbers (h .calls) (tallyFirst h)
   pub crossing-then : (h : History) (c : CrossingThen h) → replyNumber (c .reply) ≡ tallyCrossingRefusal (lengthsOf (h .at-end)) (c .own) (tallyLast h)
@@ -140,3 +165,8 @@ pub record Demand3 : Type 0 where
       → take (h .edges) (h .handed .endsB) ≡ take (h .edges) endsB
       → take (h .vertices) (h .handed .boundary) ≡ take (h .vertices) boundary
       → ((k : ℕ) → k < h .edges → weightsAtEnd h k ≡ 1) → refusedBefore h c ≡ 0 → c .reply ≡ Crossed d
+  -- There is such a history and crossing for every code that was built, and a code that was built for every kind, d and rounds that questions 2 to 5 accept.
+  pub distance-reported : (kind d rounds vertices edges : ℕ) (endsA endsB boundary : List ℕ)
+      → CodeBuilt kind d rounds vertices edges endsA endsB boundary → DistanceReported d vertices edges endsA endsB boundary
+  pub some-code : (kind d rounds : ℕ) → Buildable kind d rounds
+      → (vertices : ℕ) × (edges : ℕ) × (endsA : List ℕ) × (endsB : List ℕ) × (boundary : List ℕ) × CodeBuilt kind d rounds vertices edges endsA endsB boundary

@@ -15,6 +15,7 @@ use Rattle.columns_answers.specs.Said.{Answered, accepts}
 use Rattle.columns_answers.specs.Done.{doneSaid}
 use Rattle.codes_writers.specs.Edges.{straightEdges, straightRows, firsts, seconds, boundaries}
 use Rattle.codes_planar.specs.Planar.{rowEdges, planarRow, planarLayer, planarGap, capacityVertex}
+use Rattle.codes_rotated.specs.Rotated.{rotatedPlace, rotatedEdge, rotatedRow, rotatedLayer, rotatedGap, rotatedBoundary, rotatedVertex}
 use Rattle.codes_layers.specs.Codes.{rows, width, layerEdges, gapEdges, edgesOf, vertexOf, layerVertices, verticesOf}
 use Rattle.codes_layers.specs.Counts.{vertexNum, edgeNum, layerVertexNum, layerEdgeNum, gapEdgeNum}
 use Rattle.codes_layers.specs.Accepts.{kindKnown, distanceSound, roundsSound, codeRefusal}
@@ -25,12 +26,15 @@ use Rattle.weights_calls.specs.Calls.{halfWeights, computeRefusal, largest, som
 use Rattle.codes_calls.specs.declared.Created.{Created}
 use Rattle.codes_calls.specs.Columns.{CodeColumns, vertexRoom, edgeRoom, longEnough, HandedBack}
 use Rattle.codes_calls.specs.CreateCode.{createdSaid, createRefusal, CreateCode}
-use Rattle.codes_calls.specs.NewCode.{newRefusal, newRefusalIn, NewCode}
+use Rattle.codes_calls.specs.NewCode.{newRefusal, newRefusalIn, NewCode, NewDiagonal}
 use Rattle.codes_calls.specs.Probabilities.{probabilities, diagonalOf}
 use Rattle.access_vertices.specs.Weights.{weights as doubled}
 use Rattle.engine_columns.specs.Open.{graphColumns}
-use Rattle.claims_examples.specs.Called.{CreateReturned, create-returned, NewReturned, new-returned, ComputeReturned, compute-returned}
-use Rattle.claims_examples.specs.Starred.{RefusedBy, BuildersRefuse, CreateGives, listingP, graphOfCode, listingGraph}
+use Rattle.weights_claims.specs.Called.{WeightsReturned, weights-returned}
+use Rattle.weights_diagonal.specs.declared.DiagonalProbability.{DiagonalProbability}
+use Rattle.claims.specs.BuildersCalled.{CreateReturned, create-returned, NewReturned, new-returned, NewDiagonalReturned, new-diagonal-returned, CodeBuilt}
+use Rattle.claims.proofs.Built.{built-of}
+use Rattle.claims_examples.specs.Starred.{RefusedBy, BuildersRefuse, CreateGives, KindFive, listingP, graphOfCode, listingGraph}
 use Rattle.claims_examples.proofs.Answers.{said-accepts, said-refuses}
 
 -- ---- refusals
@@ -61,15 +65,23 @@ created-of kind d rounds c₀ c r (create-returned κs a q s h) = h
 new-of : (kind d rounds : ℕ) (p : Float) (max : ℕ) (c₀ c : CodeColumns) (r : Created) → NewReturned kind d rounds p max c₀ c r → NewCode kind d rounds p max c₀ c r
 new-of kind d rounds p max c₀ c r (new-returned κs a q s h) = h
 
-computed-of : (n : ℕ) (p : List Float) (max : ℕ) (column₀ column : List ℕ) (r : Done) → ComputeReturned n p max column₀ column r → ComputedWeights n p column₀ max column r
-computed-of n p max column₀ column r (compute-returned κs a q s h) = h
+diagonal-of : (d rounds : ℕ) (p : Float) (diagonal : DiagonalProbability) (max : ℕ) (c₀ c : CodeColumns) (r : Created) → NewDiagonalReturned d rounds p diagonal max c₀ c r
+    → NewDiagonal d rounds p diagonal max c₀ c r
+diagonal-of d rounds p diagonal max c₀ c r (new-diagonal-returned κs a q s h) = h
 
--- a number of questions 2 to 5 refuses both calls, whatever the later questions say
+computed-of : (n : ℕ) (p : List Float) (max : ℕ) (column₀ column : List ℕ) (r : Done) → WeightsReturned n p column₀ max r column → ComputedWeights n p column₀ max column r
+computed-of n p max column₀ column r (weights-returned κs a q s h) = h
+
+-- a number of questions 2 to 5 refuses every builder, whatever the later questions say
 pub builders-refuse : (kind d rounds n : ℕ) → ((later : ℕ) → codeRefusal kind d rounds later ≡ n) → n ≢ 0 → BuildersRefuse kind d rounds n
 unfolding createRefusal newRefusal
 builders-refuse kind d rounds n e f = record {
   create = λ c₀ c r x. let h = created-of kind d rounds c₀ c r x in refused-by n _ _ _ c₀ c r (h .answers) (h .columns-after) (e _) f;
   new = λ p max c₀ c r x. let h = new-of kind d rounds p max c₀ c r x in refused-by n _ _ _ c₀ c r (h .answers) (h .columns-after) (e _) f;
+  new-diagonal = λ four p diagonal max c₀ c r x.
+      let h = diagonal-of d rounds p diagonal max c₀ c r x in
+      let refused : (later : ℕ) → codeRefusal 4 d rounds later ≡ n = λ later. ap (λ k. codeRefusal k d rounds later) (sym four) ∙ e later in
+      refused-by n _ _ _ c₀ c r (h .answers) (h .columns-after) (refused _) f;
 }
 
 pub planar-65 : (later : ℕ) → codeRefusal 2 65 0 later ≡ 5
@@ -101,6 +113,22 @@ circuit-24-41 = gives 4 3 1 24 41 (λ later. refl) refl refl
 pub rotated-16-26 : CreateGives 6 3 1 16 26
 unfolding codeRefusal kindKnown distanceSound roundsSound layerVertexNum layerEdgeNum gapEdgeNum
 rotated-16-26 = gives 6 3 1 16 26 (λ later. refl) refl refl
+
+pub rotated-8-9 : CreateGives 5 3 0 8 9
+unfolding codeRefusal kindKnown distanceSound roundsSound layerVertexNum layerEdgeNum gapEdgeNum
+rotated-8-9 = gives 5 3 0 8 9 (λ later. refl) refl refl
+
+pub rotated-left : (v e : ℕ) (a b m : List ℕ) → CodeBuilt 5 3 0 v e a b m → KindFive v e a b m
+unfolding layerVertexNum layerEdgeNum gapEdgeNum edgesOf layered each joined rows width layerEdges gapEdges rotatedLayer rotatedRow rotatedEdge rotatedPlace rotatedGap verticesOf layerVertices vertexOf rotatedVertex rotatedBoundary
+rotated-left v e a b m x =
+    let g = built-of 5 3 0 v e a b m x in
+    record {
+      vertices-are = g .vertices-are;
+      edges-are = g .edges-are;
+      first-ends = ap (λ n. take n a) (sym (g .edges-are)) ∙ g .endsA-are;
+      second-ends = ap (λ n. take n b) (sym (g .edges-are)) ∙ g .endsB-are;
+      left-and-right = ap (λ n. take n m) (sym (g .vertices-are)) ∙ g .boundary-are;
+    }
 
 pub planar-63 : CreateGives 2 63 0 4032 7813
 unfolding codeRefusal kindKnown distanceSound roundsSound layerVertexNum layerEdgeNum gapEdgeNum
@@ -147,7 +175,7 @@ listing-built c₀ c r x long =
 
 pub computed-ones : (max n : ℕ) (column₀ column : List ℕ) (r : Done) → computeRefusal n (replicate n zeroFloat) column₀ max ≡ 0 → take n (replicate n zeroFloat) ≡ replicate n zeroFloat
     → halfWeights max (replicate n zeroFloat) ≡ replicate n 1
-    → ComputeReturned n (replicate n zeroFloat) max column₀ column r → (doneSaid r ≡ accepts tt) × (column ≡ over (replicate n 1) column₀)
+    → WeightsReturned n (replicate n zeroFloat) column₀ max r column → (doneSaid r ≡ accepts tt) × (column ≡ over (replicate n 1) column₀)
 computed-ones max n column₀ column r z t e x =
     let c = computed-of n (replicate n zeroFloat) max column₀ column r x in
     (said-accepts (c .answers) z, c .column-after ∙ after-accepted _ (halfWeights max (take n (replicate n zeroFloat))) column₀ z ∙ ap (λ y. over y column₀) (ap (halfWeights max) t ∙ e))

@@ -46,7 +46,7 @@ use Rattle.query_paths.specs.GetPath.{pathAsked, pathRefusal}
 use Rattle.claims.specs.Listed.{tallyGraph, tallyWeights}
 use Rattle.codes_layers.proofs.Counted.{vertices-counted, edges-counted}
 use Rattle.claims_examples.proofs.Graph.{written, columns, by-parts, crossing-2000, crossing-3000, crossing-3, path-3000}
-use Rattle.claims_examples.proofs.Builders.{builders-refuse, planar-65, rounds-341, even-d, circuit-24-41, rotated-16-26, planar-63, rounds-340, listing-built, computed-ones}
+use Rattle.claims_examples.proofs.Builders.{builders-refuse, planar-65, rounds-341, even-d, circuit-24-41, rotated-16-26, rotated-8-9, rotated-left, planar-63, rounds-340, listing-built, computed-ones}
 use Rattle.claims_examples.proofs.OnListing.{path-called, path-refused, erased-called, reset-called, ones-called}
 use Rattle.claims_examples.specs.Starred.{StarredExamples, fed, crossingAfter, listingEngine}
 
@@ -144,6 +144,8 @@ unfolding edgesOf layered each joined rows width layerEdges gapEdges rotatedLaye
 starred = record {
   kind-5-edges = refl;
   kind-5-boundary = refl;
+  kind-5-built = rotated-8-9;
+  kind-5-left = rotated-left;
   kind-4-vertices = accepts-of refl;
   kind-4-edges = accepts-of refl;
   kind-6-vertices = accepts-of refl;

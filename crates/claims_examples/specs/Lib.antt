@@ -1,4 +1,3 @@
--- Called: calls of builders and of `compute_weights`. Starred: document 01's checked examples with a star. Listing: the text that `codelist` prints for the example line.
-pub mod Called
+-- Starred: document 01's checked examples with a star. Listing: the text that `codelist` prints for the example line.
 pub mod Starred
 pub mod Listing

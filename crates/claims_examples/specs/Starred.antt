@@ -32,7 +32,9 @@ use Rattle.query_questions.specs.Scratch.{ScratchColumns, scratchFits}
 use Rattle.query_crossing_answer.specs.declared.CrossingReply.the-variants.{Crossed}
 use Rattle.query_paths.specs.declared.PathAnswer.{PathAnswer}
 use Rattle.query_paths.specs.GetPath.{foundSaid, pathAsked, pathRefusal}
-use Rattle.claims_examples.specs.Called.{CreateReturned, NewReturned, ComputeReturned}
+use Rattle.weights_claims.specs.Called.{WeightsReturned}
+use Rattle.weights_diagonal.specs.declared.DiagonalProbability.{DiagonalProbability}
+use Rattle.claims.specs.BuildersCalled.{CreateReturned, NewReturned, NewDiagonalReturned, CodeBuilt}
 use Rattle.claims.specs.Listed.{CallArguments, modifyBy, listedCalls, tallyGraph, tallyWeights}
 use Rattle.claims.specs.QueriesCalled.{PathColumns, PathReturned}
 use Rattle.claims.specs.Called.{OpenCalled}
@@ -68,16 +70,27 @@ listingEngine = engine (counts 4 3 0) (listingGraph .endsA) (listingGraph .endsB
 abbrev pub RefusedBy : ℕ → (c₀ c : CodeColumns) → Created → Type 0
 RefusedBy q c₀ c r = (createdSaid r ≡ refuses q (0, 0)) × (c ≡ c₀)
 
--- Six builders; Weights: whatever columns it is lent, and whatever p and M `new` is given, `create_code` and `new` refuse by number q.
+-- Six builders; Weights: whatever columns it is lent, and whatever p, M and diagonal probability it is given,
+-- each builder refuses by number q: `create_code`, `new`, and of kind 4 `new_diagonal`.
 pub record BuildersRefuse (kind d rounds q : ℕ) : Type 0 where
   pub create : (c₀ c : CodeColumns) (r : Created) → CreateReturned kind d rounds c₀ c r → RefusedBy q c₀ c r
   pub new : (p : Float) (max : ℕ) (c₀ c : CodeColumns) (r : Created) → NewReturned kind d rounds p max c₀ c r → RefusedBy q c₀ c r
+  pub new-diagonal : kind ≡ 4 → (p : Float) (diagonal : DiagonalProbability) (max : ℕ) (c₀ c : CodeColumns) (r : Created)
+      → NewDiagonalReturned d rounds p diagonal max c₀ c r → RefusedBy q c₀ c r
 
 -- Six builders: wherever the columns lent are long enough, `create_code` answers with v vertices and e edges.
 abbrev pub CreateGives : (kind d rounds v e : ℕ) → Type 0
 CreateGives kind d rounds v e =
     (c₀ c : CodeColumns) (r : Created) → CreateReturned kind d rounds c₀ c r → longEnough v e (vertexRoom c₀) (edgeRoom c₀) (length (c₀ .neighborNumbers)) ≡ true
     → createdSaid r ≡ accepts (v, e)
+
+-- Checked examples, d 3, kind 5: the counts of the code, and its edges and boundary bytes in the columns' first places.
+pub record KindFive (v e : ℕ) (endsA endsB boundary : List ℕ) : Type 0 where
+  pub vertices-are : v ≡ 8
+  pub edges-are : e ≡ 9
+  pub first-ends : take 9 endsA ≡ 0 ∷ 0 ∷ 1 ∷ 2 ∷ 3 ∷ 3 ∷ 4 ∷ 4 ∷ 5 ∷ []
+  pub second-ends : take 9 endsB ≡ 2 ∷ 3 ∷ 3 ∷ 4 ∷ 4 ∷ 5 ∷ 6 ∷ 7 ∷ 7 ∷ []
+  pub left-and-right : take 8 boundary ≡ 0 ∷ 2 ∷ 1 ∷ 0 ∷ 0 ∷ 2 ∷ 1 ∷ 0 ∷ []
 
 -- The program codelist: the p of the example line, by its bits.
 abbrev pub listingP : Float
@@ -114,6 +127,8 @@ pub record StarredExamples : Type 0 where
   -- "d 3, kind 5: edges (0,2) (0,3) (1,3) (2,4) (3,4) (3,5) (4,6) (4,7) (5,7); left 2, 6; right 1, 5."
   pub kind-5-edges : edgesOf 5 3 0 ≡ (0, 2) ∷ (0, 3) ∷ (1, 3) ∷ (2, 4) ∷ (3, 4) ∷ (3, 5) ∷ (4, 6) ∷ (4, 7) ∷ (5, 7) ∷ []
   pub kind-5-boundary : boundaries (verticesOf 5 3 0) ≡ 0 ∷ 2 ∷ 1 ∷ 0 ∷ 0 ∷ 2 ∷ 1 ∷ 0 ∷ []
+  pub kind-5-built : CreateGives 5 3 0 8 9
+  pub kind-5-left : (v e : ℕ) (endsA endsB boundary : List ℕ) → CodeBuilt 5 3 0 v e endsA endsB boundary → KindFive v e endsA endsB boundary
   -- "d 3, kind 4, rounds 1: 24 vertices, 41 edges. Kind 6: 16 and 26."
   pub kind-4-vertices : CountsVertices 4 3 1 (Counted 24)
   pub kind-4-edges : CountsEdges 4 3 1 (Counted 41)
@@ -162,7 +177,7 @@ pub record StarredExamples : Type 0 where
   pub every-p-0-asked : (max n : ℕ) (column : List ℕ) → isLargestHalfWeight max ≡ true → 1 ≤ n → n ≤ edgeLimit → n ≤ length column
       → computeRefusal n (replicate n zeroFloat) column max ≡ 0
   pub every-p-0-computed : (max n : ℕ) (column₀ column : List ℕ) (r : Done) → isLargestHalfWeight max ≡ true → 1 ≤ n → n ≤ edgeLimit → n ≤ length column₀
-      → ComputeReturned n (replicate n zeroFloat) max column₀ column r → (doneSaid r ≡ accepts tt) × (column ≡ over (replicate n 1) column₀)
+      → WeightsReturned n (replicate n zeroFloat) column₀ max r column → (doneSaid r ≡ accepts tt) × (column ≡ over (replicate n 1) column₀)
   -- "Path 2 to 2: 16."
   pub path-2-2 : pathRefusal (pathAsked listingEngine true 2 2 4 4) (path (Q.graphIn listingEngine) (Q.weightsIn listingEngine) 2 2) ≡ 16
   pub path-2-2-called : (e : Engine) (r : PathAnswer) (columns₀ columns : PathColumns) (scratch₀ scratch : ScratchColumns) → OpenCalled 4 3 listingGraph e

@@ -1,4 +1,4 @@
--- Calls of the builders and of `compute_weights` that returned. `Learnt` is what a caller of a function learns of a call, made from the function's own contract: lifetimes,
+-- Calls of the three functions that build a code. `Learnt` is what a caller of a function learns of a call, made from the function's own contract: lifetimes,
 -- the arguments as they were passed, the result, and the parameters at exit. The columns lent are any.
 use Prim.Native.Nat.{ℕ}
 use mathlib.Core.List.{List}
@@ -6,16 +6,16 @@ use lib.Ieee.{Float}
 use contract.Lifetimes.{Lfts}
 use borrow.Fn.Kinds.{Dens, endedOf}
 use denote.Triple.Clauses.{AtExit}
-use denote.Ref.{now}
-use Rattle.columns.specs.declared.Done.{Done}
+use Rattle.weights_diagonal.specs.declared.DiagonalProbability.{DiagonalProbability}
 use Rattle.codes_calls.specs.declared.Created.{Created}
+use Rattle.codes_calls.specs.declared.Created.the-variants.{Code}
 use Rattle.codes_calls.specs.Columns.{CodeColumns, codeIn}
 use Rattle.codes_calls.proofs.create.create_code.Kinds as create-kinds
 use Rattle.codes_calls.proofs.create.create_code.Reads as create-reads
 use Rattle.codes_calls.proofs.weighted.new.Kinds as new-kinds
 use Rattle.codes_calls.proofs.weighted.new.Reads as new-reads
-use Rattle.weights_calls.proofs.compute_weights.Kinds as compute-kinds
-use Rattle.weights_calls.proofs.compute_weights.Reads as compute-reads
+use Rattle.codes_calls.proofs.weighted.new_diagonal.Kinds as diagonal-kinds
+use Rattle.codes_calls.proofs.weighted.new_diagonal.Reads as diagonal-reads
 
 -- Six builders: a `create_code` that returned: kind, d, rounds, the columns before and after, and the answer.
 pub data CreateReturned : (kind d rounds : ℕ) (c₀ c : CodeColumns) → Created → Type 0 where
@@ -33,7 +33,20 @@ pub data NewReturned : (kind d rounds : ℕ) (p : Float) (max : ℕ) (c₀ c : C
       (codeIn (s .1 .1 .1 .1 .1 .0) (s .1 .1 .1 .1 .1 .1 .0) (s .1 .1 .1 .1 .1 .1 .1 .0) (s .1 .1 .1 .1 .1 .1 .1 .1 .0) (s .1 .1 .1 .1 .1 .1 .1 .1 .1 .0) (s .1 .1 .1 .1 .1 .1 .1 .1 .1 .1 .0) (s .1 .1 .1 .1 .1 .1 .1 .1 .1 .1 .1 .0) (s .1 .1 .1 .1 .1 .1 .1 .1 .1 .1 .1 .1 .0) (s .1 .1 .1 .1 .1 .1 .1 .1 .1 .1 .1 .1 .1 .0) (s .1 .1 .1 .1 .1 .1 .1 .1 .1 .1 .1 .1 .1 .1 .0) (s .1 .1 .1 .1 .1 .1 .1 .1 .1 .1 .1 .1 .1 .1 .1 .0) (s .1 .1 .1 .1 .1 .1 .1 .1 .1 .1 .1 .1 .1 .1 .1 .1 .0) (s .1 .1 .1 .1 .1 .1 .1 .1 .1 .1 .1 .1 .1 .1 .1 .1 .1 .0))
       r
 
--- Weights: a `compute_weights` that returned: how many edges, their p, M, the half weights before and after, and the answer.
-pub data ComputeReturned : (edges : ℕ) (p : List Float) (max : ℕ) (column₀ column : List ℕ) → Done → Type 0 where
-  compute-returned : (κs : Lfts 2) (a : Dens κs compute-kinds.ps) (r : Done) (s : AtExit (endedOf 2 compute-kinds.ps compute-kinds.r) κs) → compute-reads.Learnt κs a r s
-      → ComputeReturned (a .0) (now (a .1 .0)) (a .1 .1 .1 .0) (now (a .1 .1 .0)) (now (s .1 .1 .0)) r
+-- Weights, on the diagonal probability, sentence 1: a `new_diagonal` that returned: d, rounds, p, the diagonal probability, M, the columns before and after, and the answer.
+pub data NewDiagonalReturned : (d rounds : ℕ) (p : Float) (diagonal : DiagonalProbability) (max : ℕ) (c₀ c : CodeColumns) → Created → Type 0 where
+  new-diagonal-returned : (κs : Lfts 13) (a : Dens κs diagonal-kinds.ps) (r : Created) (s : AtExit (endedOf 13 diagonal-kinds.ps diagonal-kinds.r) κs) → diagonal-reads.Learnt κs a r s
+      → NewDiagonalReturned (a .0) (a .1 .0) (a .1 .1 .0) (a .1 .1 .1 .1 .0) (a .1 .1 .1 .0)
+      (codeIn (a .1 .1 .1 .1 .1 .0) (a .1 .1 .1 .1 .1 .1 .0) (a .1 .1 .1 .1 .1 .1 .1 .0) (a .1 .1 .1 .1 .1 .1 .1 .1 .0) (a .1 .1 .1 .1 .1 .1 .1 .1 .1 .0) (a .1 .1 .1 .1 .1 .1 .1 .1 .1 .1 .0) (a .1 .1 .1 .1 .1 .1 .1 .1 .1 .1 .1 .0) (a .1 .1 .1 .1 .1 .1 .1 .1 .1 .1 .1 .1 .0) (a .1 .1 .1 .1 .1 .1 .1 .1 .1 .1 .1 .1 .1 .0) (a .1 .1 .1 .1 .1 .1 .1 .1 .1 .1 .1 .1 .1 .1 .0) (a .1 .1 .1 .1 .1 .1 .1 .1 .1 .1 .1 .1 .1 .1 .1 .0) (a .1 .1 .1 .1 .1 .1 .1 .1 .1 .1 .1 .1 .1 .1 .1 .1 .0) (a .1 .1 .1 .1 .1 .1 .1 .1 .1 .1 .1 .1 .1 .1 .1 .1 .1 .0))
+      (codeIn (s .1 .1 .1 .1 .1 .0) (s .1 .1 .1 .1 .1 .1 .0) (s .1 .1 .1 .1 .1 .1 .1 .0) (s .1 .1 .1 .1 .1 .1 .1 .1 .0) (s .1 .1 .1 .1 .1 .1 .1 .1 .1 .0) (s .1 .1 .1 .1 .1 .1 .1 .1 .1 .1 .0) (s .1 .1 .1 .1 .1 .1 .1 .1 .1 .1 .1 .0) (s .1 .1 .1 .1 .1 .1 .1 .1 .1 .1 .1 .1 .0) (s .1 .1 .1 .1 .1 .1 .1 .1 .1 .1 .1 .1 .1 .0) (s .1 .1 .1 .1 .1 .1 .1 .1 .1 .1 .1 .1 .1 .1 .0) (s .1 .1 .1 .1 .1 .1 .1 .1 .1 .1 .1 .1 .1 .1 .1 .0) (s .1 .1 .1 .1 .1 .1 .1 .1 .1 .1 .1 .1 .1 .1 .1 .1 .0) (s .1 .1 .1 .1 .1 .1 .1 .1 .1 .1 .1 .1 .1 .1 .1 .1 .1 .0))
+      r
+
+-- Six builders; Engine, Tally, sentence 11: a code that was built, by any of the three functions
+-- that build one: the counts, the ends and the boundary bytes in the columns as the call left them.
+pub data CodeBuilt : (kind d rounds vertices edges : ℕ) (endsA endsB boundary : List ℕ) → Type 0 where
+  create-called : {kind d rounds : ℕ} {c₀ c : CodeColumns} (vertices edges : ℕ) → CreateReturned kind d rounds c₀ c (Code vertices edges)
+      → CodeBuilt kind d rounds vertices edges (c .endsA) (c .endsB) (c .boundary)
+  new-called : {kind d rounds : ℕ} {p : Float} {max : ℕ} {c₀ c : CodeColumns} (vertices edges : ℕ) → NewReturned kind d rounds p max c₀ c (Code vertices edges)
+      → CodeBuilt kind d rounds vertices edges (c .endsA) (c .endsB) (c .boundary)
+  new-diagonal-called : {d rounds : ℕ} {p : Float} {diagonal : DiagonalProbability} {max : ℕ} {c₀ c : CodeColumns} (vertices edges : ℕ)
+      → NewDiagonalReturned d rounds p diagonal max c₀ c (Code vertices edges) → CodeBuilt 4 d rounds vertices edges (c .endsA) (c .endsB) (c .boundary)

@@ -148,7 +148,7 @@ new-accepted : (c₀ : CodeColumns) → longEnough 4 3 (vertexRoom c₀) (edgeRo
 unfolding newRefusal codeRefusal kindKnown distanceSound roundsSound layerVertexNum layerEdgeNum gapEdgeNum isProbability someAbove div sub add mul lt eq le ofInt ofBits toBits halve series logarithm edgeWeight probabilities each joined layered straightEdges straightRows rowEdges planarRow planarLayer planarGap rows width layerEdges gapEdges edgesOf
 new-accepted c₀ long = λ i. ask (long i) 6 0
 
-three-edges : (length (firsts (edgesOf 1 3 0)) ≡ 3) × (length (seconds (edgesOf 1 3 0)) ≡ 3) × (length (boundaries (verticesOf 1 3 0)) ≡ 4)
+pub three-edges : (length (firsts (edgesOf 1 3 0)) ≡ 3) × (length (seconds (edgesOf 1 3 0)) ≡ 3) × (length (boundaries (verticesOf 1 3 0)) ≡ 4)
 unfolding each joined layered straightEdges straightRows rowEdges planarRow planarLayer planarGap rows width layerEdges gapEdges edgesOf verticesOf layerVertices vertexOf capacityVertex
 three-edges = (refl, refl, refl)
 
@@ -156,20 +156,44 @@ twice : (column : List ℕ) → doubled 3 (over (500 ∷ 500 ∷ 500 ∷ []) col
 unfolding doubled each
 twice column = refl
 
-pub listing-built : (c₀ c : CodeColumns) (r : Created) → NewReturned 1 3 0 listingP 500 c₀ c r → longEnough 4 3 (vertexRoom c₀) (edgeRoom c₀) (length (c₀ .neighborNumbers)) ≡ true
-    → (createdSaid r ≡ accepts (4, 3)) × (graphOfCode c ≡ listingGraph)
-unfolding layerVertexNum layerEdgeNum gapEdgeNum
-listing-built c₀ c r x long =
-    let h = new-of 1 3 0 listingP 500 c₀ c r x in
-    let q = newRefusalIn 1 3 0 listingP (diagonalOf 1 listingP) 500 c₀ in
-    let z : q ≡ 0 = new-accepted c₀ long in
-    let k = h .columns-after in
-    let a : take 3 (c .endsA) ≡ firsts (edgesOf 1 3 0) = ap (take 3) (k .endsA-after ∙ after-accepted q (firsts (edgesOf 1 3 0)) (c₀ .endsA) z) ∙ take-over (firsts (edgesOf 1 3 0)) (c₀ .endsA) 3 (three-edges .0) in
-    let b : take 3 (c .endsB) ≡ seconds (edgesOf 1 3 0) = ap (take 3) (k .endsB-after ∙ after-accepted q (seconds (edgesOf 1 3 0)) (c₀ .endsB) z) ∙ take-over (seconds (edgesOf 1 3 0)) (c₀ .endsB) 3 (three-edges .1) in
-    let m : take 4 (c .boundary) ≡ boundaries (verticesOf 1 3 0) = ap (take 4) (k .boundary-after ∙ after-accepted q (boundaries (verticesOf 1 3 0)) (c₀ .boundary) z) ∙ take-over (boundaries (verticesOf 1 3 0)) (c₀ .boundary) 4 (three-edges .2) in
-    let w : doubled 3 (c .halfWeight) ≡ 1000 ∷ 1000 ∷ 1000 ∷ [] =
-    ap (doubled 3) (k .halfWeight-after ∙ after-accepted q (halfWeights 500 (probabilities 1 3 0 listingP (diagonalOf 1 listingP))) (c₀ .halfWeight) z ∙ ap (λ x. over x (c₀ .halfWeight)) half-weights) ∙ twice (c₀ .halfWeight) in
-    (said-accepts (h .answers) z, λ i. graphColumns (a i) (b i) (w i) (m i))
+-- the columns that `new` then leaves
+pub record ListingLeft (c₀ c : CodeColumns) : Type 0 where
+  pub endsA-is : c .endsA ≡ over (firsts (edgesOf 1 3 0)) (c₀ .endsA)
+  pub endsB-is : c .endsB ≡ over (seconds (edgesOf 1 3 0)) (c₀ .endsB)
+  pub halfWeight-is : c .halfWeight ≡ over (500 ∷ 500 ∷ 500 ∷ []) (c₀ .halfWeight)
+  pub boundary-is : c .boundary ≡ over (boundaries (verticesOf 1 3 0)) (c₀ .boundary)
+
+pub listing-places : (c₀ c : CodeColumns) → ListingLeft c₀ c
+    → (take 3 (c .endsA) ≡ firsts (edgesOf 1 3 0)) × (take 3 (c .endsB) ≡ seconds (edgesOf 1 3 0)) × (doubled 3 (c .halfWeight) ≡ 1000 ∷ 1000 ∷ 1000 ∷ []) × (take 4 (c .boundary) ≡ boundaries (verticesOf 1 3 0))
+listing-places c₀ c l = (
+  ap (take 3) (l .endsA-is) ∙ take-over (firsts (edgesOf 1 3 0)) (c₀ .endsA) 3 (three-edges .0),
+  ap (take 3) (l .endsB-is) ∙ take-over (seconds (edgesOf 1 3 0)) (c₀ .endsB) 3 (three-edges .1),
+  ap (doubled 3) (l .halfWeight-is) ∙ twice (c₀ .halfWeight),
+  ap (take 4) (l .boundary-is) ∙ take-over (boundaries (verticesOf 1 3 0)) (c₀ .boundary) 4 (three-edges .2),
+)
+
+module _ (c₀ c : CodeColumns) (r : Created) (x : NewReturned 1 3 0 listingP 500 c₀ c r) (long : longEnough 4 3 (vertexRoom c₀) (edgeRoom c₀) (length (c₀ .neighborNumbers)) ≡ true) where
+  abbrev h : NewCode 1 3 0 listingP 500 c₀ c r
+  h = new-of 1 3 0 listingP 500 c₀ c r x
+
+  abbrev q : ℕ
+  q = newRefusalIn 1 3 0 listingP (diagonalOf 1 listingP) 500 c₀
+
+  z : q ≡ 0
+  z = new-accepted c₀ long
+
+  pub listing-left : ListingLeft c₀ c
+  listing-left = record {
+    endsA-is = h .columns-after .endsA-after ∙ after-accepted q (firsts (edgesOf 1 3 0)) (c₀ .endsA) z;
+    endsB-is = h .columns-after .endsB-after ∙ after-accepted q (seconds (edgesOf 1 3 0)) (c₀ .endsB) z;
+    halfWeight-is = h .columns-after .halfWeight-after ∙ after-accepted q (halfWeights 500 (probabilities 1 3 0 listingP (diagonalOf 1 listingP))) (c₀ .halfWeight) z
+        ∙ ap (λ x. over x (c₀ .halfWeight)) half-weights;
+    boundary-is = h .columns-after .boundary-after ∙ after-accepted q (boundaries (verticesOf 1 3 0)) (c₀ .boundary) z;
+  }
+
+  pub listing-built : (createdSaid r ≡ accepts (4, 3)) × (graphOfCode c ≡ listingGraph)
+  unfolding layerVertexNum layerEdgeNum gapEdgeNum
+  listing-built = let (a, b, w, m) = listing-places c₀ c listing-left in (said-accepts (h .answers) z, λ i. graphColumns (a i) (b i) (w i) (m i))
 
 -- ---- every p 0
 

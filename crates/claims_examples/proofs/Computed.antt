@@ -46,7 +46,8 @@ use Rattle.query_paths.specs.GetPath.{pathAsked, pathRefusal}
 use Rattle.claims.specs.Listed.{tallyGraph, tallyWeights}
 use Rattle.codes_layers.proofs.Counted.{vertices-counted, edges-counted}
 use Rattle.claims_examples.proofs.Graph.{written, columns, by-parts, crossing-2000, crossing-3000, crossing-3, path-3000}
-use Rattle.claims_examples.proofs.Builders.{builders-refuse, planar-65, rounds-341, even-d, circuit-24-41, rotated-16-26, rotated-8-9, rotated-left, planar-63, rounds-340, listing-built, computed-ones}
+use Rattle.claims_examples.proofs.Builders.{builders-refuse, planar-65, rounds-341, even-d, circuit-24-41, rotated-16-26, rotated-8-9, rotated-left, planar-63, rounds-340, listing-left, listing-built, computed-ones}
+use Rattle.claims_examples.proofs.Initialized.{listing-handed-on}
 use Rattle.claims_examples.proofs.OnListing.{path-called, path-refused, erased-called, reset-called, ones-called}
 use Rattle.claims_examples.specs.Starred.{StarredExamples, fed, crossingAfter, listingEngine}
 
@@ -167,6 +168,7 @@ starred = record {
   d-4 = even;
   d-4-built = λ kind rounds h. builders-refuse kind 4 rounds 3 (even-d kind rounds h) (λ z. omega arith);
   listing-built = listing-built;
+  listing-handed-on = λ c₀ c r to₀ to n x long. listing-handed-on c₀ c (listing-left c₀ c r x long) to₀ to n;
   path-3-2 = path-3000;
   path-3-2-asked = asked-0;
   path-3-2-called = path-called;

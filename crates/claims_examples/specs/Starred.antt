@@ -18,7 +18,10 @@ use Rattle.codes_questions.specs.Answers.{CountsVertices, CountsEdges}
 use Rattle.codes_calls.specs.declared.Created.{Created}
 use Rattle.codes_calls.specs.Columns.{CodeColumns, vertexRoom, edgeRoom, longEnough}
 use Rattle.codes_calls.specs.CreateCode.{createdSaid}
+use Rattle.columns_answers.specs.declared.ListCount.{ListCount}
+use Rattle.columns_answers.specs.Counts.{listSaid}
 use Rattle.access_vertices.specs.Weights.{weights as doubled}
+use Rattle.access_calls.specs.Calls.{code, Initializer}
 use Rattle.weights_calls.specs.Calls.{isLargestHalfWeight, halfWeights, computeRefusal}
 use Rattle.columns.specs.Limits.{edgeLimit}
 use Rattle.codes_layers.specs.Accepts.{kindKnown}
@@ -35,6 +38,7 @@ use Rattle.query_paths.specs.GetPath.{foundSaid, pathAsked, pathRefusal}
 use Rattle.weights_claims.specs.Called.{WeightsReturned}
 use Rattle.weights_diagonal.specs.declared.DiagonalProbability.{DiagonalProbability}
 use Rattle.claims.specs.BuildersCalled.{CreateReturned, NewReturned, NewDiagonalReturned, CodeBuilt}
+use Rattle.claims_examples.specs.Called.{InitializerReturned}
 use Rattle.claims.specs.Listed.{CallArguments, modifyBy, listedCalls, tallyGraph, tallyWeights}
 use Rattle.claims.specs.QueriesCalled.{PathColumns, PathReturned}
 use Rattle.claims.specs.Called.{OpenCalled}
@@ -96,6 +100,17 @@ pub record KindFive (v e : ℕ) (endsA endsB boundary : List ℕ) : Type 0 where
 abbrev pub listingP : Float
 listingP = ofBits binary64 0x3fc0000000000000
 
+-- Weights, get_initializer: columns with room for the listing's graph.
+pub record InitializerRoom (to : Initializer) : Type 0 where
+  pub endsA-long : 3 ≤ length (to .endsA)
+  pub endsB-long : 3 ≤ length (to .endsB)
+  pub weight-long : 3 ≤ length (to .weight)
+  pub virtual-long : 4 ≤ length (to .virtual)
+
+-- Weights, get_initializer: the graph that it hands on from a code of 4 vertices and 3 edges: ends and weights in its own columns, boundary bytes in the code's.
+abbrev pub graphHandedOn : CodeColumns → Initializer → GraphColumns
+graphHandedOn c to = graphColumns (take 3 (to .endsA)) (take 3 (to .endsB)) (take 3 (to .weight)) (take 4 (c .boundary))
+
 -- Weights, get_initializer: the graph of 4 vertices and 3 edges in a code's columns; the weight is twice the half weight.
 abbrev pub graphOfCode : CodeColumns → GraphColumns
 graphOfCode c = graphColumns (take 3 (c .endsA)) (take 3 (c .endsB)) (doubled 3 (c .halfWeight)) (take 4 (c .boundary))
@@ -156,6 +171,11 @@ pub record StarredExamples : Type 0 where
   -- "The listing's graph": `new` with the kind, d, rounds, p and M of the example line builds it, wherever the columns lent are long enough.
   pub listing-built : (c₀ c : CodeColumns) (r : Created) → NewReturned 1 3 0 listingP 500 c₀ c r → longEnough 4 3 (vertexRoom c₀) (edgeRoom c₀) (length (c₀ .neighborNumbers)) ≡ true
       → (createdSaid r ≡ accepts (4, 3)) × (graphOfCode c ≡ listingGraph)
+  -- Weights, get_initializer: called on it then, `get_initializer` hands this graph on, with two virtual vertices, wherever its own columns have room.
+  pub listing-handed-on : (c₀ c : CodeColumns) (r : Created) (to₀ to : Initializer) (n : ListCount) → NewReturned 1 3 0 listingP 500 c₀ c r
+      → longEnough 4 3 (vertexRoom c₀) (edgeRoom c₀) (length (c₀ .neighborNumbers)) ≡ true
+      → InitializerReturned 4 3 (code (c .endsA) (c .endsB) (c .halfWeight) (c .boundary)) to₀ to n → InitializerRoom to₀
+      → (listSaid n ≡ accepts 2) × (graphHandedOn c to ≡ listingGraph)
   -- "path 3 to 2 is (0,1000) (1,1000) (2,1000), total 3000;"
   pub path-3-2 : path (tallyGraph (listingAfter [])) (tallyWeights (listingAfter [])) 3 2
       ≡ some (record { vertices = 0 ∷ 1 ∷ 2 ∷ []; steps = 1000 ∷ 1000 ∷ 1000 ∷ []; total = 3000 })

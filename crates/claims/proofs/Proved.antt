@@ -309,8 +309,9 @@ demand-3 = record {
   list-returns = λ v e handed fresh o list. list-returns list (lengthsOf fresh) fresh refl;
   one-history = one-history;
   opened-when = λ v e handed lent₀ r lent o. opened-of v e handed lent₀ r lent o .answers;
-  built-opens = λ kind d rounds v e a b m w lent₀ r lent built l s t o.
-      accepted-open v e (graphColumns a b w m) lent₀ r lent o (built-accepted kind d rounds v e a b m (built-of kind d rounds v e a b m built) w lent₀ l s t);
+  built-opens = λ kind d rounds v e a b m handed lent₀ r lent built same-a same-b same-m l s t o.
+      accepted-open v e handed lent₀ r lent o
+      (built-accepted kind d rounds v e (handed .endsA) (handed .endsB) (handed .boundary) (handed-on (built-of kind d rounds v e a b m built) same-a same-b same-m) (handed .weights) lent₀ l s t);
   each-call = λ h. run h .0;
   crossing-then = number;
   counts = λ h. agrees h .counts-are;

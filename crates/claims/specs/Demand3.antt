@@ -118,13 +118,16 @@ pub record Demand3 : Type 0 where
   -- both are; it answers the counts handed over, with an empty log, where it is 0, and else zeros.
   pub opened-when : (vertices edges : ℕ) (handed lent₀ : GraphColumns) (r : EngineAnswer) (lent : GraphColumns) → OpenReturned vertices edges handed lent₀ r lent
       → Answered (engineSaid r) (openRefusal vertices edges handed lent₀) (counts vertices edges 0) noCounts
-  -- Engine, Tally, sentence 11: "A built code may open with any sound weights." Handed the counts, the ends and the boundary bytes that an accepted builder left, and
-  -- weights that meet questions 6 and 7, every open is accepted whose own columns are long enough.
-  pub built-opens : (kind d rounds vertices edges : ℕ) (endsA endsB boundary weights : List ℕ) (lent₀ : GraphColumns) (r : EngineAnswer) (lent : GraphColumns)
+  -- Engine, Tally, sentence 11: "A built code may open with any sound weights." Handed the counts, the ends and the boundary bytes that an accepted builder left, whatever
+  -- stands past the counts, and weights that meet questions 6 and 7, every open is accepted whose own columns are long enough.
+  pub built-opens : (kind d rounds vertices edges : ℕ) (endsA endsB boundary : List ℕ) (handed lent₀ : GraphColumns) (r : EngineAnswer) (lent : GraphColumns)
       → CodeBuilt kind d rounds vertices edges endsA endsB boundary
-      → edges ≤ length weights → weightsSound edges weights ≡ true
+      → take edges (handed .endsA) ≡ take edges endsA
+      → take edges (handed .endsB) ≡ take edges endsB
+      → take vertices (handed .boundary) ≡ take vertices boundary
+      → edges ≤ length (handed .weights) → weightsSound edges (handed .weights) ≡ true
       → columnsLong vertices edges (lent₀ .endsA) (lent₀ .endsB) (lent₀ .weights) (lent₀ .boundary) ≡ true
-      → OpenReturned vertices edges (graphColumns endsA endsB weights boundary) lent₀ r lent
+      → OpenReturned vertices edges handed lent₀ r lent
       → r ≡ Counts (counts vertices edges 0)
   -- "Each call is accepted or refused as document 01's questions say."
   pub each-call : (h : History) → h .answers ≡ numbers (h .calls) (tallyFirst h)

@@ -11,11 +11,7 @@ use lib.Dec.{ltb}
 use borrow.Author.Tests.{ltb-true, ltb-false, lt-ltb, le-ltb}
 use Rattle.engine_walks.specs.Lists.{foundOr}
 use Rattle.engine_walks.specs.Settling.{lesser, firstLeast}
-
--- of the numbers below n that pass the test t this one has the least x, and is the smaller among equals; or none passes
-abbrev pub IsFirst : (ℕ → Bool) → (ℕ → ℕ) → ℕ → Option ℕ → Type 0
-IsFirst t x n none = (v : ℕ) → v < n → t v ≡ false
-IsFirst t x n (some a) = (a < n) × (t a ≡ true) × ((v : ℕ) → v < n → t v ≡ true → (x a ≤ x v) × (x v ≤ x a → a ≤ v))
+use Rattle.engine_walks.specs.Claims.{IsFirst}
 
 -- one more number, the last
 last : {n v : ℕ} (P : ℕ → Type 0) → v < suc n → (v < n → P v) → P n → P v

@@ -15,12 +15,12 @@ use borrow.Author.Tests.{eqb-true, eq-eqb}
 use Rattle.engine_walks.specs.Graph.{Graph, endA, endB, edges, boundaryAt, GraphInRange, Left, Right, Joins, Walk, CrossingSet, CrossingWeight}
 use Rattle.engine_walks.specs.Settling.{State, statusAt, weightAt}
 use Rattle.engine_walks.specs.Answers.{isLeft, taken, weightIn, tableWeight, fromLeft, leastFromLeft, nearestRight, crossing, weightOf}
-use Rattle.engine_walks.specs.Claims.{IsCrossing, CrossingAnswer, LeftWeight, CrossingIsLeast, Potential, cutOff, CrossingIsBounded, CertificateDecides}
+use Rattle.engine_walks.specs.Claims.{IsCrossing, CrossingAnswer, LeftWeight, CrossingIsLeast, Potential, cutOff, CrossingIsBounded, CertificateDecides, IsFirst}
 use Rattle.columns.proofs.Counting.{length-each}
 use Rattle.engine_walks.proofs.LowerBound.{lower-bound, rises-at-most}
 use Rattle.engine_walks.proofs.UpperBound.{cancel, cancel-is, upper-bound}
 use Rattle.engine_walks.proofs.LeastWeights.{least, taken-no-lighter, all-taken}
-use Rattle.engine_walks.proofs.FirstLeast.{IsFirst, first-least}
+use Rattle.engine_walks.proofs.FirstLeast.{first-least}
 use Rattle.engine_walks.proofs.Turns.{Sources, Valid, not-absent-in, settle-valid, settled-rests, end-taken}
 use Rattle.engine_walks.proofs.TableAndPath.{column-taken, column-other}
 

@@ -16,11 +16,11 @@ use Rattle.engine_walks.specs.Lists.{bit}
 use Rattle.engine_walks.specs.Graph.{Graph, edges, endA, endB, GraphInRange, Joins, stay}
 use Rattle.engine_walks.specs.Settling.{State, statusAt, weightAt, previousAt, toTake, start, changes, waits, byStatus, offer, relaxEdge, relax, mark, takeVertex, takeChosen, stopped, next, settle, settled}
 use Rattle.engine_walks.specs.Answers.{tableWeight, tablePrevious}
-use Rattle.engine_walks.specs.Claims.{IsSource, EndTaken}
+use Rattle.engine_walks.specs.Claims.{IsSource, EndTaken, IsFirst}
 use Rattle.columns.proofs.Counting.{length-each, getD-each}
 use Rattle.engine_walks.proofs.LeastWeights.{Takes, Inv, keeps}
 use Rattle.engine_walks.proofs.Offers.{Offered, Relaxed, outcome-open, relaxed-none, relaxed-skip, relaxed-edge, takes}
-use Rattle.engine_walks.proofs.FirstLeast.{IsFirst, first-least}
+use Rattle.engine_walks.proofs.FirstLeast.{first-least}
 
 -- every column has n places
 pub record Fits (n : ℕ) (s : State) : Type 0 where

@@ -1,7 +1,7 @@
 -- What is proved: of settling, its table, its path, the size of its sums, the crossing weight, certificates, and two graphs that are alike.
 use mathlib.Core.Path.{_≡_}
 use mathlib.Core.Logic.{_⊎_, _≢_, _↔_}
-use mathlib.Core.Bool.{Bool, true}
+use mathlib.Core.Bool.{Bool, true, false}
 use mathlib.Core.List.{List, [], _∷_}
 use mathlib.Core.Option.{Option, some, none}
 use Prim.Native.Nat.{ℕ, suc, _+_, _-_, _*_, _≤_, _<_, min}
@@ -10,10 +10,19 @@ use lib.IntN.{ℤ, pos, negsuc}
 use Rattle.columns.specs.Limits.{vertexLimit, weightLimit, tableBound}
 use Rattle.engine_walks.specs.Lists.{sum, Distinct}
 use Rattle.engine_walks.specs.Graph.{Graph, edges, endA, endB, boundaryAt, GraphInRange, Left, Right, Joins, Walk, Joined, CrossingSet, LeastWeight, CrossingWeight}
-use Rattle.engine_walks.specs.Settling.{State, statusAt, weightAt, settle, settled}
+use Rattle.engine_walks.specs.Settling.{State, statusAt, weightAt, firstLeast, settle, settled}
 use Rattle.engine_walks.specs.Answers.{weightIn, TableColumns, table, FoundPath, path, leastFromLeft, crossing}
 
 -- ---- settling
+
+-- Engine, Settling, sentence 1: of the numbers below n that pass the test t this one has the least x, and is the smaller among equals; none where none passes.
+abbrev pub IsFirst : (ℕ → Bool) → (ℕ → ℕ) → ℕ → Option ℕ → Type 0
+IsFirst t x n none = (v : ℕ) → v < n → t v ≡ false
+IsFirst t x n (some a) = (a < n) × (t a ≡ true) × ((v : ℕ) → v < n → t v ≡ true → (x a ≤ x v) × (x v ≤ x a → a ≤ v))
+
+-- Engine, Settling, sentence 1: what `firstLeast` finds is that one.
+abbrev pub FirstIsLeast : Type 0
+FirstIsLeast = (t : ℕ → Bool) (x : ℕ → ℕ) (n : ℕ) → IsFirst t x n (firstLeast t x n)
 
 -- Engine, Settling, sentence 3: x is a vertex that the test names as a source.
 abbrev pub IsSource : Graph → (ℕ → Bool) → ℕ → Type 0

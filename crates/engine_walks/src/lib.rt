@@ -1,6 +1,11 @@
 // Walks, edge sets and settling: what is claimed of their definitions. Each claim is the contract of a function with nothing to do.
-ghost use Rattle.engine_walks.specs.Claims.{SettlingIsLeast, TableIsLeast, PathIsLeast, SumsFit, CrossingIsLeast, CrossingIsBounded, CertificateDecides, WeightsCompare};
+ghost use Rattle.engine_walks.specs.Claims.{FirstIsLeast, SettlingIsLeast, TableIsLeast, PathIsLeast, SumsFit, CrossingIsLeast, CrossingIsBounded, CertificateDecides, WeightsCompare};
 ghost use Rattle.engine_walks.specs.Examples.{SettlingExamples};
+
+// The vertex to take next is the waiting one of least weight, the smaller number among equals.
+pub fn first_is_least()
+    ensures { λ _. ⌜ FirstIsLeast ⌝ }
+{}
 
 // A taken vertex has the least weight of a walk from a source, also after an early stop; where nothing waits, all that is joined was taken.
 pub fn settling_is_least()

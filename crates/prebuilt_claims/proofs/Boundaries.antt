@@ -11,8 +11,8 @@ use Rattle.columns.proofs.Tests.{and-both, both-and}
 use Rattle.engine_walks.specs.Lists.{sum}
 use Rattle.engine_walks.specs.Graph.{Graph, GraphInRange, Walk}
 use Rattle.engine_walks.specs.Answers.{weightIn, table}
-use Rattle.engine_walks.specs.Claims.{Row, IsTable}
-use Rattle.engine_walks.proofs.FirstLeast.{IsFirst, first-least}
+use Rattle.engine_walks.specs.Claims.{Row, IsTable, IsFirst}
+use Rattle.engine_walks.proofs.FirstLeast.{first-least}
 use Rattle.engine_walks.proofs.TableAndPath.{table-is-least}
 use Rattle.prebuilt_entries.specs.Nearest.{isReached, amount, nearestIn}
 use Rattle.prebuilt_claims.specs.Prebuilt.{virtual, Peer, getBoundaryWeight, weightEntry, vertexEntry, boundaryValues, NearestVirtual, NoneVirtual}

@@ -13,7 +13,8 @@ use Rattle.columns.proofs.Counting.{getD-each}
 use Rattle.engine_walks.specs.Graph.{Graph}
 use Rattle.engine_walks.specs.Settling.{lesser, firstLeast, weightAt, settled}
 use Rattle.engine_walks.specs.Answers.{weightIn, table, taken, tableWeight, only}
-use Rattle.engine_walks.proofs.FirstLeast.{IsFirst, first-least}
+use Rattle.engine_walks.specs.Claims.{IsFirst}
+use Rattle.engine_walks.proofs.FirstLeast.{first-least}
 use Rattle.prebuilt_entries.specs.Entries.{isVirtual, entryBy}
 use Rattle.prebuilt_entries.specs.Nearest.{isReached, amount, nearestIn, boundaryIn, weightTo, vertexTo}
 use Rattle.prebuilt_claims.specs.Prebuilt.{virtual, reached, completeEdge, Peer, offered, boundaryBelow, getBoundaryWeight, remaining, getEdgeWeight, edgeEntry, weightEntry, vertexEntry}

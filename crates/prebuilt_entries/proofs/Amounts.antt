@@ -15,7 +15,8 @@ use Rattle.columns.specs.Lists.{over}
 use Rattle.columns.proofs.Columns.{take-over, length-over}
 use Rattle.engine_walks.specs.Answers.{weightIn}
 use Rattle.engine_walks.specs.Lists.{foundOr}
-use Rattle.engine_walks.proofs.FirstLeast.{IsFirst, first-least, pass-by, pass-take, pass-keep}
+use Rattle.engine_walks.specs.Claims.{IsFirst}
+use Rattle.engine_walks.proofs.FirstLeast.{first-least, pass-by, pass-take, pass-keep}
 use Rattle.prebuilt_entries.specs.Entries.{rank, isVirtual}
 use Rattle.prebuilt_entries.specs.Nearest.{isReached, amount, nearestIn}
 

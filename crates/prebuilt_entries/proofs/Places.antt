@@ -11,7 +11,8 @@ use lib.IntN.{ℤ, negsuc}
 use borrow.Author.Tests.{eq-eqb, ne-eqb, lt-ltb, le-ltb}
 use Rattle.engine_walks.specs.Answers.{weightIn}
 use Rattle.engine_walks.specs.Lists.{foundOr}
-use Rattle.engine_walks.proofs.FirstLeast.{IsFirst, first-least}
+use Rattle.engine_walks.specs.Claims.{IsFirst}
+use Rattle.engine_walks.proofs.FirstLeast.{first-least}
 use Rattle.prebuilt_entries.specs.Entries.{isVirtual}
 use Rattle.prebuilt_entries.specs.Nearest.{isReached, amount, nearestIn, boundaryIn, weightTo, vertexTo}
 

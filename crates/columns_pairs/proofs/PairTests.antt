@@ -14,6 +14,7 @@ use lib.Dec.{eqb}
 use Rattle.columns.specs.Questions.{every}
 use Rattle.columns.proofs.Tests.{every-not, at-every, every-at}
 use Rattle.columns_pairs.specs.Pairs.{samePair, pairsApart, endsDiffer, lowAt, highAt, OnePair}
+use Rattle.columns_pairs.specs.Listed.{Table}
 
 -- two pairs are the same where their smaller and their larger numbers are
 either : (x y u v : ℕ) → min x y ≡ min u v → max x y ≡ max u v → ((x ≡ u) × (y ≡ v)) ⊎ ((x ≡ v) × (y ≡ u))
@@ -97,6 +98,9 @@ zeros-at (suc n) (suc v) = zeros-at n v
 
 pub zeros-room : (n k : ℕ) → n ≤ k → n ≤ length {A = ℕ} (replicate k 0)
 zeros-room n k h = rw (length-replicate {A = ℕ} k 0) h
+
+pub zeros-table : Table (λ v. 0) (replicate 4096 0)
+zeros-table = record { size = length-replicate {A = ℕ} 4096 0; at = λ v l. zeros-at 4096 v }
 
 -- what the two tests say
 pub differ-at : (a b : List ℕ) (e : ℕ) → endsDiffer a b e ≡ true → (k : ℕ) → k < e → getD a k 0 ≡ getD b k 0 → ⊥

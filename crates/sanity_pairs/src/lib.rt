@@ -1,8 +1,8 @@
 // The first edge that joins the pair of an earlier one.
 ghost use mathlib.Core.Path.{_≡_};
-ghost use Prim.Native.Nat.{_<_, _≤_};
+ghost use Prim.Native.Nat.{ℕ, _<_, _≤_};
 ghost use lib.ListN.{length};
-ghost use Rattle.columns_pairs.specs.Pairs.{FirstRepeat};
+ghost use Rattle.columns_pairs.specs.Pairs.{highAt, FirstRepeat};
 ghost use Rattle.sanity_verdicts.specs.Sanity.{firstOf, duplicate};
 ghost use Rattle.sanity_pairs.specs.Steps.{FirstSame};
 use columns::EDGE_LIMIT;
@@ -10,6 +10,7 @@ use columns::EdgeIndex;
 use columns::VERTEX_LIMIT;
 use columns::questions::all_below;
 use columns::questions::both;
+use columns_pairs::first_repeat_in;
 use columns_pairs::high_at;
 use columns_pairs::low_at;
 use sanity_verdicts::Verdict;
@@ -49,18 +50,29 @@ fn duplicates_one_by_one(a: &[u32], b: &[u32], n: usize) -> Verdict
     Verdict::Sound
 }
 
-// The first of the first n edges that joins the pair of an earlier one, or n: by lists where the ends are below 4,096, and else by sorting.
+// The first of the first n edges that joins the pair of an earlier one, or n, where every end is below 4,096; the local arrays.
+fn first_by_lists(a: &[u32], b: &[u32], n: usize) -> usize
+    requires { ⌜ (n ≤ 32768) × (n ≤ length (now a)) × (n ≤ length (now b)) ⌝ }
+    requires { ⌜ ((j : ℕ) → j < n → highAt (now a) (now b) j < 4096) ⌝ }
+    ensures { λ r. ⌜ FirstRepeat (now (a .entry)) (now (b .entry)) n r ⌝ }
+{
+    let mut table = [0u32; 4096];
+    let mut keys = [0u32; 32768];
+    let mut marks = [0u32; 4096];
+    first_repeat_in(a, b, n, &mut table, &mut keys, &mut marks)
+}
+
+// The same for ends of any size: by lists where the ends are below 4,096, and else by sorting.
 fn first_later(a: &[u32], b: &[u32], n: usize) -> usize
     requires { ⌜ (n ≤ 32768) × (n ≤ length (now a)) × (n ≤ length (now b)) ⌝ }
     ensures { λ r. ⌜ FirstRepeat (now (a .entry)) (now (b .entry)) n r ⌝ }
 {
-    if !all_below(a, n, VERTEX_LIMIT) {
-        return columns_sorted_pairs::first_repeat(a, b, n);
+    let small_a = all_below(a, n, VERTEX_LIMIT);
+    let small_b = all_below(b, n, VERTEX_LIMIT);
+    if both(small_a, small_b) {
+        return first_by_lists(a, b, n);
     }
-    if !all_below(b, n, VERTEX_LIMIT) {
-        return columns_sorted_pairs::first_repeat(a, b, n);
-    }
-    columns_pairs::first_repeat(a, b, n)
+    columns_sorted_pairs::first_repeat(a, b, n)
 }
 
 // The first finding among the edges, within the limit of edges by the first that joins the pair of an earlier one.

@@ -1,18 +1,20 @@
--- Laws of stamps, and of numbers twice in a list. Assumes nothing.
+-- Laws of stamps, of last places with the same number, and of numbers twice in a list. Assumes nothing.
 use mathlib.Core.Path.{_≡_, refl, sym, ap, _∙_, subst}
-use mathlib.Core.Bool.{Bool, true, false, cond, false≢true}
+use mathlib.Core.Bool.{Bool, true, false, _&&_, cond, false≢true}
 use mathlib.Core.List.{List}
-use Prim.Native.Nat.{ℕ, zero, suc, _+_, _≤_, _<_}
+use Prim.Native.Nat.{ℕ, zero, suc, _+_, _-_, _≤_, _<_}
 use native.Mathlib.Decide.{ℕ-discrete}
 use native.Mathlib.Omega.{arith}
-use borrow.Author.Tests.{eq-eqb, ne-eqb, eqb-true}
-use lib.Dec.{eqb}
+use borrow.Author.Tests.{eq-eqb, ne-eqb, eqb-true, leb-true, ltb-true, le-leb, lt-ltb}
+use lib.Dec.{eqb, leb, ltb}
 use lib.ListN.{length, getD, set, take, drop, length-set, length-take, length-drop}
 use lib.Seq.{getD-set-same, getD-set-other, getD-take, getD-drop}
 use Rattle.sanity_verdicts.specs.declared.Verdict.{Verdict}
 use Rattle.sanity_verdicts.specs.declared.Verdict.the-variants.{Sound, NoEdges, EdgeTwice}
 use Rattle.sanity_verdicts.specs.Sanity.{edgeNumbered, vertexNumbered, firstOf, foundIf, twice, atVertex}
+use Rattle.columns.proofs.Tests.{and-both, both-and}
 use Rattle.columns_neighbors.specs.Lists.{sumTo, listAt}
+use Rattle.columns_places.specs.Places.{LastSame}
 use Rattle.sanity_verdicts.specs.Steps.{isSound}
 use Rattle.sanity_verdicts.specs.ListSteps.{Seen, Stamped, Below}
 use Rattle.sanity_verdicts.proofs.Scans.{first-next, first-stop, first-all, first-any, found-false}
@@ -26,7 +28,7 @@ module _ (numbers : List ℕ) (start : ℕ) where
   seen-none i x f = record { yes = λ t. absurd (false≢true t); no = λ t. f }
 
   -- seen by its stamp
-  pub seen-stamp : (i x stamp : ℕ) (mark : List ℕ) → x < 32768 → Stamped numbers start i stamp mark → Seen numbers start i x (eqb (getD mark x 0) stamp)
+  pub seen-stamp : (i x stamp : ℕ) (mark : List ℕ) → x < length mark → Stamped numbers start i stamp mark → Seen numbers start i x (eqb (getD mark x 0) stamp)
   seen-stamp i x stamp mark h s = record {
     yes = λ t. s .stamped x h (eqb-true (getD mark x 0) stamp t);
     no = λ t j l e. false≢true (sym t ∙ eq-eqb (getD mark x 0) stamp (subst (λ (y : ℕ). getD mark y 0 ≡ stamp) e (s .has j l (rw e h))));
@@ -34,56 +36,67 @@ module _ (numbers : List ℕ) (start : ℕ) where
 
   -- one number more: stamped, or beyond the stamps
   module _ (i x stamp : ℕ) (mark : List ℕ) (e : getD numbers (start + i) 0 ≡ x) (s : Stamped numbers start i stamp mark) where
-    pub stamp-one : x < 32768 → Stamped numbers start (i + 1) stamp (set mark x stamp)
+    pub stamp-one : x < length mark → Stamped numbers start (i + 1) stamp (set mark x stamp)
     stamp-one h = record {
-      len = length-set mark x stamp ∙ s .len;
-      most = λ y l. most y l (ℕ-discrete y x);
-      stamped = λ y l t. stamped y l t (ℕ-discrete y x);
-      has = λ j l t. has j l t (ℕ-discrete (getD numbers (start + j) 0) x) (ℕ-discrete j i);
+      most = λ y l. most y (rw (length-set mark x stamp) at l) (ℕ-discrete y x);
+      stamped = λ y l t. stamped y (rw (length-set mark x stamp) at l) t (ℕ-discrete y x);
+      has = λ j l t. has j l (rw (length-set mark x stamp) at t) (ℕ-discrete (getD numbers (start + j) 0) x) (ℕ-discrete j i);
     }
       where
         at-x : getD (set mark x stamp) x 0 ≡ stamp
-        at-x = getD-set-same mark x stamp 0 (omega (arith, s .len))
+        at-x = getD-set-same mark x stamp 0 h
 
-        most : (y : ℕ) → y < 32768 → Dec (y ≡ x) → getD (set mark x stamp) y 0 ≤ stamp
+        most : (y : ℕ) → y < length mark → Dec (y ≡ x) → getD (set mark x stamp) y 0 ≤ stamp
         most y l (yes q) = rw q (omega (arith, at-x))
         most y l (no q) = rw (getD-set-other mark x y stamp 0 q) (s .most y l)
 
-        stamped : (y : ℕ) → y < 32768 → getD (set mark x stamp) y 0 ≡ stamp → Dec (y ≡ x) → (j : ℕ) × ((j < i + 1) × (getD numbers (start + j) 0 ≡ y))
+        stamped : (y : ℕ) → y < length mark → getD (set mark x stamp) y 0 ≡ stamp → Dec (y ≡ x) → (j : ℕ) × ((j < i + 1) × (getD numbers (start + j) 0 ≡ y))
         stamped y l t (yes q) = (i, (omega arith, e ∙ sym q))
         stamped y l t (no q) = let (j, (k, r)) = s .stamped y l (sym (getD-set-other mark x y stamp 0 q) ∙ t) in (j, (omega arith, r))
 
-        has : (j : ℕ) → j < i + 1 → getD numbers (start + j) 0 < 32768 → Dec (getD numbers (start + j) 0 ≡ x) → Dec (j ≡ i) → getD (set mark x stamp) (getD numbers (start + j) 0) 0 ≡ stamp
+        has : (j : ℕ) → j < i + 1 → getD numbers (start + j) 0 < length mark → Dec (getD numbers (start + j) 0 ≡ x) → Dec (j ≡ i) → getD (set mark x stamp) (getD numbers (start + j) 0) 0 ≡ stamp
         has j l t (yes q) d = ap (λ (y : ℕ). getD (set mark x stamp) y 0) q ∙ at-x
         has j l t (no q) (yes r) = absurd (q (ap (λ (m : ℕ). getD numbers (start + m) 0) r ∙ e))
         has j l t (no q) (no r) = getD-set-other mark x (getD numbers (start + j) 0) stamp 0 q ∙ s .has j (omega arith) t
 
-    pub stamp-none : 32768 ≤ x → Stamped numbers start (i + 1) stamp mark
+    pub stamp-none : length mark ≤ x → Stamped numbers start (i + 1) stamp mark
     stamp-none h = record {
-      len = s .len;
       most = s .most;
       stamped = λ y l t. let (j, (k, r)) = s .stamped y l t in (j, (omega arith, r));
       has = λ j l t. has j l t (ℕ-discrete j i);
     }
       where
-        has : (j : ℕ) → j < i + 1 → getD numbers (start + j) 0 < 32768 → Dec (j ≡ i) → getD mark (getD numbers (start + j) 0) 0 ≡ stamp
+        has : (j : ℕ) → j < i + 1 → getD numbers (start + j) 0 < length mark → Dec (j ≡ i) → getD mark (getD numbers (start + j) 0) 0 ≡ stamp
         has j l t (yes r) = absurd (let q : getD numbers (start + j) 0 ≡ x = ap (λ (m : ℕ). getD numbers (start + m) 0) r ∙ e in omega arith)
         has j l t (no r) = s .has j (omega arith) t
 
   -- a new stamp, before the first number
   pub stamp-new : (v : ℕ) (mark : List ℕ) → Below v mark → Stamped numbers start 0 (v + 1) mark
   stamp-new v mark b = record {
-    len = b .len;
     most = λ x h. omega (arith, b .most x h);
     stamped = λ x h t. absurd (omega (arith, b .most x h));
     has = λ j h. absurd (omega arith);
   }
 
+  -- seen by the last place with the same number
+  pub seen-last : (i x p : ℕ) → getD numbers (start + i) 0 ≡ x → LastSame numbers (start + i) p → Seen numbers start i x (leb start p && ltb p (start + i))
+  seen-last i x p e l = record {
+    yes = λ t.
+        let (t₁, t₂) = and-both (leb start p) (ltb p (start + i)) t in
+        let a : start ≤ p = leb-true start p t₁ in
+        let b : p < start + i = ltb-true p (start + i) t₂ in
+        let at : start + (p - start) ≡ p = omega arith in
+        (p - start, (omega arith, ap (λ (m : ℕ). getD numbers m 0) at ∙ l .same ∙ e));
+    no = λ t j h q.
+        let (b, m) = l .last (start + j) (omega arith) (q ∙ sym e) in
+        false≢true (sym t ∙ both-and (le-leb start p (omega arith)) (lt-ltb p (start + i) b));
+  }
+
 pub stamp-below : {numbers : List ℕ} {start i stamp : ℕ} {mark : List ℕ} → Stamped numbers start i stamp mark → Below stamp mark
-stamp-below s = record { len = s .len; most = s .most }
+stamp-below s = record { most = s .most }
 
 pub below-more : (v : ℕ) {mark : List ℕ} → Below v mark → Below (v + 1) mark
-below-more v b = record { len = b .len; most = λ x h. omega (arith, b .most x h) }
+below-more v b = record { most = λ x h. omega (arith, b .most x h) }
 
 -- ---- the loop over a list
 

@@ -10,14 +10,12 @@ pub record Seen (numbers : List ℕ) (start i x : ℕ) (r : Bool) : Type 0 where
   pub yes : r ≡ true → (j : ℕ) × ((j < i) × (getD numbers (start + j) 0 ≡ x))
   pub no : r ≡ false → (j : ℕ) → j < i → getD numbers (start + j) 0 ≡ x → ⊥
 
--- Six builders, sanity_check, sentence 1, verdict 4: the stamps of the numbers below 32,768: `stamp` at those of the first i, less at the others.
+-- Six builders, sanity_check, sentence 1, verdict 4: the stamps, one for each number below the column's length: `stamp` at those of the first i, less at the others.
 pub record Stamped (numbers : List ℕ) (start i stamp : ℕ) (mark : List ℕ) : Type 0 where
-  pub len : length mark ≡ 32768
-  pub most : (x : ℕ) → x < 32768 → getD mark x 0 ≤ stamp
-  pub stamped : (x : ℕ) → x < 32768 → getD mark x 0 ≡ stamp → (j : ℕ) × ((j < i) × (getD numbers (start + j) 0 ≡ x))
-  pub has : (j : ℕ) → j < i → getD numbers (start + j) 0 < 32768 → getD mark (getD numbers (start + j) 0) 0 ≡ stamp
+  pub most : (x : ℕ) → x < length mark → getD mark x 0 ≤ stamp
+  pub stamped : (x : ℕ) → x < length mark → getD mark x 0 ≡ stamp → (j : ℕ) × ((j < i) × (getD numbers (start + j) 0 ≡ x))
+  pub has : (j : ℕ) → j < i → getD numbers (start + j) 0 < length mark → getD mark (getD numbers (start + j) 0) 0 ≡ stamp
 
 -- Six builders, sanity_check, sentence 1, verdict 4: no stamp is above v.
 pub record Below (v : ℕ) (mark : List ℕ) : Type 0 where
-  pub len : length mark ≡ 32768
-  pub most : (x : ℕ) → x < 32768 → getD mark x 0 ≤ v
+  pub most : (x : ℕ) → x < length mark → getD mark x 0 ≤ v

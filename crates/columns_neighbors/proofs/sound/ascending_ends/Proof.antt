@@ -16,21 +16,16 @@ returns c = λ e. absurd (true≢false (sym e))
 returns-2 : tie.Need-returns-2
 returns-2 c = λ e. absurd (true≢false (sym e))
 
-returns-3 : tie.Need-returns-3
-returns-3 c = λ e. absurd (true≢false (sym e))
-
 ascending-requires : tie.Need-ascending-requires
 ascending-requires c κs =
-    let s = c .before .before .before .before .before .before in
+    let s = c .before .before .before .before in
     let v = and-both (leb 1 (s .args .vertex-num)) (leb (s .args .vertex-num) 4096) (s .pre .0) in
-    let below = sym (c .before .all-below .ensures) ∙ not-false _ (c .if3 .left) in
-    ((omega arith, omega arith), λ j h. omega (arith, leb-true (s .args .vertex-num) 4096 (v .1), below-first (s .args .vertex-num) (s .args .edge-num) (s .args .b .now) below (omega arith) j h))
+    (omega arith, omega arith, leb-true (s .args .vertex-num) 4096 (v .1))
 
-returns-4 : tie.Need-returns-4
-returns-4 c = λ e.
-    let s = c .before .before .before .before .before .before .before in
-    let below = sym (c .before .before .all-below .ensures) ∙ not-false _ (c .before .if3 .left) in
-    ascending-says (s .args .vertex-num) (s .args .edge-num) (s .args .a .now) (s .args .b .now) (s .pre .0) (s .pre .1) (omega arith) (omega arith) below (c .ascending .ensures e)
+returns-3 : tie.Need-returns-3
+returns-3 c = λ e.
+    let s = c .before .before .before .before .before in
+    ascending-says (s .args .vertex-num) (s .args .edge-num) (s .args .a .now) (s .args .b .now) (s .pre .0) (s .pre .1) (omega arith) (omega arith) (c .ascending .ensures e)
 
 pub ascending-ends-spec : {M : Type 1} → statement M
-ascending-ends-spec = tie.close (tie.spec returns returns-2 (λ c κs. tt) returns-3 ascending-requires returns-4)
+ascending-ends-spec = tie.close (tie.spec returns returns-2 ascending-requires returns-3)

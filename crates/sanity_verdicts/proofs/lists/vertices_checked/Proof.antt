@@ -1,16 +1,14 @@
--- `sanity_verdicts::lists::vertices_checked` meets its contract: the array holds 0 alone, so that no stamp is above 0. Assumes nothing.
-use Prim.Native.Nat.{ℕ}
+-- `sanity_verdicts::lists::vertices_checked` meets its contract: each way to the finding promises it. Assumes nothing.
 use native.Mathlib.Omega.{arith}
-use lib.ListN.{length-replicate}
-use Rattle.columns_pairs.proofs.PairTests.{zeros-at}
 use borrow.Author.Needs.{needs}
 use Rattle.sanity_verdicts.proofs.lists.vertices_checked.Statement.{statement}
 use Rattle.sanity_verdicts.proofs.lists.vertices_checked.Tie as tie
 
-vertices-in-requires : tie.Need-vertices-in-requires
-vertices-in-requires c κs =
-    let p = c .before .before .before .pre in
-    (p, record { len = length-replicate {A = ℕ} 32768 0; most = λ x h. omega (arith, zeros-at 32768 x) })
+list-places-requires : tie.Need-list-places-requires
+list-places-requires c κs = let p = c .before .before .pre in (p .0, omega (arith, p .1))
+
+vertices-by-places-requires : tie.Need-vertices-by-places-requires
+vertices-by-places-requires c κs = let p = c .before .before .before .before .before .before .pre in (p .0, p .1, omega (arith, p .1, c .before .before .before .list-places .ensures), omega arith)
 
 pub vertices-checked-spec : {M : Type 1} → statement M
-vertices-checked-spec = tie.close (tie.spec (λ c. search needs) vertices-in-requires (λ c. search needs))
+vertices-checked-spec = tie.close (tie.spec list-places-requires (λ c κs. search needs) (λ c. search needs) (λ c κs. search needs) (λ c κs. search needs) (λ c. search needs) vertices-by-places-requires (λ c. search needs))

@@ -1,0 +1,2 @@
+-- Sides: laws of places sorted by their numbers.
+pub mod Sides

@@ -105,6 +105,22 @@ fn shapes(code: &Columns, inputs: &mut Inputs) -> Vec<(&'static str, Columns)> {
     (repeated.a[e - 1], repeated.b[e - 1]) = (repeated.b[0], repeated.a[0]);
     let mut damaged = shape(code.v, &pairs);
     damaged.a[e / 2] = code.v + 70_000;
+    let mut one_number = shape(code.v, &pairs);
+    one_number.numbers[e] = 70_000;
+    let mut past = shape(code.v, &pairs);
+    for number in past.numbers.iter_mut() {
+        *number = *number * 65_537 + 2_147_483_648;
+    }
+    let mut both = shape(code.v, &pairs);
+    both.a[e / 2] = u32::MAX;
+    both.numbers.copy_from_slice(&past.numbers);
+    // the first vertex has a list of nearly all numbers, equal mod 4,096
+    let mut one_list = shape(code.v, &pairs);
+    for (k, number) in one_list.numbers.iter_mut().enumerate() {
+        *number = u32::MAX - 4_096 * k as u32;
+    }
+    one_list.lengths[..code.v as usize].fill(1);
+    one_list.lengths[0] = 2 * code.e - (code.v - 1);
     vec![
         ("built code", shape(code.v, &pairs)),
         ("edges shuffled", shape(code.v, &shuffled)),
@@ -113,6 +129,10 @@ fn shapes(code: &Columns, inputs: &mut Inputs) -> Vec<(&'static str, Columns)> {
         ("32,768 edges shuffled, larger ends equal mod 16", shape(4096, &even)),
         ("edges shuffled, the last repeats the first", repeated),
         ("one end past the vertices", damaged),
+        ("one neighbour number past the edges", one_number),
+        ("every neighbour number past the edges", past),
+        ("every neighbour number past the edges, one list of nearly all", one_list),
+        ("one end past the vertices, every neighbour number past the edges", both),
     ]
 }
 
@@ -294,6 +314,9 @@ fn main() {
         let size = (shape.v + shape.e) as f64;
         let (sanity, question) = *built.get_or_insert((ours / size, door / size));
         row(&format!("`sanity_check`, {what}, Rust"), ours, rust, "at most 5 times a built code of that size", ours <= 5. * sanity * size);
+        if what.contains("neighbour number") {
+            continue;
+        }
         row(
             &format!("questions 6 and 7 (`reset` on an empty log), {what}; a built code of that size"),
             door,
@@ -301,6 +324,36 @@ fn main() {
             "at most 6",
             door <= 6. * question * size,
         );
+    }
+
+    // ---- sanity_check above the limits: each edge is compared with those before it
+    for (v, e) in [(4_096, 32_768), (8_192, 65_536)] {
+        let pairs: Vec<(u32, u32)> = (0..e).map(|k| (k / 8, (k / 8 + k % 8 + 1) % v)).collect();
+        let mut large = Columns::with_room(v as usize, pairs.len());
+        (large.v, large.e) = (v, e);
+        for (k, &(a, b)) in pairs.iter().enumerate() {
+            (large.a[k], large.b[k]) = (a, b);
+        }
+        for (past, which) in [(0, ""), (2_147_483_648, ", every neighbour number past the edges")] {
+            let mut lists = vec![Vec::new(); v as usize];
+            for (k, &(a, b)) in pairs.iter().enumerate() {
+                lists[a as usize].push(k as u32 + past);
+                lists[b as usize].push(k as u32 + past);
+            }
+            large.lengths = lists.iter().map(|list| list.len() as u32).collect();
+            large.numbers = lists.concat();
+            let rust_large = large.code();
+            let (ours, rust) = two(
+                if e > 32_768 { 3 } else { times(200) },
+                || {
+                    black_box(ours::sanity_check(large.v, large.e, &large.a, &large.b, &large.lengths, &large.numbers));
+                },
+                || {
+                    black_box(rust_large.sanity_check().is_ok());
+                },
+            );
+            row(&format!("`sanity_check`, {v} vertices, {e} edges{which}, Rust"), ours, rust, "", true);
+        }
     }
 
     // ---- sampling

@@ -679,6 +679,20 @@ fn sanity(inputs: &mut Inputs) -> (Group, [u64; 5]) {
         let mut columns = Columns::blank();
         columns.create(kind, d, rounds);
         one(&mut g, &columns, &|| format!("kind {kind}, d {d}, rounds {rounds}"));
+        // every neighbour number past the edges; then one of them again, in its own list or in another
+        let places = 2 * columns.e as usize;
+        for number in columns.numbers[..places].iter_mut() {
+            *number = u32::MAX - 4096 * *number;
+        }
+        one(&mut g, &columns, &|| format!("kind {kind}, d {d}, rounds {rounds}, numbers past the edges"));
+        for _ in 0..40 {
+            let at = 1 + inputs.below(places - 1);
+            let back = 1 + inputs.below(at.min(6));
+            let was = columns.numbers[at];
+            columns.numbers[at] = columns.numbers[at - back];
+            one(&mut g, &columns, &|| format!("kind {kind}, d {d}, rounds {rounds}, numbers past the edges, place {at} as {back} before it"));
+            columns.numbers[at] = was;
+        }
     }
     for round in 0..120_000usize {
         let n = round / 6000 + inputs.below(6);
@@ -706,7 +720,7 @@ fn sanity(inputs: &mut Inputs) -> (Group, [u64; 5]) {
         columns.numbers = room;
         // damage
         for _ in 0..inputs.below(3) {
-            match inputs.below(6) {
+            match inputs.below(7) {
                 0 if e > 0 => {
                     // an edge that joins the pair of another, either way round
                     let (x, y) = (inputs.below(e), inputs.below(e));
@@ -734,6 +748,10 @@ fn sanity(inputs: &mut Inputs) -> (Group, [u64; 5]) {
                 5 if e > 0 => {
                     let (x, far) = (inputs.below(2 * e), inputs.word() as u32);
                     columns.numbers[x] = far;
+                }
+                6 => {
+                    let far = inputs.word() as u32;
+                    columns.numbers.iter_mut().for_each(|x| *x = x.wrapping_mul(4096).wrapping_add(far));
                 }
                 _ => {}
             }

@@ -4,6 +4,7 @@ use mathlib.Core.Bool.{Bool, true, false, _&&_, cond, false≢true}
 use mathlib.Core.List.{List}
 use Prim.Native.Nat.{ℕ, zero, suc, _+_, _-_, _≤_, _<_}
 use native.Mathlib.Decide.{ℕ-discrete}
+use native.Mathlib.Numerals.{add-one}
 use native.Mathlib.Omega.{arith}
 use borrow.Author.Tests.{eq-eqb, ne-eqb, eqb-true, leb-true, ltb-true, le-leb, lt-ltb}
 use lib.Dec.{eqb, leb, ltb}
@@ -14,10 +15,11 @@ use Rattle.sanity_verdicts.specs.declared.Verdict.the-variants.{Sound, N
 use Rattle.sanity_verdicts.specs.Sanity.{edgeNumbered, vertexNumbered, firstOf, foundIf, twice, atVertex}
 use Rattle.columns.proofs.Tests.{and-both, both-and}
 use Rattle.columns_neighbors.specs.Lists.{sumTo, listAt}
+use Rattle.columns_neighbors.proofs.Placing.{sum-more, sum-ascends}
 use Rattle.columns_places.specs.Places.{LastSame}
 use Rattle.sanity_verdicts.specs.Steps.{isSound}
-use Rattle.sanity_verdicts.specs.ListSteps.{Seen, Stamped, Below}
-use Rattle.sanity_verdicts.proofs.Scans.{first-next, first-stop, first-all, first-any, found-false}
+use Rattle.sanity_verdicts.specs.ListSteps.{Seen, Stamped, Below, Ascends}
+use Rattle.sanity_verdicts.proofs.Scans.{first-next, first-stop, first-all, first-same, first-any, found-false}
 
 module _ (numbers : List ℕ) (start : ℕ) where
   -- seen at place j, and nowhere
@@ -150,6 +152,25 @@ module _ (numbers : List ℕ) (start len v : ℕ) (fits : start + len ≤ length
   unfolding NoneTwice twice finding
   twice-none n = sym (ap (λ (k : ℕ). firstOf k (finding (part numbers start len) v)) list-length ∙ n)
 
+-- ---- lists that ascend
+
+module _ (numbers : List ℕ) (start len : ℕ) (a : Ascends numbers start len) where
+  above : (i j : ℕ) → j < i → i < len → getD numbers (start + j) 0 < getD numbers (start + i) 0
+  above zero j h l = absurd (omega arith)
+  above (suc i) j h l =
+      let next : getD numbers (start + i) 0 < getD numbers (start + suc i) 0 = subst (λ (k : ℕ). getD numbers (start + i) 0 < getD numbers (start + k) 0) (add-one i) (a i (omega arith)) in
+      elim (ℕ-discrete j i) [
+        | yes e ↦ subst (λ (k : ℕ). getD numbers (start + k) 0 < getD numbers (start + suc i) 0) (sym e) next
+        | no e ↦ omega (arith, above i j (omega arith) (omega arith))
+      ]
+
+  -- no number stands twice in a list that ascends
+  pub twice-ascends : (v : ℕ) → start + len ≤ length numbers → twice (part numbers start len) v ≡ Sound
+  unfolding twice finding
+  twice-ascends v fits = first-all (finding (part numbers start len) v) (length (part numbers start len)) (λ i l.
+      let h : i < len = omega (arith, list-length numbers start len v fits) in
+      finding-none numbers start len v fits i (getD numbers (start + i) 0) h refl (seen-none numbers start i (getD numbers (start + i) 0) (λ j k e. omega (arith, above i j k h))))
+
 -- ---- the finding at a vertex
 
 pub no-edges : (list : List ℕ) (len v : ℕ) → len ≡ 0 → NoEdges (vertexNumbered v) ≡ atVertex list len v
@@ -160,7 +181,19 @@ pub some-edges : (list : List ℕ) (len v : ℕ) → (len ≡ 0 → ⊥) → twi
 unfolding atVertex
 some-edges list len v f = ap (λ (t : Bool). cond t (NoEdges (vertexNumbered v)) (twice list v)) (sym (ne-eqb len 0 f))
 
+-- the list of vertex v ends within the column
+pub list-room : (lengths numbers : List ℕ) (n v : ℕ) {start len : ℕ} → v < n → sumTo n lengths ≤ length numbers → start ≡ sumTo v lengths → len ≡ getD lengths v 0 → start + len ≤ length numbers
+list-room lengths numbers n v h t p q = omega (arith, sum-more v lengths, sum-ascends (v + 1) n lengths (omega arith))
+
 -- the finding at vertex v, from where its list starts and its length
 pub vertex-is : (lengths numbers : List ℕ) (v : ℕ) {len start : ℕ} {r : Verdict} → len ≡ getD lengths v 0 → start ≡ sumTo v lengths
     → r ≡ atVertex (part numbers start len) len v → r ≡ atVertex (listAt lengths numbers v) (getD lengths v 0) v
 vertex-is lengths numbers v {len} {start} {r} p q e = e ∙ λ i. atVertex (take (p i) (drop (q i) numbers)) (p i) v
+
+-- where the lists ascend, a finding is a vertex without edges
+pub lists-ascend : (lengths numbers : List ℕ) (n : ℕ) → sumTo n lengths ≤ length numbers → ((u : ℕ) → u < n → Ascends numbers (sumTo u lengths) (getD lengths u 0))
+    → firstOf n (λ u. foundIf (eqb (getD lengths u 0) 0) (NoEdges (vertexNumbered u))) ≡ firstOf n (λ u. atVertex (listAt lengths numbers u) (getD lengths u 0) u)
+unfolding atVertex
+lists-ascend lengths numbers n fits a = first-same n _ _ (λ u h.
+    ap (λ (x : Verdict). cond (eqb (getD lengths u 0) 0) (NoEdges (vertexNumbered u)) x)
+    (sym (twice-ascends numbers (sumTo u lengths) (getD lengths u 0) (a u h) u (list-room lengths numbers n u h fits refl refl))))

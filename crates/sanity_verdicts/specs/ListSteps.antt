@@ -19,3 +19,7 @@ pub record Stamped (numbers : List ℕ) (start i stamp : ℕ) (mark : List ℕ) 
 -- Six builders, sanity_check, sentence 1, verdict 4: no stamp is above v.
 pub record Below (v : ℕ) (mark : List ℕ) : Type 0 where
   pub most : (x : ℕ) → x < length mark → getD mark x 0 ≤ v
+
+-- Six builders, sanity_check, sentence 1, verdict 4: of the numbers from place `start` on, the first `len`: each is above the one before it.
+abbrev pub Ascends : (numbers : List ℕ) (start len : ℕ) → Type 0
+Ascends numbers start len = (i : ℕ) → i + 1 < len → getD numbers (start + i) 0 < getD numbers (start + (i + 1)) 0

@@ -1,12 +1,16 @@
-// The first vertex without edges or with an edge twice. Where every number is below 32,768 numbers are stamped in a local array; else the last earlier
-// place with the same number is found for each of up to 65,536 places; past these, numbers without a stamp are compared one by one.
+// The first vertex without edges or with an edge twice. Where every number is below 32,768 numbers are stamped in a local array; else lists that ascend
+// have no number twice, and for others the last earlier place with the same number is found for each of up to 65,536 places. Where there are more
+// places, numbers without a stamp are compared one by one.
 ghost use mathlib.Core.Path.{_≡_};
-ghost use Prim.Native.Nat.{_+_, _<_, _≤_, _^_};
+ghost use Prim.Native.Nat.{ℕ, _+_, _<_, _≤_, _^_};
+ghost use mathlib.Core.Bool.{true};
+ghost use lib.Dec.{eqb};
 ghost use lib.ListN.{length, getD, take, drop};
-ghost use Rattle.sanity_verdicts.specs.Sanity.{firstOf, twice, atVertex};
+ghost use Rattle.sanity_verdicts.specs.Sanity.{vertexNumbered, firstOf, foundIf, twice, atVertex};
+ghost use Rattle.sanity_verdicts.specs.declared.Verdict.the-variants.{NoEdges};
 ghost use Rattle.columns_neighbors.specs.Lists.{sumTo, listAt};
 ghost use Rattle.columns_places.specs.Places.{LastPlaces};
-ghost use Rattle.sanity_verdicts.specs.ListSteps.{Seen, Stamped, Below};
+ghost use Rattle.sanity_verdicts.specs.ListSteps.{Seen, Stamped, Below, Ascends};
 use super::Verdict;
 use super::is_sound;
 use columns::EdgeIndex;
@@ -181,6 +185,54 @@ fn list_places(lengths: &[u32], n: usize) -> usize
     sum
 }
 
+// Whether the numbers of a list, which starts at a place and has a length, ascend.
+fn list_ascends(numbers: &[u32], start: usize, len: usize) -> bool
+    requires { ⌜ start + len ≤ length (now numbers) ⌝ }
+    ensures { λ r. ⌜ (r ≡ true → Ascends (now (numbers .entry)) start len) ⌝ }
+{
+    let mut i: usize = 1;
+    let mut ascends = true;
+    while i < len {
+        let at = start + i;
+        ascends = both(ascends, numbers[at - 1] < numbers[at]);
+        i += 1;
+    }
+    ascends
+}
+
+// Whether the numbers of each list of n vertices ascend.
+fn lists_ascend(lengths: &[u32], numbers: &[u32], n: usize) -> bool
+    requires { ⌜ (n ≤ length (now lengths)) × (sumTo n (now lengths) ≤ length (now numbers)) ⌝ }
+    ensures { λ r. ⌜ (r ≡ true → (u : ℕ) → u < n → Ascends (now (numbers .entry)) (sumTo u (now (lengths .entry))) (getD (now (lengths .entry)) u 0)) ⌝ }
+{
+    let mut start: usize = 0;
+    let mut v: usize = 0;
+    while v < n {
+        let len = wide(lengths[v]);
+        if !list_ascends(numbers, start, len) {
+            return false;
+        }
+        start += len;
+        v += 1;
+    }
+    true
+}
+
+// The first vertex without edges.
+fn first_without(lengths: &[u32], n: u32) -> Verdict
+    requires { ⌜ n ≤ length (now lengths) ⌝ }
+    ensures { λ r. ⌜ r ≡ firstOf n (λ u. foundIf (eqb (getD (now (lengths .entry)) u 0) 0) (NoEdges (vertexNumbered u))) ⌝ }
+{
+    let mut v: u32 = 0;
+    while v < n {
+        if lengths[v as usize] == 0 {
+            return Verdict::NoEdges(VertexIndex(v));
+        }
+        v += 1;
+    }
+    Verdict::Sound
+}
+
 // The first finding among n vertices.
 pub fn vertices_checked(lengths: &[u32], numbers: &[u32], n: u32) -> Verdict
     requires { ⌜ (n ≤ length (now lengths)) × (sumTo n (now lengths) ≤ length (now numbers)) ⌝ }
@@ -192,6 +244,9 @@ pub fn vertices_checked(lengths: &[u32], numbers: &[u32], n: u32) -> Verdict
     }
     if all_below(numbers, places, 32768) {
         return vertices_by_stamps(lengths, numbers, n);
+    }
+    if lists_ascend(lengths, numbers, n as usize) {
+        return first_without(lengths, n);
     }
     vertices_by_places(lengths, numbers, n, places)
 }

@@ -1,11 +1,10 @@
 -- `columns_neighbors::sound::ascending_ends` meets its contract: true is returned only where the ends are in range and ascend, so the graph is sound. Assumes nothing.
-use Prim.Native.Nat.{_≤_}
-use mathlib.Core.Path.{sym, _∙_}
+use mathlib.Core.Path.{sym}
 use mathlib.Core.Bool.{true≢false}
 use native.Mathlib.Omega.{arith}
 use lib.Dec.{leb}
-use borrow.Author.Tests.{not-false, leb-true}
-use Rattle.columns.proofs.Tests.{and-both, below-first}
+use borrow.Author.Tests.{leb-true}
+use Rattle.columns.proofs.Tests.{and-both}
 use Rattle.columns_neighbors.proofs.Ends.{ascending-says}
 use Rattle.columns_neighbors.proofs.sound.ascending_ends.Statement.{statement}
 use Rattle.columns_neighbors.proofs.sound.ascending_ends.Tie as tie

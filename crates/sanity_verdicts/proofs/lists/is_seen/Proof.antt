@@ -1,7 +1,6 @@
 -- `sanity_verdicts::lists::is_seen` meets its contract: the stamp of x decides, or the last place with its number, else `stands_before` promises it. Assumes nothing.
 use Prim.Native.Nat.{_+_}
 use mathlib.Core.Path.{sym, subst}
-use native.Mathlib.Omega.{arith}
 use borrow.Author.Needs.{needs}
 use Rattle.columns_places.specs.Places.{LastSame}
 use Rattle.sanity_verdicts.specs.ListSteps.{Seen}

@@ -1,6 +1,6 @@
 -- `sanity_verdicts::lists::twice_in` meets its contract. Invariant: the first i numbers are stamped, and none of them stands there twice. Assumes nothing.
-use mathlib.Core.Path.{_≡_, refl, sym, _∙_, subst}
-use Prim.Native.Nat.{ℕ, _+_, _-_, _≤_, _<_}
+use mathlib.Core.Path.{_≡_, refl, _∙_, subst}
+use Prim.Native.Nat.{_-_, _≤_}
 use native.Mathlib.Omega.{arith}
 use lib.ListN.{length}
 use Rattle.sanity_verdicts.specs.ListSteps.{Stamped}

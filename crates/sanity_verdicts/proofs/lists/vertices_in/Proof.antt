@@ -1,7 +1,7 @@
 -- `sanity_verdicts::lists::vertices_in` meets its contract. Invariant: no finding at the first v vertices; start is where the list of v starts; no stamp is above v. Assumes nothing.
 use mathlib.Core.Path.{_≡_, refl, sym, ap, _∙_}
 use mathlib.Core.List.{List}
-use Prim.Native.Nat.{ℕ, _+_, _-_, _≤_, _<_}
+use Prim.Native.Nat.{ℕ, _-_, _≤_}
 use native.Mathlib.Omega.{arith}
 use lib.ListN.{length, getD}
 use borrow.Author.Tests.{not-true, not-false}
@@ -12,8 +12,8 @@ use Rattle.columns_neighbors.specs.Lists.{sumTo, listAt}
 use Rattle.sanity_verdicts.specs.Steps.{isSound}
 use Rattle.sanity_verdicts.specs.ListSteps.{Below}
 use Rattle.sanity_verdicts.proofs.Scans.{sound-of, first-none, first-next, first-stop}
-use Rattle.columns_neighbors.proofs.Placing.{sum-more, sum-ascends}
-use Rattle.sanity_verdicts.proofs.Stamping.{vertex-is}
+use Rattle.columns_neighbors.proofs.Placing.{sum-more}
+use Rattle.sanity_verdicts.proofs.Stamping.{list-room, vertex-is}
 use borrow.Author.Needs.{needs}
 use Rattle.sanity_verdicts.proofs.lists.vertices_in.Statement.{statement}
 use Rattle.sanity_verdicts.proofs.lists.vertices_in.Tie as tie
@@ -21,10 +21,6 @@ use Rattle.sanity_verdicts.proofs.lists.vertices_in.Tie as tie
 -- the finding at vertex u
 abbrev finding : List ℕ → List ℕ → ℕ → Verdict
 finding lengths numbers u = atVertex (listAt lengths numbers u) (getD lengths u 0) u
-
--- the list of vertex v ends within the column
-room : (lengths numbers : List ℕ) (n v : ℕ) {start len : ℕ} → v < n → sumTo n lengths ≤ length numbers → start ≡ sumTo v lengths → len ≡ getD lengths v 0 → start + len ≤ length numbers
-room lengths numbers n v h t p q = omega (arith, sum-more v lengths, sum-ascends (v + 1) n lengths (omega arith))
 
 abbrev Inv-loop : tie.InvT-loop
 Inv-loop lengths numbers n mark₀ last known start₀ v₀ mark start v =
@@ -46,7 +42,7 @@ at-vertex-requires : tie.Need-at-vertex-requires Inv-loop μ-loop
 at-vertex-requires c κs =
     let s = c .before .before .before .before .before .before .before .before .before in
     let l = c .before .before .before .before .loop in
-    ((room (s .args .lengths .now) (s .args .numbers .now) (s .args .n) (l .v) (omega arith) (s .pre .0 .1) (l .inv .2) (c .before .wide .ensures .0), omega arith), (l .inv .1, s .pre .1 .1))
+    ((list-room (s .args .lengths .now) (s .args .numbers .now) (s .args .n) (l .v) (omega arith) (s .pre .0 .1) (l .inv .2) (c .before .wide .ensures .0), omega arith), (l .inv .1, s .pre .1 .1))
 
 same-length : tie.Need-same-length Inv-loop μ-loop
 same-length c = c .before .before .before .before .at-vertex .ensures .2 ∙ c .before .before .before .before .before .before .before .before .before .loop .inv .4
@@ -62,7 +58,7 @@ add-start : tie.Need-add-start Inv-loop μ-loop
 add-start c =
     let s = c .before .before .before .before .before .before .before .before .before .before .before .before .before .before in
     let l = c .before .before .before .before .before .before .before .before .before .loop in
-    omega (arith, room (s .args .lengths .now) (s .args .numbers .now) (s .args .n) (l .v) (omega arith) (s .pre .0 .1) (l .inv .2) (c .before .before .before .before .before .before .wide .ensures .0))
+    omega (arith, list-room (s .args .lengths .now) (s .args .numbers .now) (s .args .n) (l .v) (omega arith) (s .pre .0 .1) (l .inv .2) (c .before .before .before .before .before .before .wide .ensures .0))
 
 loop-again : tie.Need-loop-again Inv-loop μ-loop
 loop-again c =

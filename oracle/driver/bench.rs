@@ -111,9 +111,19 @@ fn shapes(code: &Columns, inputs: &mut Inputs) -> Vec<(&'static str, Columns)> {
     for number in past.numbers.iter_mut() {
         *number = *number * 65_537 + 2_147_483_648;
     }
-    let mut both = shape(code.v, &pairs);
-    both.a[e / 2] = u32::MAX;
-    both.numbers.copy_from_slice(&past.numbers);
+    // no two ends and no two numbers become one: the factors are odd
+    let mut random_ends = shape(code.v, &pairs);
+    for end in random_ends.a[..e].iter_mut().chain(random_ends.b[..e].iter_mut()) {
+        *end = (*end + 1).wrapping_mul(1_000_003);
+    }
+    let mut random_numbers = shape(code.v, &pairs);
+    for number in random_numbers.numbers.iter_mut() {
+        *number = (*number + 1).wrapping_mul(2_654_435_761);
+    }
+    let mut random = shape(code.v, &pairs);
+    random.a.copy_from_slice(&random_ends.a);
+    random.b.copy_from_slice(&random_ends.b);
+    random.numbers.copy_from_slice(&random_numbers.numbers);
     // the first vertex has a list of nearly all numbers, equal mod 4,096
     let mut one_list = shape(code.v, &pairs);
     for (k, number) in one_list.numbers.iter_mut().enumerate() {
@@ -130,9 +140,11 @@ fn shapes(code: &Columns, inputs: &mut Inputs) -> Vec<(&'static str, Columns)> {
         ("edges shuffled, the last repeats the first", repeated),
         ("one end past the vertices", damaged),
         ("one neighbour number past the edges", one_number),
+        ("every end at random up to 2³²", random_ends),
         ("every neighbour number past the edges", past),
         ("every neighbour number past the edges, one list of nearly all", one_list),
-        ("one end past the vertices, every neighbour number past the edges", both),
+        ("every neighbour number at random up to 2³²", random_numbers),
+        ("every end and every neighbour number at random up to 2³²", random),
     ]
 }
 
@@ -314,7 +326,7 @@ fn main() {
         let size = (shape.v + shape.e) as f64;
         let (sanity, question) = *built.get_or_insert((ours / size, door / size));
         row(&format!("`sanity_check`, {what}, Rust"), ours, rust, "at most 5 times a built code of that size", ours <= 5. * sanity * size);
-        if what.contains("neighbour number") {
+        if what.contains("neighbour number") || what.contains("random") {
             continue;
         }
         row(

@@ -339,8 +339,8 @@ fn main() {
         );
     }
 
-    // ---- sanity_check above the limits: each edge is compared with those before it
-    for (v, e) in [(4_096, 32_768), (8_192, 65_536)] {
+    // ---- sanity_check as a graph grows past the limits; above 65,536 edges each is compared with those before it
+    for (v, e) in [(4_096, 32_768), (8_192, 65_536), (16_384, 131_072)] {
         let pairs: Vec<(u32, u32)> = (0..e).map(|k| (k / 8, (k / 8 + k % 8 + 1) % v)).collect();
         let mut large = Columns::with_room(v as usize, pairs.len());
         (large.v, large.e) = (v, e);
@@ -357,7 +357,7 @@ fn main() {
             large.numbers = lists.concat();
             let rust_large = large.code();
             let (ours, rust) = two(
-                if e > 32_768 { 3 } else { times(200) },
+                if e > 65_536 { 1 } else { times(200) },
                 || {
                     black_box(ours::sanity_check(large.v, large.e, &large.a, &large.b, &large.lengths, &large.numbers));
                 },

@@ -5,10 +5,10 @@ ghost use lib.ListN.{length};
 ghost use Rattle.columns_pairs.specs.Pairs.{highAt, FirstRepeat};
 ghost use Rattle.sanity_verdicts.specs.Sanity.{firstOf, duplicate};
 ghost use Rattle.sanity_pairs.specs.Steps.{FirstSame};
-use columns::EDGE_LIMIT;
 use columns::EdgeIndex;
 use columns::VERTEX_LIMIT;
 use columns::questions::all_below;
+use columns::questions::at_most;
 use columns::questions::both;
 use columns_pairs::first_repeat_in;
 use columns_pairs::high_at;
@@ -50,7 +50,8 @@ fn duplicates_one_by_one(a: &[u32], b: &[u32], n: usize) -> Verdict
     Verdict::Sound
 }
 
-// The first of the first n edges that joins the pair of an earlier one, or n, where every end is below 4,096; the local arrays.
+// The first of the first n edges that joins the pair of an earlier one, or n, where every end is below 4,096. The local arrays stand in a function of
+// this crate, so that they and those for neighbour lists can take one place on the stack.
 fn first_by_lists(a: &[u32], b: &[u32], n: usize) -> usize
     requires { ⌜ (n ≤ 32768) × (n ≤ length (now a)) × (n ≤ length (now b)) ⌝ }
     requires { ⌜ ((j : ℕ) → j < n → highAt (now a) (now b) j < 4096) ⌝ }
@@ -62,26 +63,27 @@ fn first_by_lists(a: &[u32], b: &[u32], n: usize) -> usize
     first_repeat_in(a, b, n, &mut table, &mut keys, &mut marks)
 }
 
-// The same for ends of any size: by lists where the ends are below 4,096, and else by sorting.
+// The same for ends of any size: by lists where there are at most 32,768 edges with ends below 4,096, and else by sorting.
 fn first_later(a: &[u32], b: &[u32], n: usize) -> usize
-    requires { ⌜ (n ≤ 32768) × (n ≤ length (now a)) × (n ≤ length (now b)) ⌝ }
+    requires { ⌜ (n ≤ 65536) × (n ≤ length (now a)) × (n ≤ length (now b)) ⌝ }
     ensures { λ r. ⌜ FirstRepeat (now (a .entry)) (now (b .entry)) n r ⌝ }
 {
+    let few = at_most(n, 32768);
     let small_a = all_below(a, n, VERTEX_LIMIT);
     let small_b = all_below(b, n, VERTEX_LIMIT);
-    if both(small_a, small_b) {
+    if both(few, both(small_a, small_b)) {
         return first_by_lists(a, b, n);
     }
     columns_sorted_pairs::first_repeat(a, b, n)
 }
 
-// The first finding among the edges, within the limit of edges by the first that joins the pair of an earlier one.
+// The first finding among the edges, up to 65,536 of them by the first that joins the pair of an earlier one.
 pub fn duplicates(a: &[u32], b: &[u32], edge_num: u32) -> Verdict
     requires { ⌜ («edge_num» ≤ length (now a)) × («edge_num» ≤ length (now b)) ⌝ }
     ensures { λ r. ⌜ r ≡ firstOf «edge_num» (duplicate (now (a .entry)) (now (b .entry))) ⌝ }
 {
     let n = edge_num as usize;
-    if EDGE_LIMIT < edge_num {
+    if 65536 < edge_num {
         return duplicates_one_by_one(a, b, n);
     }
     let later = first_later(a, b, n);

@@ -12,7 +12,7 @@ use lib.ListN.{length, getD, set, take, drop, length-set, length-take, length-dr
 use lib.Seq.{getD-set-same, getD-set-other, getD-take, getD-drop}
 use Rattle.sanity_verdicts.specs.declared.Verdict.{Verdict}
 use Rattle.sanity_verdicts.specs.declared.Verdict.the-variants.{Sound, NoEdges, EdgeTwice}
-use Rattle.sanity_verdicts.specs.Sanity.{edgeNumbered, vertexNumbered, firstOf, foundIf, twice, atVertex}
+use Rattle.sanity_verdicts.specs.Sanity.{edgeNumbered, vertexNumbered, firstOf, foundIf, twice, atVertex, listsFinding}
 use Rattle.columns.proofs.Tests.{and-both, both-and}
 use Rattle.columns_neighbors.specs.Lists.{sumTo, listAt}
 use Rattle.columns_neighbors.proofs.Placing.{sum-more, sum-ascends}
@@ -192,7 +192,7 @@ vertex-is lengths numbers v {len} {start} {r} p q e = e ∙ λ i. atVertex (take
 
 -- where the lists ascend, a finding is a vertex without edges
 pub lists-ascend : (lengths numbers : List ℕ) (n : ℕ) → sumTo n lengths ≤ length numbers → ((u : ℕ) → u < n → Ascends numbers (sumTo u lengths) (getD lengths u 0))
-    → firstOf n (λ u. foundIf (eqb (getD lengths u 0) 0) (NoEdges (vertexNumbered u))) ≡ firstOf n (λ u. atVertex (listAt lengths numbers u) (getD lengths u 0) u)
+    → firstOf n (λ u. foundIf (eqb (getD lengths u 0) 0) (NoEdges (vertexNumbered u))) ≡ listsFinding n lengths numbers
 unfolding atVertex
 lists-ascend lengths numbers n fits a = first-same n _ _ (λ u h.
     ap (λ (x : Verdict). cond (eqb (getD lengths u 0) 0) (NoEdges (vertexNumbered u)) x)

@@ -72,13 +72,17 @@ twice list v = firstOf (length list) (λ i. firstOf i (λ j. foundIf (eqb (getD 
 unfoldable pub atVertex : (list : List ℕ) (len v : ℕ) → Verdict
 atVertex list len v = cond (eqb len 0) (NoEdges (vertexNumbered v)) (twice list v)
 
+-- Six builders, sanity_check, sentence 2, verdicts 3 and 4: the first finding at the first n vertices, in order.
+abbrev pub listsFinding : (n : ℕ) (lengths numbers : List ℕ) → Verdict
+listsFinding n lengths numbers = firstOf n (λ u. atVertex (listAt lengths numbers u) (getD lengths u 0) u)
+
 -- ---- the whole
 
 -- Six builders, sanity_check, sentences 1 and 2: no vertices or no edges, then the edges, then the vertices.
 unfoldable pub verdict : (v e : ℕ) (a b lengths numbers : List ℕ) → Verdict
 verdict v e a b lengths numbers =
     cond (eqb v 0 || eqb e 0) Empty
-    (orElse (firstOf e (duplicate a b)) (firstOf v (λ u. atVertex (listAt lengths numbers u) (getD lengths u 0) u)))
+    (orElse (firstOf e (duplicate a b)) (listsFinding v lengths numbers))
 
 -- Questions at the door, 6: ends as long as the edges, list lengths as long as the vertices,
 -- neighbour numbers as long as twice the edges and as the sum of the list lengths.

@@ -6,9 +6,9 @@ ghost use Prim.Native.Nat.{ℕ, _+_, _<_, _≤_, _^_};
 ghost use mathlib.Core.Bool.{true};
 ghost use lib.Dec.{eqb};
 ghost use lib.ListN.{length, getD, take, drop};
-ghost use Rattle.sanity_verdicts.specs.Sanity.{vertexNumbered, firstOf, foundIf, twice, atVertex};
+ghost use Rattle.sanity_verdicts.specs.Sanity.{vertexNumbered, firstOf, foundIf, twice, atVertex, listsFinding};
 ghost use Rattle.sanity_verdicts.specs.declared.Verdict.the-variants.{NoEdges};
-ghost use Rattle.columns_neighbors.specs.Lists.{sumTo, listAt};
+ghost use Rattle.columns_neighbors.specs.Lists.{sumTo};
 ghost use Rattle.columns_places.specs.Places.{LastPlaces};
 ghost use Rattle.sanity_verdicts.specs.ListSteps.{Seen, Stamped, Below, Ascends};
 use super::Verdict;
@@ -133,7 +133,7 @@ fn vertices_in(
 ) -> Verdict
     requires { ⌜ (n ≤ length (now lengths)) × (sumTo n (now lengths) ≤ length (now numbers)) ⌝ }
     requires { ⌜ Below 0 (now mark) × LastPlaces (now numbers) known (now last) ⌝ }
-    ensures { λ r. ⌜ r ≡ firstOf n (λ u. atVertex (listAt (now (lengths .entry)) (now (numbers .entry)) u) (getD (now (lengths .entry)) u 0) u) ⌝ }
+    ensures { λ r. ⌜ r ≡ listsFinding n (now (lengths .entry)) (now (numbers .entry)) ⌝ }
 {
     let mut start: usize = 0;
     let mut v: u32 = 0;
@@ -149,20 +149,20 @@ fn vertices_in(
     Verdict::Sound
 }
 
-// The same by stamps of the numbers below 32,768.
+// The same by stamps of the numbers below 32,768; of no place the last one with the same number is known.
 fn vertices_by_stamps(lengths: &[u32], numbers: &[u32], n: u32) -> Verdict
     requires { ⌜ (n ≤ length (now lengths)) × (sumTo n (now lengths) ≤ length (now numbers)) ⌝ }
-    ensures { λ r. ⌜ r ≡ firstOf n (λ u. atVertex (listAt (now (lengths .entry)) (now (numbers .entry)) u) (getD (now (lengths .entry)) u 0) u) ⌝ }
+    ensures { λ r. ⌜ r ≡ listsFinding n (now (lengths .entry)) (now (numbers .entry)) ⌝ }
 {
     let mut mark = [0u32; 32768];
     let last = [0u16; 1];
     vertices_in(lengths, numbers, n, &mut mark, &last, 0)
 }
 
-// The same by the last places with the same number, for the first `known` places.
+// The same by the last places with the same number, for the first `known` places; only the number 0 has a stamp.
 fn vertices_by_places(lengths: &[u32], numbers: &[u32], n: u32, known: usize) -> Verdict
     requires { ⌜ (n ≤ length (now lengths)) × (sumTo n (now lengths) ≤ length (now numbers)) × (known ≤ length (now numbers)) × (known ≤ 65536) ⌝ }
-    ensures { λ r. ⌜ r ≡ firstOf n (λ u. atVertex (listAt (now (lengths .entry)) (now (numbers .entry)) u) (getD (now (lengths .entry)) u 0) u) ⌝ }
+    ensures { λ r. ⌜ r ≡ listsFinding n (now (lengths .entry)) (now (numbers .entry)) ⌝ }
 {
     let mut last = [0u16; 65536];
     let mut order = [0u16; 65536];
@@ -236,17 +236,17 @@ fn first_without(lengths: &[u32], n: u32) -> Verdict
 // The first finding among n vertices.
 pub fn vertices_checked(lengths: &[u32], numbers: &[u32], n: u32) -> Verdict
     requires { ⌜ (n ≤ length (now lengths)) × (sumTo n (now lengths) ≤ length (now numbers)) ⌝ }
-    ensures { λ r. ⌜ r ≡ firstOf n (λ u. atVertex (listAt (now (lengths .entry)) (now (numbers .entry)) u) (getD (now (lengths .entry)) u 0) u) ⌝ }
+    ensures { λ r. ⌜ r ≡ listsFinding n (now (lengths .entry)) (now (numbers .entry)) ⌝ }
 {
     let places = list_places(lengths, n as usize);
-    if 65536 < places {
-        return vertices_by_stamps(lengths, numbers, n);
-    }
     if all_below(numbers, places, 32768) {
         return vertices_by_stamps(lengths, numbers, n);
     }
     if lists_ascend(lengths, numbers, n as usize) {
         return first_without(lengths, n);
+    }
+    if 65536 < places {
+        return vertices_by_stamps(lengths, numbers, n);
     }
     vertices_by_places(lengths, numbers, n, places)
 }

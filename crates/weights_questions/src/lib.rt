@@ -88,7 +88,7 @@ pub fn are_probabilities(p: &[f64], n: usize) -> bool
 }
 
 // Whether the first n numbers, or all where there are fewer, pass the test for pe.
-pub fn are_erasure_probabilities(pe: &[f64], n: usize) -> bool
+fn are_erasure_probabilities(pe: &[f64], n: usize) -> bool
     ensures { λ r. ⌜ r ≡ all isErasureProbability (take n (now (pe .entry))) ⌝ }
 {
     let m = lesser(n, pe.len());
@@ -102,7 +102,7 @@ pub fn are_erasure_probabilities(pe: &[f64], n: usize) -> bool
 }
 
 // Whether the first n numbers of two columns are from 2 to the power -40 to 0.5, and from 0 to 1, in one pass.
-fn are_in_ranges(p: &[f64], pe: &[f64], n: usize) -> bool
+fn both_in_range(p: &[f64], pe: &[f64], n: usize) -> bool
     requires { ⌜ (n ≤ length (now p)) × (n ≤ length (now pe)) ⌝ }
     ensures { λ r. ⌜ r ≡ (all isInRange (take n (now (p .entry))) && all isErasureProbability (take n (now (pe .entry)))) ⌝ }
 {
@@ -122,11 +122,11 @@ pub fn are_probable(p: &[f64], pe: &[f64], n: usize) -> bool
     ensures { λ r. ⌜ r ≡ (all isProbability (take n (now (p .entry))) && all isErasureProbability (take n (now (pe .entry)))) ⌝ }
 {
     if n <= lesser(p.len(), pe.len()) {
-        if are_in_ranges(p, pe, n) {
+        if both_in_range(p, pe, n) {
             return true;
         }
     }
-    let errors = are_probabilities(p, n);
+    let errors = each_probability(p, n);
     let erasures = are_erasure_probabilities(pe, n);
     both(errors, erasures)
 }

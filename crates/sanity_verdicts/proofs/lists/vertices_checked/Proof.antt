@@ -9,13 +9,13 @@ use Rattle.sanity_verdicts.proofs.lists.vertices_checked.Tie as tie
 list-places-requires : tie.Need-list-places-requires
 list-places-requires c κs = let p = c .before .before .pre in (p .0, omega (arith, p .1))
 
-returns-3 : tie.Need-returns-3
-returns-3 c =
-    let s = c .before .before .before .before .before .before .before .before .before in
-    c .first-without .ensures ∙ lists-ascend (s .args .lengths .now) (s .args .numbers .now) (s .args .n) (s .pre .1) (c .before .before .lists-ascend .ensures (c .before .if3 .taken))
-
 vertices-by-places-requires : tie.Need-vertices-by-places-requires
 vertices-by-places-requires c κs = let p = c .before .before .before .before .before .before .before .before .pre in (p .0, p .1, omega (arith, p .1, c .before .before .before .before .before .list-places .ensures), omega arith)
 
+returns-2 : tie.Need-returns-2
+returns-2 c =
+    let s = c .before .before .before .before .before .before .before .before in
+    c .first-without .ensures ∙ lists-ascend (s .args .lengths .now) (s .args .numbers .now) (s .args .n) (s .pre .1) (c .before .before .lists-ascend .ensures (c .before .if2 .taken))
+
 pub vertices-checked-spec : {M : Type 1} → statement M
-vertices-checked-spec = tie.close (tie.spec list-places-requires (λ c κs. search needs) (λ c. search needs) (λ c κs. search needs) (λ c κs. search needs) (λ c. search needs) (λ c κs. search needs) (λ c κs. search needs) returns-3 vertices-by-places-requires (λ c. search needs))
+vertices-checked-spec = tie.close (tie.spec list-places-requires (λ c κs. tt) (λ c κs. search needs) (λ c. search needs) (λ c κs. search needs) (λ c κs. search needs) returns-2 (λ c κs. search needs) (λ c. search needs) vertices-by-places-requires (λ c. search needs))

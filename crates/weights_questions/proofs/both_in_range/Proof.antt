@@ -1,4 +1,4 @@
--- `weights_questions::are_in_ranges` meets its contract. Invariant: whether the first i numbers of both columns pass. Assumes nothing.
+-- `weights_questions::both_in_range` meets its contract. Invariant: whether the first i numbers of both columns pass. Assumes nothing.
 use mathlib.Core.Path.{_≡_, refl, sym, ap, _∙_}
 use mathlib.Core.Bool.{Bool, _&&_}
 use Prim.Native.Nat.{ℕ, _-_, _≤_}
@@ -10,8 +10,8 @@ use Rattle.columns.specs.Questions.{all}
 use Rattle.columns.proofs.Tests.{all-next}
 use Rattle.weights_recipe.specs.Probabilities.{isInRange, isErasureProbability}
 use Rattle.weights_questions.proofs.Ranges.{crossed}
-use Rattle.weights_questions.proofs.are_in_ranges.Statement.{statement}
-use Rattle.weights_questions.proofs.are_in_ranges.Tie as tie
+use Rattle.weights_questions.proofs.both_in_range.Statement.{statement}
+use Rattle.weights_questions.proofs.both_in_range.Tie as tie
 
 abbrev Inv-loop : tie.InvT-loop
 Inv-loop p pe n i₀ pass₀ i pass = (i ≤ n) × (pass ≡ (all isInRange (take i p) && all isErasureProbability (take i pe)))
@@ -44,5 +44,5 @@ returns c =
     let e : at .i ≡ s .n = omega arith in
     at .inv .1 ∙ ap (λ (k : ℕ). all isInRange (take k (s .p .now)) && all isErasureProbability (take k (s .pe .now))) e
 
-pub are-in-ranges-spec : {M : Type 1} → statement M
-are-in-ranges-spec = tie.close (tie.spec Inv-loop μ-loop loop-holds (λ c. search needs) (λ c. search needs) (λ c κs. tt) (λ c. search needs) (λ c. search needs) (λ c κs. tt) (λ c κs. tt) (λ c κs. tt) (λ c. search needs) (λ c. search needs) loop-again returns)
+pub both-in-range-spec : {M : Type 1} → statement M
+both-in-range-spec = tie.close (tie.spec Inv-loop μ-loop loop-holds (λ c. search needs) (λ c. search needs) (λ c κs. tt) (λ c. search needs) (λ c. search needs) (λ c κs. tt) (λ c κs. tt) (λ c κs. tt) (λ c. search needs) (λ c. search needs) loop-again returns)

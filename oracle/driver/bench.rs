@@ -131,6 +131,13 @@ fn shapes(code: &Columns, inputs: &mut Inputs) -> Vec<(&'static str, Columns)> {
     }
     one_list.lengths[..code.v as usize].fill(1);
     one_list.lengths[0] = 2 * code.e - (code.v - 1);
+    let mut one_random_list = shape(code.v, &pairs);
+    one_random_list.a.copy_from_slice(&random_ends.a);
+    one_random_list.b.copy_from_slice(&random_ends.b);
+    one_random_list.lengths.copy_from_slice(&one_list.lengths);
+    for (k, number) in one_random_list.numbers.iter_mut().enumerate() {
+        *number = (k as u32 + 1).wrapping_mul(2_654_435_761);
+    }
     vec![
         ("built code", shape(code.v, &pairs)),
         ("edges shuffled", shape(code.v, &shuffled)),
@@ -145,6 +152,7 @@ fn shapes(code: &Columns, inputs: &mut Inputs) -> Vec<(&'static str, Columns)> {
         ("every neighbour number past the edges, one list of nearly all", one_list),
         ("every neighbour number at random up to 2³²", random_numbers),
         ("every end and every neighbour number at random up to 2³²", random),
+        ("every end and every neighbour number at random up to 2³², one list of nearly all", one_random_list),
     ]
 }
 
@@ -339,9 +347,47 @@ fn main() {
         );
     }
 
-    // ---- sanity_check as a graph grows past the limits; above 65,536 edges each is compared with those before it
-    for (v, e) in [(4_096, 32_768), (8_192, 65_536), (16_384, 131_072)] {
-        let pairs: Vec<(u32, u32)> = (0..e).map(|k| (k / 8, (k / 8 + k % 8 + 1) % v)).collect();
+    // ---- question 7 on small codes
+    for (kind, d, rounds) in [(1, 3, 0), (2, 7, 0), (4, 5, 4), (4, 7, 8), (4, 11, 12)] {
+        let mut small = Columns::blank();
+        small.create(kind, d, rounds);
+        let pairs: Vec<(u32, u32)> = (0..small.e as usize).map(|k| (small.a[k], small.b[k])).collect();
+        let built = shape(small.v, &pairs);
+        let turned = shape(small.v, &pairs.iter().map(|&(a, b)| (b, a)).collect::<Vec<_>>());
+        let (mut weights, mut others) = (vec![2; pairs.len()], vec![2; pairs.len()]);
+        // many calls for each reading of the clock
+        const CALLS: usize = 64;
+        let (ours, other) = two(
+            times(400),
+            || {
+                for _ in 0..CALLS {
+                    black_box(ours::reset(turned.v, turned.e, 0, &turned.a, &turned.b, &mut weights, &turned.boundary, &[], &[]));
+                }
+            },
+            || {
+                for _ in 0..CALLS {
+                    black_box(ours::reset(built.v, built.e, 0, &built.a, &built.b, &mut others, &built.boundary, &[], &[]));
+                }
+            },
+        );
+        let (ours, other) = (ours / CALLS as f64, other / CALLS as f64);
+        row(
+            &format!("questions 6 and 7 (`reset` on an empty log), {} vertices, {} edges, ends turned round; the built code", small.v, small.e),
+            ours,
+            other,
+            "at most 6",
+            ours <= 6. * other,
+        );
+    }
+
+    // ---- sanity_check as a graph grows past the limits; above 32,768 edges each is compared with those before it where a first end is the larger, and
+    // above 65,536 edges always
+    for (v, e, turn) in [(4_096, 32_768, false), (8_192, 65_536, false), (8_192, 65_536, true), (16_384, 131_072, false)] {
+        let pairs: Vec<(u32, u32)> = (0..e)
+            .map(|k| (k / 8, (k / 8 + k % 8 + 1) % v))
+            .map(|(a, b)| if (a < b) == turn { (b, a) } else { (a, b) })
+            .collect();
+        let turned = if turn { ", ends turned round" } else { "" };
         let mut large = Columns::with_room(v as usize, pairs.len());
         (large.v, large.e) = (v, e);
         for (k, &(a, b)) in pairs.iter().enumerate() {
@@ -357,7 +403,7 @@ fn main() {
             large.numbers = lists.concat();
             let rust_large = large.code();
             let (ours, rust) = two(
-                if e > 65_536 { 1 } else { times(200) },
+                if e > 65_536 || (e > 32_768 && turn) { 1 } else { times(200) },
                 || {
                     black_box(ours::sanity_check(large.v, large.e, &large.a, &large.b, &large.lengths, &large.numbers));
                 },
@@ -365,7 +411,7 @@ fn main() {
                     black_box(rust_large.sanity_check().is_ok());
                 },
             );
-            row(&format!("`sanity_check`, {v} vertices, {e} edges{which}, Rust"), ours, rust, "", true);
+            row(&format!("`sanity_check`, {v} vertices, {e} edges{turned}{which}, Rust"), ours, rust, "", true);
         }
     }
 

@@ -38,7 +38,10 @@ fn ascending_ends(vertex_num: u32, edge_num: u32, a: &[u32], b: &[u32]) -> bool
     if b.len() < n {
         return false;
     }
-    ascending(a, b, n, vertex_num)
+    if !all_below(b, n, vertex_num) {
+        return false;
+    }
+    ascending(a, b, n)
 }
 
 // Whether counts and ends are those of a graph.
@@ -61,7 +64,7 @@ pub fn graph_sound(vertex_num: u32, edge_num: u32, a: &[u32], b: &[u32]) -> bool
     if !ends_differ(a, b, n) {
         return false;
     }
-    pairs_apart(a, b, n)
+    pairs_apart(a, b, n, vertex_num as usize)
 }
 
 // Whether the first log_num entries name edges and weights within the Records.

@@ -99,8 +99,8 @@ zeros-at (suc n) (suc v) = zeros-at n v
 pub zeros-room : (n k : ℕ) → n ≤ k → n ≤ length {A = ℕ} (replicate k 0)
 zeros-room n k h = rw (length-replicate {A = ℕ} k 0) h
 
-pub zeros-table : Table (λ v. 0) (replicate 4096 0)
-zeros-table = record { size = length-replicate {A = ℕ} 4096 0; at = λ v l. zeros-at 4096 v }
+pub zeros-table : Table 4096 (λ v. 0) (replicate 4096 0)
+zeros-table = record { size = length-replicate {A = ℕ} 4096 0; few = omega arith; at = λ v l. zeros-at 4096 v }
 
 -- what the two tests say
 pub differ-at : (a b : List ℕ) (e : ℕ) → endsDiffer a b e ≡ true → (k : ℕ) → k < e → getD a k 0 ≡ getD b k 0 → ⊥

@@ -1,6 +1,6 @@
 // The first vertex without edges or with an edge twice. Where every number is below 32,768 numbers are stamped in a local array; else lists that ascend
-// have no number twice, and for others the last earlier place with the same number is found for each of up to 65,536 places. Where there are more
-// places, numbers without a stamp are compared one by one.
+// have no number twice; in lists of up to 32 numbers those without a stamp are compared one by one; for longer lists the last earlier place with the
+// same number is found for each of up to 65,536 places. Where there are more places, numbers without a stamp are compared one by one.
 ghost use mathlib.Core.Path.{_≡_};
 ghost use Prim.Native.Nat.{ℕ, _+_, _<_, _≤_, _^_};
 ghost use mathlib.Core.Bool.{true};
@@ -244,6 +244,9 @@ pub fn vertices_checked(lengths: &[u32], numbers: &[u32], n: u32) -> Verdict
     }
     if lists_ascend(lengths, numbers, n as usize) {
         return first_without(lengths, n);
+    }
+    if all_below(lengths, n as usize, 33) {
+        return vertices_by_stamps(lengths, numbers, n);
     }
     if 65536 < places {
         return vertices_by_stamps(lengths, numbers, n);

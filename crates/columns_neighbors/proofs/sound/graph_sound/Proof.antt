@@ -42,7 +42,7 @@ pairs-apart-requires c κs =
     let v = and-both (leb 1 (s .vertex-num)) (leb (s .vertex-num) 4096) (sym (c .before .before .before .before .before .before .before .before .before .vertex-count-sound .ensures) ∙ not-false _ (c .before .before .before .before .before .before .before .before .if1 .left)) in
     let e = sym (c .before .before .before .before .before .before .before .edge-count-sound .ensures) ∙ not-false _ (c .before .before .before .before .before .before .if2 .left) in
     let r = range-says (s .vertex-num) (s .edge-num) (s .a .now) (s .b .now) (sym (c .before .before .before .ends-in-range .ensures) ∙ not-false _ (c .before .before .if4 .left)) in
-    ((leb-true (s .edge-num) 32768 e, r .0, r .1), λ j h. omega (arith, r .2 j h, r .3 j h, leb-true (s .vertex-num) 4096 (v .1)))
+    ((leb-true (s .edge-num) 32768 e, r .0, r .1, leb-true (s .vertex-num) 4096 (v .1)), λ j h. omega (arith, r .2 j h, r .3 j h))
 
 returns-6 : tie.Need-returns-6
 returns-6 c =

@@ -10,7 +10,7 @@ list-places-requires : tie.Need-list-places-requires
 list-places-requires c κs = let p = c .before .before .pre in (p .0, omega (arith, p .1))
 
 vertices-by-places-requires : tie.Need-vertices-by-places-requires
-vertices-by-places-requires c κs = let p = c .before .before .before .before .before .before .before .before .pre in (p .0, p .1, omega (arith, p .1, c .before .before .before .before .before .list-places .ensures), omega arith)
+vertices-by-places-requires c κs = let p = c .before .before .before .before .before .before .before .before .before .before .pre in (p .0, p .1, omega (arith, p .1, c .before .before .before .before .before .before .before .list-places .ensures), omega arith)
 
 returns-2 : tie.Need-returns-2
 returns-2 c =
@@ -18,4 +18,4 @@ returns-2 c =
     c .first-without .ensures ∙ lists-ascend (s .args .lengths .now) (s .args .numbers .now) (s .args .n) (s .pre .1) (c .before .before .lists-ascend .ensures (c .before .if2 .taken))
 
 pub vertices-checked-spec : {M : Type 1} → statement M
-vertices-checked-spec = tie.close (tie.spec list-places-requires (λ c κs. tt) (λ c κs. search needs) (λ c. search needs) (λ c κs. search needs) (λ c κs. search needs) returns-2 (λ c κs. search needs) (λ c. search needs) vertices-by-places-requires (λ c. search needs))
+vertices-checked-spec = tie.close (tie.spec list-places-requires (λ c κs. tt) (λ c κs. c .before .before .before .before .before .pre) (λ c. c .vertices-by-stamps .ensures) (λ c κs. search needs) (λ c κs. search needs) returns-2 (λ c κs. tt) (λ c κs. c .before .before .before .before .before .before .before .before .before .pre) (λ c. c .vertices-by-stamps2 .ensures) (λ c κs. c .before .before .before .before .before .before .before .before .before .before .pre) (λ c. c .vertices-by-stamps3 .ensures) vertices-by-places-requires (λ c. c .vertices-by-places .ensures))

@@ -1,2 +1,0 @@
--- Ranges: laws of the tests for p and pe.
-pub mod Ranges

@@ -59,12 +59,11 @@ module _ (v e : ℕ) (a b : List ℕ) where
       (both-and (at-differ a b e (s .differ)) (at-apart a b e (s .apart)))))
 
   -- ends in range that ascend are those of a graph
-  pub ascending-says : vertexCountSound v ≡ true → edgeCountSound e ≡ true → e ≤ length a → e ≤ length b → allBelow v (take e b) ≡ true → EdgesAscend a b e
-      → graphSound v e a b ≡ true
+  pub ascending-says : vertexCountSound v ≡ true → edgeCountSound e ≡ true → e ≤ length a → e ≤ length b → EdgesAscend a b v e → graphSound v e a b ≡ true
   unfolding graphSound endsInRange
-  ascending-says vs es la lb bb asc =
-      let in-a : InRange a e v = λ k h. omega (arith, below-first v e b bb lb k h, asc .smaller k h) in
-      both-and vs (both-and es (both-and (both-and (le-leb e (length a) la) (both-and (le-leb e (length b) lb) (both-and (first-below a la in-a) bb)))
+  ascending-says vs es la lb asc =
+      let in-a : InRange a e v = λ k h. omega (arith, asc .below k h, asc .smaller k h) in
+      both-and vs (both-and es (both-and (both-and (le-leb e (length a) la) (both-and (le-leb e (length b) lb) (both-and (first-below a la in-a) (first-below b lb (asc .below)))))
       (both-and (at-differ a b e (λ k h q. omega (arith, asc .smaller k h))) (asc .apart))))
 
   -- the first part that fails

@@ -38,10 +38,7 @@ fn ascending_ends(vertex_num: u32, edge_num: u32, a: &[u32], b: &[u32]) -> bool
     if b.len() < n {
         return false;
     }
-    if !all_below(b, n, vertex_num) {
-        return false;
-    }
-    ascending(a, b, n)
+    ascending(a, b, n, vertex_num)
 }
 
 // Whether counts and ends are those of a graph.

@@ -13,8 +13,7 @@ use columns::questions::marks_sound;
 use columns_room::code_sound;
 use columns_room::graph_long;
 use columns_room::two_long;
-use weights_questions::are_erasure_probabilities;
-use weights_questions::are_probabilities;
+use weights_questions::are_probable;
 
 // Question 6, of defect and erasure bytes and of both lists.
 pub fn syndrome_long(
@@ -72,10 +71,7 @@ pub fn errors_refusal(
 fn probabilities_sound(edge_num: u32, p: &[f64], pe: &[f64]) -> bool
     ensures { λ r. ⌜ r ≡ probabilitiesSound «edge_num» (now (p .entry)) (now (pe .entry)) ⌝ }
 {
-    let n = edge_num as usize;
-    let errors = are_probabilities(p, n);
-    let erasures = are_erasure_probabilities(pe, n);
-    both(errors, erasures)
+    are_probable(p, pe, edge_num as usize)
 }
 
 // The first question of generate_random_errors that is not met, or 0.

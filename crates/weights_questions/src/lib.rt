@@ -1,8 +1,9 @@
 // The tests of question 9.
 ghost use mathlib.Core.Path.{_≡_};
-ghost use mathlib.Core.Bool.{not};
+ghost use mathlib.Core.Bool.{not, _&&_};
+ghost use Prim.Native.Nat.{_≤_};
 ghost use lib.Dec.{T};
-ghost use lib.ListN.{take};
+ghost use lib.ListN.{length, take};
 ghost use lib.Ieee.{isNan};
 ghost use Rattle.columns.specs.Questions.{all};
 ghost use Rattle.weights_recipe.specs.Probabilities.{isPlusZero, isInRange, isProbability, isErasureProbability};
@@ -87,7 +88,7 @@ pub fn are_probabilities(p: &[f64], n: usize) -> bool
 }
 
 // Whether the first n numbers, or all where there are fewer, pass the test for pe.
-pub fn are_erasure_probabilities(pe: &[f64], n: usize) -> bool
+fn are_erasure_probabilities(pe: &[f64], n: usize) -> bool
     ensures { λ r. ⌜ r ≡ all isErasureProbability (take n (now (pe .entry))) ⌝ }
 {
     let m = lesser(n, pe.len());
@@ -98,4 +99,34 @@ pub fn are_erasure_probabilities(pe: &[f64], n: usize) -> bool
         i += 1;
     }
     pass
+}
+
+// Whether the first n numbers of two columns are from 2 to the power -40 to 0.5, and from 0 to 1, in one pass.
+fn both_in_range(p: &[f64], pe: &[f64], n: usize) -> bool
+    requires { ⌜ (n ≤ length (now p)) × (n ≤ length (now pe)) ⌝ }
+    ensures { λ r. ⌜ r ≡ (all isInRange (take n (now (p .entry))) && all isErasureProbability (take n (now (pe .entry)))) ⌝ }
+{
+    let mut i: usize = 0;
+    let mut pass = true;
+    while i < n {
+        let both_pass = both(is_in_range(p[i]), is_erasure_probability(pe[i]));
+        pass = both(pass, both_pass);
+        i += 1;
+    }
+    pass
+}
+
+// Whether the first n numbers of two columns, or all where there are fewer, pass the tests for p and for pe. Mostly the columns are long enough and
+// every p is above 0, and one pass answers.
+pub fn are_probable(p: &[f64], pe: &[f64], n: usize) -> bool
+    ensures { λ r. ⌜ r ≡ (all isProbability (take n (now (p .entry))) && all isErasureProbability (take n (now (pe .entry)))) ⌝ }
+{
+    if n <= lesser(p.len(), pe.len()) {
+        if both_in_range(p, pe, n) {
+            return true;
+        }
+    }
+    let errors = each_probability(p, n);
+    let erasures = are_erasure_probabilities(pe, n);
+    both(errors, erasures)
 }

@@ -1,0 +1,2 @@
+-- Ranges: laws of the tests for p and pe.
+pub mod Ranges

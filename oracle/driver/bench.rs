@@ -32,8 +32,14 @@ fn two(rounds: usize, mut ours: impl FnMut(), mut other: impl FnMut()) -> (f64, 
     (turns[0].1, turns[1].1)
 }
 
+/// microseconds, with more digits where they are few
 fn us(seconds: f64) -> String {
-    format!("{:.1}", seconds * 1e6)
+    let us = seconds * 1e6;
+    if us < 20. {
+        format!("{us:.3}")
+    } else {
+        format!("{us:.1}")
+    }
 }
 
 fn row(what: &str, ours: f64, other: f64, asked: &str, met: bool) {
@@ -120,6 +126,15 @@ fn shapes(code: &Columns, inputs: &mut Inputs) -> Vec<(&'static str, Columns)> {
     for number in random_numbers.numbers.iter_mut() {
         *number = (*number + 1).wrapping_mul(2_654_435_761);
     }
+    // 64 numbers in each list, as many vertices as that leaves
+    let mut long_lists = shape(code.v, &pairs);
+    long_lists.a.copy_from_slice(&random_ends.a);
+    long_lists.b.copy_from_slice(&random_ends.b);
+    long_lists.v = 2 * code.e / 64;
+    long_lists.lengths.fill(64);
+    for (k, number) in long_lists.numbers.iter_mut().enumerate() {
+        *number = (k as u32 + 1).wrapping_mul(2_654_435_761);
+    }
     let mut random = shape(code.v, &pairs);
     random.a.copy_from_slice(&random_ends.a);
     random.b.copy_from_slice(&random_ends.b);
@@ -152,6 +167,7 @@ fn shapes(code: &Columns, inputs: &mut Inputs) -> Vec<(&'static str, Columns)> {
         ("every neighbour number past the edges, one list of nearly all", one_list),
         ("every neighbour number at random up to 2³²", random_numbers),
         ("every end and every neighbour number at random up to 2³²", random),
+        ("every end and every neighbour number at random up to 2³², 64 in each list", long_lists),
         ("every end and every neighbour number at random up to 2³², one list of nearly all", one_random_list),
     ]
 }
@@ -347,8 +363,8 @@ fn main() {
         );
     }
 
-    // ---- question 7 on small codes
-    for (kind, d, rounds) in [(1, 3, 0), (2, 7, 0), (4, 5, 4), (4, 7, 8), (4, 11, 12)] {
+    // ---- question 7 on other codes
+    for (kind, d, rounds) in [(1, 3, 0), (2, 7, 0), (4, 5, 4), (4, 7, 8), (1, 2049, 0), (1, 4095, 0), (4, 11, 12)] {
         let mut small = Columns::blank();
         small.create(kind, d, rounds);
         let pairs: Vec<(u32, u32)> = (0..small.e as usize).map(|k| (small.a[k], small.b[k])).collect();
@@ -387,7 +403,7 @@ fn main() {
             .map(|k| (k / 8, (k / 8 + k % 8 + 1) % v))
             .map(|(a, b)| if (a < b) == turn { (b, a) } else { (a, b) })
             .collect();
-        let turned = if turn { ", ends turned round" } else { "" };
+        let turned = if turn { ", ends turned round" } else { ", first ends the smaller" };
         let mut large = Columns::with_room(v as usize, pairs.len());
         (large.v, large.e) = (v, e);
         for (k, &(a, b)) in pairs.iter().enumerate() {

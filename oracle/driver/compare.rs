@@ -694,6 +694,44 @@ fn sanity(inputs: &mut Inputs) -> (Group, [u64; 5]) {
             columns.numbers[at] = was;
         }
     }
+    // a vertex with a long list out of order, numbers past 32,767; ends below 4,096 or at random; then a number or a pair again
+    for round in 0..600usize {
+        let e = match round {
+            0 | 1 => 40_000,
+            _ => 40 + inputs.below(2_000),
+        };
+        let factors = (if round % 2 == 0 { 1 } else { 2 * inputs.word() as u32 + 1 }, 2 * inputs.word() as u32 + 1);
+        let mut columns = Columns::with_room(2, e);
+        (columns.v, columns.e) = (2, e as u32);
+        for k in 0..e {
+            (columns.a[k], columns.b[k]) = ((k as u32 / 64).wrapping_mul(factors.0), (k as u32 / 64 + k as u32 % 64 + 1).wrapping_mul(factors.0));
+        }
+        columns.lengths = vec![2 * e as u32 - 1, 1];
+        columns.numbers = (0..2 * e as u32).map(|k| (k + 1).wrapping_mul(factors.1)).collect();
+        one(&mut g, &columns, &|| format!("{e} edges, factors {factors:?}"));
+        let (at, from) = (1 + inputs.below(e - 1), 1 + inputs.below(2 * e - 2));
+        let (same, number) = (inputs.below(at), inputs.below(from));
+        columns.numbers[from] = columns.numbers[number];
+        one(&mut g, &columns, &|| format!("{e} edges, factors {factors:?}, number {from} as {number}"));
+        (columns.a[at], columns.b[at]) = if inputs.below(2) == 0 { (columns.b[same], columns.a[same]) } else { (columns.a[same], columns.b[same]) };
+        one(&mut g, &columns, &|| format!("{e} edges, factors {factors:?}, number {from} as {number}, edge {at} as {same}"));
+    }
+    // more edges than the limit: sorted where no first end is the larger, else compared one by one
+    for round in 0..12usize {
+        let e = 32_769 + inputs.below(8_000);
+        let mut columns = Columns::with_room(1, e);
+        (columns.v, columns.e) = (1, e as u32);
+        for k in 0..e {
+            let (a, b) = ((k as u32 / 64) * 1_000, (k as u32 / 64) * 1_000 + k as u32 % 64 + 1);
+            (columns.a[k], columns.b[k]) = if round % 6 == 5 && k % 1_000 == 999 { (b, a) } else { (a, b) };
+        }
+        (columns.lengths, columns.numbers) = (vec![1], vec![0; 2 * e]);
+        one(&mut g, &columns, &|| format!("{e} edges"));
+        let at = 1 + inputs.below(e - 1);
+        let same = inputs.below(at);
+        (columns.a[at], columns.b[at]) = (columns.a[same], columns.b[same]);
+        one(&mut g, &columns, &|| format!("{e} edges, edge {at} as {same}"));
+    }
     for round in 0..120_000usize {
         let n = round / 6000 + inputs.below(6);
         let m = inputs.below(2 * n + 2);

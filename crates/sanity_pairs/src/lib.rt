@@ -90,8 +90,8 @@ fn finding(a: &[u32], b: &[u32], edge_num: u32, later: usize) -> Verdict
     Verdict::DuplicateEdge(EdgeIndex(earlier as u32), EdgeIndex(later as u32))
 }
 
-// The first finding among the edges. More than 32,768 of them are sorted where each first end is at most the second, up to 65,536; else they are
-// compared one by one.
+// The first finding among the edges. More than 32,768 of them are sorted up to 65,536 where each first end is at most the second, and else compared one
+// by one.
 pub fn duplicates(a: &[u32], b: &[u32], edge_num: u32) -> Verdict
     requires { ⌜ («edge_num» ≤ length (now a)) × («edge_num» ≤ length (now b)) ⌝ }
     ensures { λ r. ⌜ r ≡ firstOf «edge_num» (duplicate (now (a .entry)) (now (b .entry))) ⌝ }
@@ -101,12 +101,10 @@ pub fn duplicates(a: &[u32], b: &[u32], edge_num: u32) -> Verdict
         let later = first_later(a, b, n);
         return finding(a, b, edge_num, later);
     }
-    if 65536 < n {
-        return duplicates_one_by_one(a, b, n);
+    let sorted = smaller_first(a, b, n);
+    if both(n <= 65536, sorted) {
+        let later = first_repeat_ordered(a, b, n);
+        return finding(a, b, edge_num, later);
     }
-    if !smaller_first(a, b, n) {
-        return duplicates_one_by_one(a, b, n);
-    }
-    let later = first_repeat_ordered(a, b, n);
-    finding(a, b, edge_num, later)
+    duplicates_one_by_one(a, b, n)
 }

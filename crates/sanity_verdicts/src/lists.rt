@@ -1,6 +1,6 @@
-// The first vertex without edges or with an edge twice. Where every number is below 32,768 numbers are stamped in a local array; else lists that ascend
-// have no number twice; in lists of up to 32 numbers those without a stamp are compared one by one; for longer lists the last earlier place with the
-// same number is found for each of up to 65,536 places. Where there are more places, numbers without a stamp are compared one by one.
+// The first vertex without edges or with an edge twice. Numbers below 32,768 are stamped in a local array. Where another one stands in a list and not
+// every list ascends: where no list has more than 64 numbers, or where they have more than 65,536 places together, a number without a stamp is compared
+// with those before it in its list; else the last earlier place with the same number is found for each place.
 ghost use mathlib.Core.Path.{_≡_};
 ghost use Prim.Native.Nat.{ℕ, _+_, _<_, _≤_, _^_};
 ghost use mathlib.Core.Bool.{true};
@@ -17,6 +17,7 @@ use columns::EdgeIndex;
 use columns::VertexIndex;
 use columns::questions::all_below;
 use columns::questions::both;
+use columns::questions::either;
 use columns::wide;
 use columns_places::last_places;
 use columns_sorted_pairs::wide_u16;
@@ -27,13 +28,12 @@ fn stands_before(numbers: &[u32], start: usize, i: usize, x: EdgeIndex) -> bool
     ensures { λ r. ⌜ Seen (now (numbers .entry)) start i (x .0) r ⌝ }
 {
     let mut j: usize = 0;
+    let mut seen = false;
     while j < i {
-        if numbers[start + j] == x.0 {
-            return true;
-        }
+        seen = either(seen, numbers[start + j] == x.0);
         j += 1;
     }
-    false
+    seen
 }
 
 // The same of the number after the first i: by its stamp where it has one, by the last place with the same number where that is known.
@@ -245,11 +245,9 @@ pub fn vertices_checked(lengths: &[u32], numbers: &[u32], n: u32) -> Verdict
     if lists_ascend(lengths, numbers, n as usize) {
         return first_without(lengths, n);
     }
-    if all_below(lengths, n as usize, 33) {
-        return vertices_by_stamps(lengths, numbers, n);
+    let short = all_below(lengths, n as usize, 65);
+    if both(!short, places <= 65536) {
+        return vertices_by_places(lengths, numbers, n, places);
     }
-    if 65536 < places {
-        return vertices_by_stamps(lengths, numbers, n);
-    }
-    vertices_by_places(lengths, numbers, n, places)
+    vertices_by_stamps(lengths, numbers, n)
 }

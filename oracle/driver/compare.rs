@@ -716,7 +716,7 @@ fn sanity(inputs: &mut Inputs) -> (Group, [u64; 5]) {
         (columns.a[at], columns.b[at]) = if inputs.below(2) == 0 { (columns.b[same], columns.a[same]) } else { (columns.a[same], columns.b[same]) };
         one(&mut g, &columns, &|| format!("{e} edges, factors {factors:?}, number {from} as {number}, edge {at} as {same}"));
     }
-    // more edges than the limit: sorted where no first end is the larger, else compared one by one
+    // more edges than the limit
     for round in 0..12usize {
         let e = 32_769 + inputs.below(8_000);
         let mut columns = Columns::with_room(1, e);

@@ -8,13 +8,11 @@ ghost use Rattle.sanity_pairs.specs.Steps.{FirstSame};
 use columns::EdgeIndex;
 use columns::VERTEX_LIMIT;
 use columns::questions::all_below;
+use columns::questions::at_most;
 use columns::questions::both;
 use columns_pairs::first_repeat_in;
 use columns_pairs::high_at;
 use columns_pairs::low_at;
-use columns_sorted_pairs::first_repeat;
-use columns_sorted_pairs::first_repeat_ordered;
-use columns_sorted_pairs::smaller_first;
 use sanity_verdicts::Verdict;
 
 // The first edge that joins the pair of edge i, or i.
@@ -65,46 +63,33 @@ fn first_by_lists(a: &[u32], b: &[u32], n: usize) -> usize
     first_repeat_in(a, b, n, 4096, &mut table, &mut keys, &mut marks)
 }
 
-// The same for ends of any size: by lists where every end is below 4,096, and else by sorting.
+// The same for ends of any size: by lists where there are at most 32,768 edges with ends below 4,096, and else by sorting.
 fn first_later(a: &[u32], b: &[u32], n: usize) -> usize
-    requires { ⌜ (n ≤ 32768) × (n ≤ length (now a)) × (n ≤ length (now b)) ⌝ }
+    requires { ⌜ (n ≤ 65536) × (n ≤ length (now a)) × (n ≤ length (now b)) ⌝ }
     ensures { λ r. ⌜ FirstRepeat (now (a .entry)) (now (b .entry)) n r ⌝ }
 {
+    let few = at_most(n, 32768);
     let small_a = all_below(a, n, VERTEX_LIMIT);
     let small_b = all_below(b, n, VERTEX_LIMIT);
-    if both(small_a, small_b) {
+    if both(few, both(small_a, small_b)) {
         return first_by_lists(a, b, n);
     }
-    first_repeat(a, b, n)
+    columns_sorted_pairs::first_repeat(a, b, n)
 }
 
-// The first finding among the edges, by the first that joins the pair of an earlier one.
-fn finding(a: &[u32], b: &[u32], edge_num: u32, later: usize) -> Verdict
-    requires { ⌜ («edge_num» ≤ length (now a)) × («edge_num» ≤ length (now b)) × FirstRepeat (now a) (now b) «edge_num» later ⌝ }
-    ensures { λ r. ⌜ r ≡ firstOf «edge_num» (duplicate (now (a .entry)) (now (b .entry))) ⌝ }
-{
-    if edge_num as usize <= later {
-        return Verdict::Sound;
-    }
-    let earlier = first_same(a, b, later);
-    Verdict::DuplicateEdge(EdgeIndex(earlier as u32), EdgeIndex(later as u32))
-}
-
-// The first finding among the edges. More than 32,768 of them are sorted up to 65,536 where each first end is at most the second, and else compared one
-// by one.
+// The first finding among the edges, up to 65,536 of them by the first that joins the pair of an earlier one.
 pub fn duplicates(a: &[u32], b: &[u32], edge_num: u32) -> Verdict
     requires { ⌜ («edge_num» ≤ length (now a)) × («edge_num» ≤ length (now b)) ⌝ }
     ensures { λ r. ⌜ r ≡ firstOf «edge_num» (duplicate (now (a .entry)) (now (b .entry))) ⌝ }
 {
     let n = edge_num as usize;
-    if n <= 32768 {
-        let later = first_later(a, b, n);
-        return finding(a, b, edge_num, later);
+    if 65536 < edge_num {
+        return duplicates_one_by_one(a, b, n);
     }
-    let sorted = smaller_first(a, b, n);
-    if both(n <= 65536, sorted) {
-        let later = first_repeat_ordered(a, b, n);
-        return finding(a, b, edge_num, later);
+    let later = first_later(a, b, n);
+    if n <= later {
+        return Verdict::Sound;
     }
-    duplicates_one_by_one(a, b, n)
+    let earlier = first_same(a, b, later);
+    Verdict::DuplicateEdge(EdgeIndex(earlier as u32), EdgeIndex(later as u32))
 }

@@ -126,12 +126,12 @@ fn shapes(code: &Columns, inputs: &mut Inputs) -> Vec<(&'static str, Columns)> {
     for number in random_numbers.numbers.iter_mut() {
         *number = (*number + 1).wrapping_mul(2_654_435_761);
     }
-    // 64 numbers in each list, as many vertices as that leaves
+    // 33 numbers in each list, as many vertices as that leaves
     let mut long_lists = shape(code.v, &pairs);
     long_lists.a.copy_from_slice(&random_ends.a);
     long_lists.b.copy_from_slice(&random_ends.b);
-    long_lists.v = 2 * code.e / 64;
-    long_lists.lengths.fill(64);
+    long_lists.v = 2 * code.e / 33;
+    long_lists.lengths.fill(33);
     for (k, number) in long_lists.numbers.iter_mut().enumerate() {
         *number = (k as u32 + 1).wrapping_mul(2_654_435_761);
     }
@@ -167,7 +167,7 @@ fn shapes(code: &Columns, inputs: &mut Inputs) -> Vec<(&'static str, Columns)> {
         ("every neighbour number past the edges, one list of nearly all", one_list),
         ("every neighbour number at random up to 2³²", random_numbers),
         ("every end and every neighbour number at random up to 2³²", random),
-        ("every end and every neighbour number at random up to 2³², 64 in each list", long_lists),
+        ("every end and every neighbour number at random up to 2³², 33 in each list", long_lists),
         ("every end and every neighbour number at random up to 2³², one list of nearly all", one_random_list),
     ]
 }

@@ -1,6 +1,6 @@
 -- Laws of stamps, of last places with the same number, and of numbers twice in a list. Assumes nothing.
 use mathlib.Core.Path.{_≡_, refl, sym, ap, _∙_, subst}
-use mathlib.Core.Bool.{Bool, true, false, _&&_, _||_, cond, false≢true}
+use mathlib.Core.Bool.{Bool, true, false, _&&_, cond, false≢true}
 use mathlib.Core.List.{List}
 use Prim.Native.Nat.{ℕ, zero, suc, _+_, _-_, _≤_, _<_}
 use native.Mathlib.Decide.{ℕ-discrete}
@@ -28,17 +28,6 @@ module _ (numbers : List ℕ) (start : ℕ) where
 
   pub seen-none : (i x : ℕ) → ((j : ℕ) → j < i → getD numbers (start + j) 0 ≡ x → ⊥) → Seen numbers start i x false
   seen-none i x f = record { yes = λ t. absurd (false≢true t); no = λ t. f }
-
-  -- one number more
-  pub seen-more : (i x : ℕ) (r t : Bool) → Seen numbers start i x r → t ≡ (r || eqb (getD numbers (start + i) 0) x) → Seen numbers start (i + 1) x t
-  seen-more i x true t s e = let (j, (h, q)) = s .yes refl in subst (Seen numbers start (i + 1) x) (sym e) (seen-at (i + 1) x j (omega arith) q)
-  seen-more i x false t s e = elim (ℕ-discrete (getD numbers (start + i) 0) x) [
-    | yes q ↦ subst (Seen numbers start (i + 1) x) (sym (e ∙ eq-eqb _ x q)) (seen-at (i + 1) x i (omega arith) q)
-    | no d ↦ subst (Seen numbers start (i + 1) x) (sym (e ∙ ne-eqb _ x d)) (seen-none (i + 1) x (λ j h q. elim (ℕ-discrete j i) [
-      | yes w ↦ d (ap (λ (k : ℕ). getD numbers (start + k) 0) (sym w) ∙ q)
-      | no w ↦ s .no refl j (omega arith) q
-    ]))
-  ]
 
   -- seen by its stamp
   pub seen-stamp : (i x stamp : ℕ) (mark : List ℕ) → x < length mark → Stamped numbers start i stamp mark → Seen numbers start i x (eqb (getD mark x 0) stamp)

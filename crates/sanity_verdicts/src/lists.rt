@@ -1,5 +1,5 @@
 // The first vertex without edges or with an edge twice. Numbers below 32,768 are stamped in a local array. Where another one stands in a list and not
-// every list ascends: where no list has more than 64 numbers, or where they have more than 65,536 places together, a number without a stamp is compared
+// every list ascends: where no list has more than 32 numbers, or where they have more than 65,536 places together, a number without a stamp is compared
 // with those before it in its list; else the last earlier place with the same number is found for each place.
 ghost use mathlib.Core.Path.{_≡_};
 ghost use Prim.Native.Nat.{ℕ, _+_, _<_, _≤_, _^_};
@@ -17,7 +17,6 @@ use columns::EdgeIndex;
 use columns::VertexIndex;
 use columns::questions::all_below;
 use columns::questions::both;
-use columns::questions::either;
 use columns::wide;
 use columns_places::last_places;
 use columns_sorted_pairs::wide_u16;
@@ -28,12 +27,13 @@ fn stands_before(numbers: &[u32], start: usize, i: usize, x: EdgeIndex) -> bool
     ensures { λ r. ⌜ Seen (now (numbers .entry)) start i (x .0) r ⌝ }
 {
     let mut j: usize = 0;
-    let mut seen = false;
     while j < i {
-        seen = either(seen, numbers[start + j] == x.0);
+        if numbers[start + j] == x.0 {
+            return true;
+        }
         j += 1;
     }
-    seen
+    false
 }
 
 // The same of the number after the first i: by its stamp where it has one, by the last place with the same number where that is known.
@@ -245,7 +245,7 @@ pub fn vertices_checked(lengths: &[u32], numbers: &[u32], n: u32) -> Verdict
     if lists_ascend(lengths, numbers, n as usize) {
         return first_without(lengths, n);
     }
-    let short = all_below(lengths, n as usize, 65);
+    let short = all_below(lengths, n as usize, 33);
     if both(!short, places <= 65536) {
         return vertices_by_places(lengths, numbers, n, places);
     }

@@ -1,6 +1,6 @@
-// The first vertex without edges or with an edge twice. Numbers below 32,768 are stamped in a local array. Where another one stands in a list and not
-// every list ascends: where no list has more than 32 numbers, or where they have more than 65,536 places together, a number without a stamp is compared
-// with those before it in its list; else the last earlier place with the same number is found for each place.
+// The first vertex without edges or with an edge twice. Where every number is below 32,768, numbers are stamped in a local array. Else lists that ascend
+// have no number twice. Else, where no list has more than 32 numbers, or where they have more than 65,536 places together, a number without a stamp is
+// compared with those before it in its list; else the last earlier place with the same number is found for each place.
 ghost use mathlib.Core.Path.{_≡_};
 ghost use Prim.Native.Nat.{ℕ, _+_, _<_, _≤_, _^_};
 ghost use mathlib.Core.Bool.{true};

@@ -32,7 +32,7 @@ fn two(rounds: usize, mut ours: impl FnMut(), mut other: impl FnMut()) -> (f64, 
     (turns[0].1, turns[1].1)
 }
 
-/// microseconds, with more digits where they are few
+/// microseconds; small ones with more digits
 fn us(seconds: f64) -> String {
     let us = seconds * 1e6;
     if us < 20. {
@@ -126,7 +126,7 @@ fn shapes(code: &Columns, inputs: &mut Inputs) -> Vec<(&'static str, Columns)> {
     for number in random_numbers.numbers.iter_mut() {
         *number = (*number + 1).wrapping_mul(2_654_435_761);
     }
-    // 33 numbers in each list, as many vertices as that leaves
+    // 33 numbers in each list, and so fewer vertices
     let mut long_lists = shape(code.v, &pairs);
     long_lists.a.copy_from_slice(&random_ends.a);
     long_lists.b.copy_from_slice(&random_ends.b);

@@ -694,7 +694,7 @@ fn sanity(inputs: &mut Inputs) -> (Group, [u64; 5]) {
             columns.numbers[at] = was;
         }
     }
-    // a vertex with a long list out of order, numbers past 32,767; ends below 4,096 or at random; then a number or a pair again
+    // a vertex with a long list out of order, numbers past 32,767; ends below 4,096 or at random; then a number again, then a pair too
     for round in 0..600usize {
         let e = match round {
             0 | 1 => 40_000,
@@ -717,8 +717,8 @@ fn sanity(inputs: &mut Inputs) -> (Group, [u64; 5]) {
         one(&mut g, &columns, &|| format!("{e} edges, factors {factors:?}, number {from} as {number}, edge {at} as {same}"));
     }
     // more edges than the limit
-    for round in 0..12usize {
-        let e = 32_769 + inputs.below(8_000);
+    for round in 0..13usize {
+        let e = if round == 12 { 65_537 } else { 32_769 + inputs.below(8_000) };
         let mut columns = Columns::with_room(1, e);
         (columns.v, columns.e) = (1, e as u32);
         for k in 0..e {

@@ -1,6 +1,6 @@
 -- Laws of stamps, of last places with the same number, and of numbers twice in a list. Assumes nothing.
 use mathlib.Core.Path.{_≡_, refl, sym, ap, _∙_, subst}
-use mathlib.Core.Bool.{Bool, true, false, _&&_, cond, false≢true}
+use mathlib.Core.Bool.{Bool, true, false, _&&_, _||_, cond, false≢true}
 use mathlib.Core.List.{List}
 use Prim.Native.Nat.{ℕ, zero, suc, _+_, _-_, _≤_, _<_}
 use native.Mathlib.Decide.{ℕ-discrete}
@@ -22,9 +22,19 @@ use Rattle.sanity_verdicts.specs.ListSteps.{Seen, Stamped, Below, Ascend
 use Rattle.sanity_verdicts.proofs.Scans.{first-next, first-stop, first-all, first-same, first-any, found-false}
 
 module _ (numbers : List ℕ) (start : ℕ) where
-  -- seen at place j, and nowhere
-  pub seen-at : (i x j : ℕ) → j < i → getD numbers (start + j) 0 ≡ x → Seen numbers start i x true
-  seen-at i x j h e = record { yes = λ t. (j, (h, e)); no = λ t. absurd (false≢true (sym t)) }
+  -- one number more, and none
+  pub seen-more : (i x : ℕ) (r q : Bool) → Seen numbers start i x r → q ≡ (r || eqb (getD numbers (start + i) 0) x) → Seen numbers start (i + 1) x q
+  seen-more i x true q s e = record {
+    yes = λ t. let (j, (h, w)) = s .yes refl in (j, (omega arith, w));
+    no = λ t. absurd (false≢true (sym t ∙ e));
+  }
+  seen-more i x false q s e = record {
+    yes = λ t. (i, (omega arith, eqb-true (getD numbers (start + i) 0) x (sym e ∙ t)));
+    no = λ t j h w. elim (ℕ-discrete j i) [
+      | yes g ↦ false≢true (sym t ∙ e ∙ eq-eqb (getD numbers (start + i) 0) x (ap (λ (z : ℕ). getD numbers (start + z) 0) (sym g) ∙ w))
+      | no g ↦ s .no refl j (omega arith) w
+    ];
+  }
 
   pub seen-none : (i x : ℕ) → ((j : ℕ) → j < i → getD numbers (start + j) 0 ≡ x → ⊥) → Seen numbers start i x false
   seen-none i x f = record { yes = λ t. absurd (false≢true t); no = λ t. f }

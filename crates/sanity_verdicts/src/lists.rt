@@ -1,5 +1,5 @@
 // The first vertex without edges or with an edge twice. Where every number is below 32,768, numbers are stamped in a local array. Else lists that ascend
-// have no number twice. Else, where no list has more than 32 numbers, or where they have more than 65,536 places together, a number without a stamp is
+// have no number twice. Else, where no list has more than 128 numbers, or where they have more than 65,536 places together, a number without a stamp is
 // compared with those before it in its list; else the last earlier place with the same number is found for each place.
 ghost use mathlib.Core.Path.{_≡_};
 ghost use Prim.Native.Nat.{ℕ, _+_, _<_, _≤_, _^_};
@@ -17,6 +17,7 @@ use columns::EdgeIndex;
 use columns::VertexIndex;
 use columns::questions::all_below;
 use columns::questions::both;
+use columns::questions::either;
 use columns::wide;
 use columns_places::last_places;
 use columns_sorted_pairs::wide_u16;
@@ -26,14 +27,14 @@ fn stands_before(numbers: &[u32], start: usize, i: usize, x: EdgeIndex) -> bool
     requires { ⌜ start + i ≤ length (now numbers) ⌝ }
     ensures { λ r. ⌜ Seen (now (numbers .entry)) start i (x .0) r ⌝ }
 {
+    let y = x.0;
     let mut j: usize = 0;
+    let mut seen = false;
     while j < i {
-        if numbers[start + j] == x.0 {
-            return true;
-        }
+        seen = either(seen, numbers[start + j] == y);
         j += 1;
     }
-    false
+    seen
 }
 
 // The same of the number after the first i: by its stamp where it has one, by the last place with the same number where that is known.
@@ -245,7 +246,7 @@ pub fn vertices_checked(lengths: &[u32], numbers: &[u32], n: u32) -> Verdict
     if lists_ascend(lengths, numbers, n as usize) {
         return first_without(lengths, n);
     }
-    let short = all_below(lengths, n as usize, 33);
+    let short = all_below(lengths, n as usize, 129);
     if both(!short, places <= 65536) {
         return vertices_by_places(lengths, numbers, n, places);
     }

@@ -1,2 +1,2 @@
--- Sides: laws of places sorted by their numbers.
-pub mod Sides
+-- LastRests: laws of the last place with the same digits and the same rest.
+pub mod LastRests

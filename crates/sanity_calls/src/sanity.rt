@@ -3,7 +3,7 @@ ghost use mathlib.Core.Path.{_≡_};
 ghost use Prim.Native.Nat.{_≤_};
 ghost use lib.ListN.{length};
 ghost use Rattle.columns_neighbors.specs.Lists.{sumTo};
-ghost use Rattle.sanity_verdicts.specs.Sanity.{orElse, verdict, sanityLong, SanityChecked};
+ghost use Rattle.sanity_verdicts.specs.Sanity.{verdict, sanityLong, SanityChecked};
 use columns::questions::at_most;
 use columns::questions::both;
 use columns_room::lists_long;
@@ -30,13 +30,6 @@ fn sanity_long(
     both(both(ends, lengths), lists)
 }
 
-// What comes first: a finding, or what comes next.
-fn or_else(found: Verdict, next: Verdict) -> Verdict
-    ensures { λ r. ⌜ r ≡ orElse found next ⌝ }
-{
-    if is_sound(found) { next } else { found }
-}
-
 // The verdict on columns that are long enough.
 fn verdict_of(
     vertex_num: u32,
@@ -56,8 +49,10 @@ fn verdict_of(
         return Verdict::Empty;
     }
     let edges = duplicates(ends_a, ends_b, edge_num);
-    let vertices = vertices_checked(list_lengths, neighbor_numbers, vertex_num);
-    or_else(edges, vertices)
+    if !is_sound(edges) {
+        return edges;
+    }
+    vertices_checked(list_lengths, neighbor_numbers, vertex_num)
 }
 
 // The first thing wrong with a graph: no vertices or no edges, two edges that join one pair, a vertex without edges, an edge twice at a vertex.

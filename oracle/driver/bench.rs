@@ -126,14 +126,25 @@ fn shapes(code: &Columns, inputs: &mut Inputs) -> Vec<(&'static str, Columns)> {
     for number in random_numbers.numbers.iter_mut() {
         *number = (*number + 1).wrapping_mul(2_654_435_761);
     }
-    // 33 numbers in each list, and so fewer vertices
-    let mut long_lists = shape(code.v, &pairs);
-    long_lists.a.copy_from_slice(&random_ends.a);
-    long_lists.b.copy_from_slice(&random_ends.b);
-    long_lists.v = 2 * code.e / 33;
-    long_lists.lengths.fill(33);
-    for (k, number) in long_lists.numbers.iter_mut().enumerate() {
-        *number = (k as u32 + 1).wrapping_mul(2_654_435_761);
+    // as many numbers in each list, and so fewer vertices
+    let long_lists = |numbers: u32| {
+        let mut columns = shape(code.v, &pairs);
+        columns.a.copy_from_slice(&random_ends.a);
+        columns.b.copy_from_slice(&random_ends.b);
+        columns.v = 2 * code.e / numbers;
+        columns.lengths.fill(numbers);
+        for (k, number) in columns.numbers.iter_mut().enumerate() {
+            *number = (k as u32 + 1).wrapping_mul(2_654_435_761);
+        }
+        columns
+    };
+    let (lists_of_33, lists_of_96, lists_of_97) = (long_lists(33), long_lists(96), long_lists(97));
+    // pairs that differ in the upper 8 bits of their ends alone, in any order
+    let mut upper = shape(code.v, &pairs);
+    let both: Vec<(u32, u32)> = (0..256).flat_map(|a| (0..=a).map(move |b| (a << 24 | 5, b << 24 | 5))).collect();
+    let order = inputs.order(both.len());
+    for k in 0..e {
+        (upper.a[k], upper.b[k]) = both[order[k] as usize];
     }
     let mut random = shape(code.v, &pairs);
     random.a.copy_from_slice(&random_ends.a);
@@ -163,11 +174,14 @@ fn shapes(code: &Columns, inputs: &mut Inputs) -> Vec<(&'static str, Columns)> {
         ("one end past the vertices", damaged),
         ("one neighbour number past the edges", one_number),
         ("every end at random up to 2³²", random_ends),
+        ("ends that differ in their upper 8 bits alone", upper),
         ("every neighbour number past the edges", past),
         ("every neighbour number past the edges, one list of nearly all", one_list),
         ("every neighbour number at random up to 2³²", random_numbers),
         ("every end and every neighbour number at random up to 2³²", random),
-        ("every end and every neighbour number at random up to 2³², 33 in each list", long_lists),
+        ("every end and every neighbour number at random up to 2³², 33 in each list", lists_of_33),
+        ("every end and every neighbour number at random up to 2³², 96 in each list", lists_of_96),
+        ("every end and every neighbour number at random up to 2³², 97 in each list", lists_of_97),
         ("every end and every neighbour number at random up to 2³², one list of nearly all", one_random_list),
     ]
 }
@@ -351,7 +365,7 @@ fn main() {
         let (sanity, question) = *built.get_or_insert((ours / size, door / size));
         row(&format!("`sanity_check`, {what}, Rust"), ours, rust, "", true);
         row(&format!("`sanity_check`, {what}; a built code of that size"), ours, sanity * size, "at most 5", ours <= 5. * sanity * size);
-        if what.contains("neighbour number") || what.contains("random") {
+        if what.contains("neighbour number") || what.contains("random") || what.contains("upper") {
             continue;
         }
         row(
@@ -394,6 +408,25 @@ fn main() {
             "at most 6",
             ours <= 6. * other,
         );
+    }
+
+    // ---- sanity_check on small codes, one end past 4,095
+    for (kind, d, rounds) in [(1, 3, 0), (2, 7, 0), (4, 5, 4), (4, 7, 8)] {
+        let mut built = Columns::blank();
+        built.create(kind, d, rounds);
+        let mut damaged = Columns::blank();
+        damaged.create(kind, d, rounds);
+        damaged.a[damaged.e as usize / 2] = 70_000;
+        let (ours, other) = two(
+            times(400),
+            || {
+                black_box(ours::sanity_check(damaged.v, damaged.e, &damaged.a, &damaged.b, &damaged.lengths, &damaged.numbers));
+            },
+            || {
+                black_box(ours::sanity_check(built.v, built.e, &built.a, &built.b, &built.lengths, &built.numbers));
+            },
+        );
+        row(&format!("`sanity_check`, {} vertices, {} edges, one end past the vertices; the built code", built.v, built.e), ours, other, "at most 5", ours <= 5. * other);
     }
 
     // ---- sanity_check as a graph grows past the limits; above 65,536 edges each is compared with those before it

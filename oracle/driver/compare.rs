@@ -698,6 +698,7 @@ fn sanity(inputs: &mut Inputs) -> (Group, [u64; 5]) {
     for round in 0..600usize {
         let e = match round {
             0 | 1 => 40_000,
+            2 | 3 => 32_768,
             _ => 40 + inputs.below(2_000),
         };
         let factors = (if round % 2 == 0 { 1 } else { 2 * inputs.word() as u32 + 1 }, 2 * inputs.word() as u32 + 1);
@@ -716,9 +717,34 @@ fn sanity(inputs: &mut Inputs) -> (Group, [u64; 5]) {
         (columns.a[at], columns.b[at]) = if inputs.below(2) == 0 { (columns.b[same], columns.a[same]) } else { (columns.a[same], columns.b[same]) };
         one(&mut g, &columns, &|| format!("{e} edges, factors {factors:?}, number {from} as {number}, edge {at} as {same}"));
     }
+    // ends and numbers of which few differ in their lower 24 bits, and the others in the 8 above
+    for round in 0..600usize {
+        let e = 70 + inputs.below(1_000);
+        let (ends, numbers) = (1 << (round % 12), 1 << (4 + round % 16));
+        let mut columns = Columns::with_room(2, e);
+        (columns.v, columns.e) = (2, e as u32);
+        let mut upper = |lower: usize| (inputs.below(256) << 24 | inputs.below(lower) * 255) as u32;
+        for k in 0..e {
+            (columns.a[k], columns.b[k]) = (upper(ends), upper(ends));
+        }
+        let first = [96, 97, 2 * e as u32 - 1][round / 4 % 3];
+        columns.lengths = vec![first, 2 * e as u32 - first];
+        columns.numbers = (0..2 * e).map(|_| upper(numbers)).collect();
+        one(&mut g, &columns, &|| format!("{e} edges, {ends} lower ends, {numbers} lower numbers"));
+        // each pair once: the edge's number in the upper bits
+        for k in 0..e.min(65_536) {
+            columns.a[k] = columns.a[k] % (1 << 24) | (k as u32 / 256) << 24;
+            columns.b[k] = columns.b[k] % (1 << 24) | (k as u32 % 256) << 24;
+        }
+        one(&mut g, &columns, &|| format!("{e} edges, {ends} lower ends, each once, {numbers} lower numbers"));
+    }
     // more edges than the limit
     for round in 0..13usize {
-        let e = if round == 12 { 65_537 } else { 32_769 + inputs.below(8_000) };
+        let e = match round {
+            12 => 65_537,
+            11 => 65_536,
+            _ => 32_769 + inputs.below(8_000),
+        };
         let mut columns = Columns::with_room(1, e);
         (columns.v, columns.e) = (1, e as u32);
         for k in 0..e {

@@ -1,5 +1,5 @@
 // The first vertex without edges or with an edge twice. Where every number is below 32,768, numbers are stamped in a local array. Else lists that ascend
-// have no number twice. Else, where no list has more than 128 numbers, or where they have more than 65,536 places together, a number without a stamp is
+// have no number twice. Else, where no list has more than 96 numbers, or where they have more than 65,536 places together, a number without a stamp is
 // compared with those before it in its list; else the last earlier place with the same number is found for each place.
 ghost use mathlib.Core.Path.{_≡_};
 ghost use Prim.Native.Nat.{ℕ, _+_, _<_, _≤_, _^_};
@@ -246,7 +246,7 @@ pub fn vertices_checked(lengths: &[u32], numbers: &[u32], n: u32) -> Verdict
     if lists_ascend(lengths, numbers, n as usize) {
         return first_without(lengths, n);
     }
-    let short = all_below(lengths, n as usize, 129);
+    let short = all_below(lengths, n as usize, 97);
     if both(!short, places <= 65536) {
         return vertices_by_places(lengths, numbers, n, places);
     }

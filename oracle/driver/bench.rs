@@ -126,7 +126,7 @@ fn shapes(code: &Columns, inputs: &mut Inputs) -> Vec<(&'static str, Columns)> {
     for number in random_numbers.numbers.iter_mut() {
         *number = (*number + 1).wrapping_mul(2_654_435_761);
     }
-    // as many numbers in each list, and so fewer vertices
+    // the same number of numbers in each list, and so fewer vertices
     let long_lists = |numbers: u32| {
         let mut columns = shape(code.v, &pairs);
         columns.a.copy_from_slice(&random_ends.a);

@@ -717,26 +717,27 @@ fn sanity(inputs: &mut Inputs) -> (Group, [u64; 5]) {
         (columns.a[at], columns.b[at]) = if inputs.below(2) == 0 { (columns.b[same], columns.a[same]) } else { (columns.a[same], columns.b[same]) };
         one(&mut g, &columns, &|| format!("{e} edges, factors {factors:?}, number {from} as {number}, edge {at} as {same}"));
     }
-    // ends and numbers of which few differ in their lower 24 bits, and the others in the 8 above
-    for round in 0..600usize {
-        let e = 70 + inputs.below(1_000);
-        let (ends, numbers) = (1 << (round % 12), 1 << (4 + round % 16));
+    // ends and numbers with few values of the lower 24 bits and any of the 8 above
+    for round in 0..900usize {
+        let (kind, wide) = (inputs.below(5), 70 + inputs.below(1_000));
+        let e = if kind < 2 { 97 } else { wide };
+        let (ends, numbers) = (1 << (round % 12), 1 << (4 + round % 13));
         let mut columns = Columns::with_room(2, e);
         (columns.v, columns.e) = (2, e as u32);
-        let mut upper = |lower: usize| (inputs.below(256) << 24 | inputs.below(lower) * 255) as u32;
+        let places = 2 * e as u32;
+        columns.lengths = [vec![96, 96], vec![97, 96], vec![96, places - 96], vec![97, places - 97], vec![places - 1, 1]][kind].clone();
+        let mut any = |lower: usize| (inputs.below(256) << 24 | inputs.below(lower) * 255) as u32;
         for k in 0..e {
-            (columns.a[k], columns.b[k]) = (upper(ends), upper(ends));
+            (columns.a[k], columns.b[k]) = (any(ends), any(ends));
         }
-        let first = [96, 97, 2 * e as u32 - 1][round / 4 % 3];
-        columns.lengths = vec![first, 2 * e as u32 - first];
-        columns.numbers = (0..2 * e).map(|_| upper(numbers)).collect();
-        one(&mut g, &columns, &|| format!("{e} edges, {ends} lower ends, {numbers} lower numbers"));
-        // each pair once: the edge's number in the upper bits
-        for k in 0..e.min(65_536) {
-            columns.a[k] = columns.a[k] % (1 << 24) | (k as u32 / 256) << 24;
-            columns.b[k] = columns.b[k] % (1 << 24) | (k as u32 % 256) << 24;
+        columns.numbers = (0..places).map(|_| any(numbers)).collect();
+        one(&mut g, &columns, &|| format!("{e} edges, {ends} lower ends, {numbers} lower numbers, lists {:?}", columns.lengths));
+        // each pair once: its number in the upper bits, the second end's at most the first's
+        let upper = (0..256u32).flat_map(|a| (0..=a).map(move |b| (a << 24, b << 24)));
+        for (k, (a, b)) in upper.take(e).enumerate() {
+            (columns.a[k], columns.b[k]) = (columns.a[k] % (1 << 24) | a, columns.b[k] % (1 << 24) | b);
         }
-        one(&mut g, &columns, &|| format!("{e} edges, {ends} lower ends, each once, {numbers} lower numbers"));
+        one(&mut g, &columns, &|| format!("{e} edges, {ends} lower ends, each once, {numbers} lower numbers, lists {:?}", columns.lengths));
     }
     // more edges than the limit
     for round in 0..13usize {

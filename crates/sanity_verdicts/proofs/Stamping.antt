@@ -175,7 +175,7 @@ module _ (numbers : List ℕ) (start len : ℕ) (a : Ascends numbers start len) 
       ]
 
   -- no number stands twice in a list that ascends
-  pub twice-ascends : (v : ℕ) → start + len ≤ length numbers → twice (part numbers start len) v ≡ Sound
+  twice-ascends : (v : ℕ) → start + len ≤ length numbers → twice (part numbers start len) v ≡ Sound
   unfolding twice finding
   twice-ascends v fits = first-all (finding (part numbers start len) v) (length (part numbers start len)) (λ i l.
       let h : i < len = omega (arith, list-length numbers start len v fits) in

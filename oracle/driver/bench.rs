@@ -488,6 +488,29 @@ fn main() {
         },
     );
     row("`generate_random_errors`, Rust", ours, rust, "at most 1.2", ours <= 1.2 * rust);
+    let every: Vec<u32> = (0..columns.e).collect();
+    let every_wide = wide(&every);
+    let (ours, rust) = two(
+        times(600),
+        || {
+            black_box(ours::generate_errors(
+                columns.v,
+                columns.e,
+                &columns.a,
+                &columns.b,
+                &columns.boundary,
+                &every,
+                &mut columns.defect,
+                &columns.erasure,
+                &mut defects,
+                &mut erasures,
+            ));
+        },
+        || {
+            black_box(code.generate_errors(&every_wide));
+        },
+    );
+    row("`generate_errors`, every edge named, Rust", ours, rust, "", true);
 
     // ---- reordering
     let order = inputs.order(v);

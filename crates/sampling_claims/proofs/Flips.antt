@@ -1,5 +1,5 @@
--- A flip at each end of each listed edge, over standing bytes of 0 and 1; so an edge named twice flips nothing. Assumes nothing.
-use mathlib.Core.Path.{_≡_, sym, ap, _∙_}
+-- What a flip gives; a flip at each end of each listed edge, over standing bytes of 0 and 1; so an edge named twice flips nothing. Assumes nothing.
+use mathlib.Core.Path.{_≡_, refl, sym, ap, _∙_}
 use mathlib.Core.Bool.{_&&_}
 use mathlib.Core.List.{List, [], _∷_, _++_}
 use Prim.Native.Nat.{ℕ, _+_, _%_, _<_}
@@ -12,13 +12,23 @@ use Rattle.columns.proofs.Columns.{take-over, over-in, over-past}
 use Rattle.columns.proofs.Tests.{within-first}
 use Rattle.columns_room.specs.Graph.{CodeGraph}
 use Rattle.columns_marks.proofs.Listing.{chosen-same}
-use Rattle.sampling_flips.specs.Flip.{flipEach}
-use Rattle.sampling_flips.proofs.Flipping.{length-flipEach, flipEach-virtual}
+use Rattle.sampling_flips.specs.Flip.{flipped, flipEach}
+use Rattle.sampling_flips.proofs.Flipping.{flipped-virtual, length-flipEach, flipEach-virtual}
 use Rattle.sampling_calls.specs.Syndrome.{endsIn, isDefectOf, syndromeOf}
 use Rattle.sampling_calls.proofs.Inner.{flipEach-inner}
 use Rattle.sampling_calls.proofs.Accepting.{errors-met}
-use Rattle.sampling_claims.specs.Flips.{ErrorsFlip, TwiceCancels}
-use Rattle.sampling_claims.proofs.Accepted.{errors-promise, syndrome-promise, door, defect-over, how-many, syndrome-over}
+use Rattle.sampling_claims.specs.Called.{flip-returned}
+use Rattle.sampling_claims.specs.Flips.{FlipGives, ErrorsFlip, TwiceCancels}
+use Rattle.sampling_claims.proofs.Accepted.{flip-promise, errors-promise, syndrome-promise, door, defect-over, how-many, syndrome-over}
+
+-- ---- flip
+
+pub flip-gives : FlipGives
+flip-gives = record {
+  returns = λ boundary byte. (flipped boundary byte, flip-returned tt (boundary, (byte, tt)) (flipped boundary byte) (boundary, (byte, tt)) refl);
+  at-inner = λ boundary byte result c h e. flip-promise c ∙ ap (λ (n : ℕ). flipped n byte) e;
+  at-virtual = λ boundary byte result c h f. flip-promise c ∙ flipped-virtual boundary byte f;
+}
 
 -- ---- generate_errors
 

@@ -16,6 +16,8 @@ use Rattle.sampling_generator.proofs.DeterministicRng.seed_from_u64.Kinds as se
 use Rattle.sampling_generator.proofs.DeterministicRng.seed_from_u64.Reads as seed-reads
 use Rattle.sampling_generator.proofs.DeterministicRng.next_f64.Kinds as draw-kinds
 use Rattle.sampling_generator.proofs.DeterministicRng.next_f64.Reads as draw-reads
+use Rattle.sampling_flips.proofs.flip.Kinds as flip-kinds
+use Rattle.sampling_flips.proofs.flip.Reads as flip-reads
 use Rattle.sampling_calls.specs.Records.{SyndromeColumns, syndromeColumns}
 use Rattle.sampling_calls.proofs.generate_random_errors.Kinds as sampling-kinds
 use Rattle.sampling_calls.proofs.generate_random_errors.Reads as sampling-reads
@@ -34,6 +36,10 @@ pub data DrawsReturned : DeterministicRng → List Float → Type 0 where
   no-draw : {g : DeterministicRng} → DrawsReturned g []
   draw-then : {values : List Float} (κs : Lfts 0) (a : Dens κs draw-kinds.ps) (r : Drawn) (s : AtExit (endedOf 0 draw-kinds.ps draw-kinds.r) κs) → draw-reads.Learnt κs a r s
       → DrawsReturned (r .rng) values → DrawsReturned (a .0) (r .value ∷ values)
+
+-- Document 02, job 4, sentence 1: a `flip` that returned: the vertex's boundary byte and defect byte, and the defect byte that the flip gave.
+pub data FlipReturned : (boundary byte result : ℕ) → Type 0 where
+  flip-returned : (κs : Lfts 0) (a : Dens κs flip-kinds.ps) (r : ℕ) (s : AtExit (endedOf 0 flip-kinds.ps flip-kinds.r) κs) → flip-reads.Learnt κs a r s → FlipReturned (a .0) (a .1 .0) r
 
 -- Sampling, syndromes, reordering, paragraph 1, sentence 5: a `generate_random_errors` that returned: the seed, the graph, p and pe, the columns lent, the answer, and
 -- the columns as the call left them.

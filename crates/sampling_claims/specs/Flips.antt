@@ -1,5 +1,5 @@
--- What errors on listed edges do to defects.
-use Prim.Native.Nat.{ℕ, _+_, _%_, _≤_, _<_}
+-- What a flip gives, and what errors on listed edges do to defects.
+use Prim.Native.Nat.{ℕ, _+_, _-_, _%_, _≤_, _<_}
 use mathlib.Core.Path.{_≡_}
 use mathlib.Core.List.{List, _∷_, _++_}
 use lib.ListN.{getD, take}
@@ -9,7 +9,14 @@ use Rattle.columns_answers.specs.declared.ListCount.the-variants.{Count}
 use Rattle.columns_room.specs.Graph.{CodeGraph}
 use Rattle.sampling_calls.specs.Records.{SyndromeColumns}
 use Rattle.sampling_calls.specs.Syndrome.{endsIn}
-use Rattle.sampling_claims.specs.Called.{ErrorsReturned, SyndromeReturned}
+use Rattle.sampling_claims.specs.Called.{FlipReturned, ErrorsReturned, SyndromeReturned}
+
+-- Document 02, job 4, sentence 2: for the defect bytes 0 and 1 a flip gives 1 minus the byte at an inner vertex and the byte itself at a virtual one. For any bytes there
+-- is such a flip.
+pub record FlipGives : Type 0 where
+  pub returns : (boundary byte : ℕ) → (result : ℕ) × FlipReturned boundary byte result
+  pub at-inner : (boundary byte result : ℕ) → FlipReturned boundary byte result → byte ≤ 1 → boundary ≡ inner → result ≡ 1 - byte
+  pub at-virtual : (boundary byte result : ℕ) → FlipReturned boundary byte result → byte ≤ 1 → (boundary ≡ inner → ⊥) → result ≡ byte
 
 -- Sampling, syndromes, reordering, paragraph 2, sentence 1: the defect bytes before and after errors on the listed edges. An inner vertex's byte flips once for each end
 -- of a listed edge that is there, over the standing byte; a virtual one keeps its byte, and so do the places past the vertices.

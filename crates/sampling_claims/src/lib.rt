@@ -1,7 +1,7 @@
-// What document 01 says of samplings, errors and syndromes, over what callers learn. Each claim is the contract of a function with nothing to do.
+// What documents 01 and 02 say of samplings, flips, errors and syndromes, over what callers learn. Each claim is the contract of a function with nothing to do.
 ghost use Rattle.sampling_claims.specs.Lists.{ListsAscend};
 ghost use Rattle.sampling_claims.specs.Samplings.{SameMarks, TakesTwoDraws, SampledSyndrome};
-ghost use Rattle.sampling_claims.specs.Flips.{ErrorsFlip, TwiceCancels};
+ghost use Rattle.sampling_claims.specs.Flips.{FlipGives, ErrorsFlip, TwiceCancels};
 
 // Two samplings with one seed set the same erasure marks before an edge as long as the edges before it carry the same p and pe.
 pub fn same_marks()
@@ -21,6 +21,11 @@ pub fn sampled_syndrome()
 // The lists that the calls hand back ascend.
 pub fn lists_ascend()
     ensures { λ _. ⌜ ListsAscend ⌝ }
+{}
+
+// A flip gives 1 minus the byte at an inner vertex, the byte itself at a virtual one.
+pub fn flip_gives()
+    ensures { λ _. ⌜ FlipGives ⌝ }
 {}
 
 // `generate_errors` flips over standing defects.

@@ -1,22 +1,39 @@
 -- Laws of the defect flip. Assumes nothing.
 use mathlib.Core.Path.{_≡_, refl, sym, ap, _∙_}
 use mathlib.Core.List.{List, [], _∷_, _++_}
-use Prim.Native.Nat.{ℕ, zero, suc, _+_, _-_, _%_, _≤_, _<_}
+use Prim.Native.Nat.{ℕ, zero, suc, _+_, _-_, _*_, _%_, _≤_, _<_}
 use native.Mathlib.Decide.{ℕ-discrete}
 use native.Mathlib.Omega.{arith}
 use native.Mathlib.Numerals.{add-one}
 use lib.ListN.{length, getD, set, take, length-set, List·getD-append}
+use lib.Dec.{eqb}
 use lib.Seq.{take-suc, getD-set-same, getD-set-other, set-append-left}
-use Rattle.sampling_flips.specs.Flip.{flipped, flipAt, flipEdge, flipEach}
+use borrow.Author.Tests.{ne-eqb}
+use mir.Val.{boolByte}
+use Rattle.sampling_flips.specs.Flip.{innerBit, flipped, flipAt, flipEdge, flipEach}
 use Rattle.sampling_flips.specs.Steps.{Fits}
 
--- the two cases of a flip
+-- ---- the flip as arithmetic
+
+-- a comparison with the boundary byte of an inner vertex, as a number
+pub equal-bit : (n : ℕ) → boolByte (eqb n 0) ≡ innerBit n
+equal-bit zero = refl
+equal-bit (suc n) = ap boolByte (ne-eqb (suc n) 0 (λ e. omega arith))
+
+-- a vertex's boundary byte n and defect byte x, its bit i, and y, which is 1 minus x: the sum of the two products fits a byte and is the flipped byte
+pub record BySubtraction (n x i y : ℕ) : Type 0 where
+  pub bit : i ≤ 1
+  pub fits : i * y + (1 - i) * x ≤ 255
+  pub flips : i * y + (1 - i) * x ≡ flipped n x
+
+pub by-subtraction : (n x i y : ℕ) → i ≡ innerBit n → y ≡ 1 - x → x ≤ 255 → BySubtraction n x i y
+by-subtraction zero x i y e f h = rw e (record { bit = omega arith; fits = omega arith; flips = omega arith })
+by-subtraction (suc n) x i y e f h = rw e (record { bit = omega arith; fits = omega arith; flips = omega arith })
+
+-- a virtual vertex keeps its byte
 pub flipped-virtual : (n x : ℕ) → (n ≡ 0 → ⊥) → flipped n x ≡ x
 flipped-virtual zero x f = absurd (f refl)
 flipped-virtual (suc n) x f = refl
-
-pub flipped-inner : (n x : ℕ) {r : ℕ} → n ≡ 0 → r ≡ 1 - x → r ≡ flipped n x
-flipped-inner n x e f = f ∙ ap (λ (k : ℕ). flipped k x) (sym e)
 
 pub length-flipAt : (m : List ℕ) (v : ℕ) (d : List ℕ) → length (flipAt m v d) ≡ length d
 unfolding flipAt

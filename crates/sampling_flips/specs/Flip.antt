@@ -3,6 +3,11 @@ use Prim.Native.Nat.{ℕ, zero, suc, _-_}
 use mathlib.Core.List.{List, [], _∷_}
 use lib.ListN.{getD, set}
 
+-- Document 02, job 4, sentence 1: whether the vertex is inner, by its boundary byte: 1 if it is, 0 if it is virtual.
+abbrev pub innerBit : (boundary : ℕ) → ℕ
+innerBit zero = 1
+innerBit (suc n) = 0
+
 -- Sampling, syndromes, reordering, paragraph 2, sentence 1: a defect byte after a flip, by the vertex's boundary byte: an inner vertex's byte b becomes 1 - b,
 -- a virtual one keeps its byte.
 abbrev pub flipped : (boundary byte : ℕ) → ℕ

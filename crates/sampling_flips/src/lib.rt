@@ -1,22 +1,34 @@
 // The defect flip, at a vertex, at the ends of an edge, and for a list of edges.
 ghost use mathlib.Core.Path.{_≡_};
-ghost use Prim.Native.Nat.{ℕ, _<_};
+ghost use Prim.Native.Nat.{ℕ, _<_, _-_};
 ghost use lib.ListN.{length, getD};
 ghost use Rattle.columns.specs.Lists.{when};
-ghost use Rattle.sampling_flips.specs.Flip.{flipped, flipAt, flipEdge, flipEach};
+ghost use Rattle.sampling_flips.specs.Flip.{innerBit, flipped, flipAt, flipEdge, flipEach};
 ghost use Rattle.sampling_flips.specs.Steps.{Fits};
 use columns::EdgeIndex;
 use columns::INNER;
 use columns::VertexIndex;
 
-// A vertex's defect byte after a flip, by its boundary byte: every flip is this one.
+// 1 for an inner vertex, 0 for a virtual one.
+fn inner_bit(boundary: u8) -> u8
+    ensures { λ r. ⌜ r ≡ innerBit boundary ⌝ }
+{
+    (boundary == INNER) as u8
+}
+
+// 1 minus a byte, 0 where the byte is above 1.
+fn one_minus(byte: u8) -> u8
+    ensures { λ r. ⌜ r ≡ 1 - byte ⌝ }
+{
+    ((256 - byte as u32) / 256) as u8
+}
+
+// A vertex's defect byte after a flip, by its boundary byte: every flip is this one. No branch: of the two products the one that does not apply is 0.
 pub fn flip(boundary: u8, defect: u8) -> u8
     ensures { λ r. ⌜ r ≡ flipped boundary defect ⌝ }
 {
-    if boundary != INNER {
-        return defect;
-    }
-    if defect == 0 { 1 } else { 0 }
+    let inner = inner_bit(boundary);
+    inner * one_minus(defect) + (1 - inner) * defect
 }
 
 // Flips vertex v.

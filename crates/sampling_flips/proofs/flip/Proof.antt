@@ -1,19 +1,28 @@
--- `sampling_flips::flip` meets its contract: a virtual vertex keeps its byte, at an inner one 0 becomes 1 and any other byte 0. Assumes nothing.
-use mathlib.Core.Path.{sym}
-use Prim.Native.Nat.{ℕ, zero, suc, _-_}
+-- `sampling_flips::flip` meets its contract: one of the two products is 0, the other the flipped byte. Assumes nothing.
+use Prim.Native.Nat.{ℕ, _+_, _-_, _*_, _≤_, _<_}
 use native.Mathlib.Omega.{arith}
-use Rattle.sampling_flips.proofs.Flipping.{flipped-virtual, flipped-inner}
+use Rattle.sampling_flips.proofs.Flipping.{BySubtraction, by-subtraction}
 use Rattle.sampling_flips.proofs.flip.Statement.{statement}
 use Rattle.sampling_flips.proofs.flip.Tie as tie
 
+-- the law at the bytes of the call
+law : (c : tie.After-one-minus) → BySubtraction (c .before .before .args .boundary) (c .before .before .args .defect) (c .before .inner-bit .result) (c .one-minus .result)
+law c = by-subtraction _ _ _ _ (c .before .inner-bit .ensures) (c .one-minus .ensures) (omega arith)
+
+mul-result : tie.Need-mul-result
+mul-result c = record { fits = omega (arith, law c .fits) }
+
+sub-result : tie.Need-sub-result
+sub-result c = law c .bit
+
+mul-result-2 : tie.Need-mul-result-2
+mul-result-2 c = record { fits = omega (arith, law c .fits) }
+
+add-result : tie.Need-add-result
+add-result c = record { fits = omega (arith, law c .fits) }
+
 returns : tie.Need-returns
-returns c = sym (flipped-virtual (c .before .args .boundary) (c .before .args .defect) (c .if1 .taken))
-
-returns-2 : tie.Need-returns-2
-returns-2 c = flipped-inner (c .before .before .args .boundary) (c .before .before .args .defect) (c .before .if1 .left) (omega arith)
-
-returns-3 : tie.Need-returns-3
-returns-3 c = flipped-inner (c .before .before .args .boundary) (c .before .before .args .defect) (c .before .if1 .left) (omega arith)
+returns c = law c .flips
 
 pub flip-spec : {M : Type 1} → statement M
-flip-spec = tie.close (tie.spec returns returns-2 returns-3)
+flip-spec = tie.close (tie.spec (λ c κs. tt) (λ c κs. tt) mul-result sub-result mul-result-2 add-result returns)

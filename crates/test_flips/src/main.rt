@@ -1,0 +1,93 @@
+// Prints the flip of every byte at an inner, a left and a right vertex, then what errors do on the smallest graph: an inner vertex joined to a virtual one.
+// What it prints is compared with the file stdout.
+use sampling_calls::ListCount;
+use sampling_calls::SyndromeCounts;
+use sampling_flips::flip;
+use test_numbers::end_line;
+use test_numbers::show;
+use test_numbers::show_bytes;
+use test_numbers::show_list;
+
+fn show_flip(boundary: u8, byte: u8) {
+    show(flip(boundary, byte) as u64);
+}
+
+// The flip of each byte from 0 to 255.
+fn flips(boundary: u8) {
+    let mut byte: u32 = 0;
+    while byte < 256 {
+        show_flip(boundary, byte as u8);
+        byte += 1;
+    }
+    end_line();
+}
+
+// Errors over two standing defect bytes, the second at the virtual vertex: the counts, or the number of a refusal and 100; the bytes; the list.
+fn errors(boundary: u8, list: &[u32], at_inner: u8, at_virtual: u8) {
+    let mut defect = [at_inner, at_virtual];
+    let mut defect_list = [7u32; 2];
+    let mut erasure_list = [7u32; 1];
+    let answer = sampling_calls::generate_errors(
+        2,
+        1,
+        &[0],
+        &[1],
+        &[0, boundary],
+        list,
+        &mut defect,
+        &[0],
+        &mut defect_list,
+        &mut erasure_list,
+    );
+    match answer {
+        SyndromeCounts::Counts { defects, erasures } => {
+            show(defects as u64);
+            show(erasures as u64);
+        }
+        SyndromeCounts::Refused(number) => show(number as u64 + 100),
+    }
+    end_line();
+    show_bytes(&defect, 2);
+    show_list(&defect_list, 2);
+}
+
+// The syndrome of listed edges: the count, or the number of a refusal and 100; the list.
+fn syndrome(boundary: u8, list: &[u32]) {
+    let mut defect_list = [7u32; 2];
+    let answer = sampling_calls::syndrome_of(
+        2,
+        1,
+        &[0],
+        &[1],
+        &[0, boundary],
+        list,
+        &mut defect_list,
+    );
+    match answer {
+        ListCount::Count(n) => show(n as u64),
+        ListCount::Refused(number) => show(number as u64 + 100),
+    }
+    end_line();
+    show_list(&defect_list, 2);
+}
+
+// An edge named once and twice, over each standing byte.
+fn smallest(boundary: u8) {
+    let once = [0u32];
+    let twice = [0u32, 0];
+    errors(boundary, &once, 0, 0);
+    errors(boundary, &twice, 0, 0);
+    errors(boundary, &once, 1, 0);
+    errors(boundary, &once, 0, 1);
+    errors(boundary, &once, 2, 0);
+    syndrome(boundary, &once);
+    syndrome(boundary, &twice);
+}
+
+fn main() {
+    flips(0);
+    flips(1);
+    flips(2);
+    smallest(1);
+    smallest(2);
+}

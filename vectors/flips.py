@@ -1,0 +1,42 @@
+#!/usr/bin/env python3
+"""Prints what the program test_flips must print: each byte flipped, then errors on an inner vertex (0) joined to a virtual one (1) by edge 0."""
+
+
+def show(xs):
+    print(''.join(f'{x} ' for x in xs))
+
+
+def listing(defects):
+    show(defects + [7] * (2 - len(defects)))
+
+
+def errors(times, inner, virtual):
+    if max(inner, virtual) > 1:
+        show([107])
+        show([inner, virtual])
+        listing([7, 7])
+        return
+    inner = (inner + times) % 2
+    defects = [v for v, byte in ((0, inner), (1, virtual)) if byte]
+    show([len(defects), 0])
+    show([inner, virtual])
+    listing(defects)
+
+
+def syndrome(times):
+    defects = [0] if times % 2 else []
+    show([len(defects)])
+    listing(defects)
+
+
+show([1] + [0] * 255)
+show(range(256))
+show(range(256))
+for boundary in (1, 2):
+    errors(1, 0, 0)
+    errors(2, 0, 0)
+    errors(1, 1, 0)
+    errors(1, 0, 1)
+    errors(1, 2, 0)
+    syndrome(1)
+    syndrome(2)

@@ -1,5 +1,6 @@
 #!/usr/bin/env python3
-"""Prints what the program test_flips must print: each byte flipped, then errors on an inner vertex (0) joined to a virtual one (1) by edge 0."""
+"""Prints what the program test_flips must print: each byte flipped at an inner, a left and a right vertex, then errors on an inner vertex (0) joined by edge 0 to a
+virtual one (1), left and then right."""
 
 
 def show(xs):
@@ -32,11 +33,13 @@ def syndrome(times):
 show([1] + [0] * 255)
 show(range(256))
 show(range(256))
-for boundary in (1, 2):
+for _ in ('left', 'right'):
     errors(1, 0, 0)
     errors(2, 0, 0)
     errors(1, 1, 0)
     errors(1, 0, 1)
+    errors(1, 1, 1)
+    errors(2, 1, 1)
     errors(1, 2, 0)
     syndrome(1)
     syndrome(2)

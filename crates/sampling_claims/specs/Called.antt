@@ -37,7 +37,7 @@ pub data DrawsReturned : DeterministicRng → List Float → Type 0 where
   draw-then : {values : List Float} (κs : Lfts 0) (a : Dens κs draw-kinds.ps) (r : Drawn) (s : AtExit (endedOf 0 draw-kinds.ps draw-kinds.r) κs) → draw-reads.Learnt κs a r s
       → DrawsReturned (r .rng) values → DrawsReturned (a .0) (r .value ∷ values)
 
--- Document 02, job 4, sentence 1: a `flip` that returned: the vertex's boundary byte and defect byte, and the defect byte that the flip gave.
+-- Document 02, job 4, sentence 2: a `flip` that returned: the vertex's boundary byte and defect byte, and the defect byte that the flip gave.
 pub data FlipReturned : (boundary byte result : ℕ) → Type 0 where
   flip-returned : (κs : Lfts 0) (a : Dens κs flip-kinds.ps) (r : ℕ) (s : AtExit (endedOf 0 flip-kinds.ps flip-kinds.r) κs) → flip-reads.Learnt κs a r s → FlipReturned (a .0) (a .1 .0) r
 

@@ -11,8 +11,8 @@ use Rattle.sampling_calls.specs.Records.{SyndromeColumns}
 use Rattle.sampling_calls.specs.Syndrome.{endsIn}
 use Rattle.sampling_claims.specs.Called.{FlipReturned, ErrorsReturned, SyndromeReturned}
 
--- Document 02, job 4, sentence 2: for the defect bytes 0 and 1 a flip gives 1 minus the byte at an inner vertex and the byte itself at a virtual one. For any bytes there
--- is such a flip.
+-- Document 02, job 4, sentence 2: for the defect bytes 0 and 1 a flip gives 1 minus the byte at an inner vertex and the byte itself at a virtual one. For all bytes there is
+-- a result that the contract of `flip` permits.
 pub record FlipGives : Type 0 where
   pub returns : (boundary byte : ℕ) → (result : ℕ) × FlipReturned boundary byte result
   pub at-inner : (boundary byte result : ℕ) → FlipReturned boundary byte result → byte ≤ 1 → boundary ≡ inner → result ≡ 1 - byte

@@ -23,7 +23,7 @@ pub fn lists_ascend()
     ensures { λ _. ⌜ ListsAscend ⌝ }
 {}
 
-// A flip gives 1 minus the byte at an inner vertex, the byte itself at a virtual one.
+// For bytes 0 and 1 a flip gives 1 minus the byte at an inner vertex, the byte itself at a virtual one.
 pub fn flip_gives()
     ensures { λ _. ⌜ FlipGives ⌝ }
 {}

@@ -20,15 +20,20 @@ pub equal-bit : (n : ℕ) → boolByte (eqb n 0) ≡ innerBit n
 equal-bit zero = refl
 equal-bit (suc n) = ap boolByte (ne-eqb (suc n) 0 (λ e. omega arith))
 
--- a vertex's boundary byte n and defect byte x, its bit i, and y, which is 1 minus x: the sum of the two products fits a byte and is the flipped byte
-pub record BySubtraction (n x i y : ℕ) : Type 0 where
-  pub bit : i ≤ 1
-  pub fits : i * y + (1 - i) * x ≤ 255
-  pub flips : i * y + (1 - i) * x ≡ flipped n x
+pub bit-within : (n : ℕ) → innerBit n ≤ 1
+bit-within zero = omega arith
+bit-within (suc n) = omega arith
 
-pub by-subtraction : (n x i y : ℕ) → i ≡ innerBit n → y ≡ 1 - x → x ≤ 255 → BySubtraction n x i y
-by-subtraction zero x i y e f h = rw e (record { bit = omega arith; fits = omega arith; flips = omega arith })
-by-subtraction (suc n) x i y e f h = rw e (record { bit = omega arith; fits = omega arith; flips = omega arith })
+-- of two bytes the one that a bit chooses, as a sum of products, fits a byte
+pub chosen-fits : (i y x : ℕ) → i ≤ 1 → y ≤ 255 → x ≤ 255 → i * y + (1 - i) * x ≤ 255
+chosen-fits zero y x h g f = omega arith
+chosen-fits (suc zero) y x h g f = omega arith
+chosen-fits (suc (suc i)) y x h g f = absurd (omega (arith, h))
+
+-- a vertex's boundary byte n and defect byte x, its bit i, and y, which is 1 minus x: the sum is the flipped byte
+pub by-subtraction : (n x i y : ℕ) → i ≡ innerBit n → y ≡ 1 - x → i * y + (1 - i) * x ≡ flipped n x
+by-subtraction zero x i y e f = rw e (omega arith)
+by-subtraction (suc n) x i y e f = rw e (omega arith)
 
 -- a virtual vertex keeps its byte
 pub flipped-virtual : (n x : ℕ) → (n ≡ 0 → ⊥) → flipped n x ≡ x

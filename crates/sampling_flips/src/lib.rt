@@ -23,7 +23,7 @@ fn one_minus(byte: u8) -> u8
     ((256 - byte as u32) / 256) as u8
 }
 
-// A vertex's defect byte after a flip, by its boundary byte: every flip is this one. No branch: of the two products the one that does not apply is 0.
+// A vertex's defect byte after a flip, by its boundary byte: every flip is this one. The second product is 0 at an inner vertex, the first at a virtual one.
 pub fn flip(boundary: u8, defect: u8) -> u8
     ensures { λ r. ⌜ r ≡ flipped boundary defect ⌝ }
 {

@@ -8,6 +8,7 @@ use test_numbers::show;
 use test_numbers::show_bytes;
 use test_numbers::show_list;
 
+// One flip.
 fn show_flip(boundary: u8, byte: u8) {
     show(flip(boundary, byte) as u64);
 }
@@ -71,7 +72,7 @@ fn syndrome(boundary: u8, list: &[u32]) {
     show_list(&defect_list, 2);
 }
 
-// An edge named once and twice, over each standing byte.
+// An edge named once and twice over standing bytes; a byte of 2 is refused.
 fn smallest(boundary: u8) {
     let once = [0u32];
     let twice = [0u32, 0];
@@ -79,6 +80,8 @@ fn smallest(boundary: u8) {
     errors(boundary, &twice, 0, 0);
     errors(boundary, &once, 1, 0);
     errors(boundary, &once, 0, 1);
+    errors(boundary, &once, 1, 1);
+    errors(boundary, &twice, 1, 1);
     errors(boundary, &once, 2, 0);
     syndrome(boundary, &once);
     syndrome(boundary, &twice);

@@ -1,28 +1,32 @@
 -- `sampling_flips::flip` meets its contract: one of the two products is 0, the other the flipped byte. Assumes nothing.
 use Prim.Native.Nat.{ℕ, _+_, _-_, _*_, _≤_, _<_}
 use native.Mathlib.Omega.{arith}
-use Rattle.sampling_flips.proofs.Flipping.{BySubtraction, by-subtraction}
+use Rattle.sampling_flips.proofs.Flipping.{bit-within, chosen-fits, by-subtraction}
 use Rattle.sampling_flips.proofs.flip.Statement.{statement}
 use Rattle.sampling_flips.proofs.flip.Tie as tie
 
--- the law at the bytes of the call
-law : (c : tie.After-one-minus) → BySubtraction (c .before .before .args .boundary) (c .before .before .args .defect) (c .before .inner-bit .result) (c .one-minus .result)
-law c = by-subtraction _ _ _ _ (c .before .inner-bit .ensures) (c .one-minus .ensures) (omega arith)
+-- the vertex's bit
+bit : (c : tie.After-inner-bit) → c .inner-bit .result ≤ 1
+bit c = omega (arith, c .inner-bit .ensures, bit-within (c .before .args .boundary))
+
+-- both products and their sum
+fit : (c : tie.After-one-minus) → c .before .inner-bit .result * c .one-minus .result + (1 - c .before .inner-bit .result) * c .before .before .args .defect ≤ 255
+fit c = chosen-fits _ _ _ (bit (c .before)) (omega (arith, c .one-minus .ensures)) (omega arith)
 
 mul-result : tie.Need-mul-result
-mul-result c = record { fits = omega (arith, law c .fits) }
+mul-result c = record { fits = omega (arith, fit c) }
 
 sub-result : tie.Need-sub-result
-sub-result c = law c .bit
+sub-result c = bit (c .before)
 
 mul-result-2 : tie.Need-mul-result-2
-mul-result-2 c = record { fits = omega (arith, law c .fits) }
+mul-result-2 c = record { fits = omega (arith, fit c) }
 
 add-result : tie.Need-add-result
-add-result c = record { fits = omega (arith, law c .fits) }
+add-result c = record { fits = omega (arith, fit c) }
 
 returns : tie.Need-returns
-returns c = law c .flips
+returns c = by-subtraction (c .before .before .args .boundary) (c .before .before .args .defect) _ _ (c .before .inner-bit .ensures) (c .one-minus .ensures)
 
 pub flip-spec : {M : Type 1} → statement M
 flip-spec = tie.close (tie.spec (λ c κs. tt) (λ c κs. tt) mul-result sub-result mul-result-2 add-result returns)

@@ -1,6 +1,6 @@
 #!/usr/bin/env python3
-"""Prints what the program test_flips must print: each byte flipped at an inner, a left and a right vertex, then errors on an inner vertex (0) joined by edge 0 to a
-virtual one (1), left and then right."""
+"""Prints what the program test_flips must print: each byte flipped at an inner, a left and a right vertex, then errors and syndromes on an inner vertex (0) joined by
+edge 0 to a virtual one (1), left and then right."""
 
 
 def show(xs):

@@ -13,17 +13,13 @@ use Rattle.columns_answers.specs.declared.ListCount.the-variants.{Count}
 use Rattle.columns_answers.proofs.Said.{zero-of, values-of}
 use Rattle.columns_room.specs.Graph.{CodeGraph}
 use Rattle.columns_marks.specs.Marks.{listed}
-use Rattle.sampling_flips.specs.Flip.{flipped}
 use Rattle.sampling_calls.specs.Records.{SyndromeColumns}
 use Rattle.sampling_calls.specs.Errors.{SyndromeAfter, GeneratedErrors}
 use Rattle.sampling_calls.specs.Sampling.{GeneratedRandomErrors}
 use Rattle.sampling_calls.specs.Syndrome.{syndromeOf, syndromeRefusal, FoundSyndrome}
-use Rattle.sampling_claims.specs.Called.{FlipReturned, flip-returned, SamplingReturned, sampling-returned, ErrorsReturned, errors-returned, SyndromeReturned, syndrome-returned}
+use Rattle.sampling_claims.specs.Called.{SamplingReturned, sampling-returned, ErrorsReturned, errors-returned, SyndromeReturned, syndrome-returned}
 
 -- ---- the calls' own promises
-
-pub flip-promise : {boundary byte r : ℕ} → FlipReturned boundary byte r → r ≡ flipped boundary byte
-flip-promise (flip-returned κs a r s h) = h
 
 pub sampling-promise : {seed : ℕ} {g : CodeGraph} {p pe : List Float} {s₀ : SyndromeColumns} {r : SyndromeCounts} {s : SyndromeColumns} → SamplingReturned seed g p pe s₀ r s
     → GeneratedRandomErrors seed g p pe s₀ r s

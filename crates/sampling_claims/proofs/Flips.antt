@@ -17,11 +17,14 @@ use Rattle.sampling_flips.proofs.Flipping.{flipped-virtual, length-flipEach, fl
 use Rattle.sampling_calls.specs.Syndrome.{endsIn, isDefectOf, syndromeOf}
 use Rattle.sampling_calls.proofs.Inner.{flipEach-inner}
 use Rattle.sampling_calls.proofs.Accepting.{errors-met}
-use Rattle.sampling_claims.specs.Called.{flip-returned}
+use Rattle.sampling_claims.specs.Called.{FlipReturned, flip-returned}
 use Rattle.sampling_claims.specs.Flips.{FlipGives, ErrorsFlip, TwiceCancels}
-use Rattle.sampling_claims.proofs.Accepted.{flip-promise, errors-promise, syndrome-promise, door, defect-over, how-many, syndrome-over}
+use Rattle.sampling_claims.proofs.Accepted.{errors-promise, syndrome-promise, door, defect-over, how-many, syndrome-over}
 
 -- ---- flip
+
+flip-promise : {boundary byte result : ℕ} → FlipReturned boundary byte result → result ≡ flipped boundary byte
+flip-promise (flip-returned κs a r s h) = h
 
 pub flip-gives : FlipGives
 flip-gives = record {

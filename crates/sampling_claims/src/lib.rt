@@ -1,4 +1,4 @@
-// What documents 01 and 02 say of samplings, flips, errors and syndromes, over what callers learn. Each claim is the contract of a function with nothing to do.
+// What document 01 says of samplings, errors and syndromes, and document 02, job 4, of flips, over what callers learn. Each claim is the contract of a function with nothing to do.
 ghost use Rattle.sampling_claims.specs.Lists.{ListsAscend};
 ghost use Rattle.sampling_claims.specs.Samplings.{SameMarks, TakesTwoDraws, SampledSyndrome};
 ghost use Rattle.sampling_claims.specs.Flips.{FlipGives, ErrorsFlip, TwiceCancels};

@@ -1,7 +1,7 @@
 -- Laws of the defect flip. Assumes nothing.
 use mathlib.Core.Path.{_≡_, refl, sym, ap, _∙_}
 use mathlib.Core.List.{List, [], _∷_, _++_}
-use Prim.Native.Nat.{ℕ, zero, suc, _+_, _-_, _*_, _%_, _≤_, _<_}
+use Prim.Native.Nat.{ℕ, zero, suc, _+_, _-_, _*_, _≤_, _<_}
 use native.Mathlib.Decide.{ℕ-discrete}
 use native.Mathlib.Omega.{arith}
 use native.Mathlib.Numerals.{add-one}
@@ -24,8 +24,13 @@ pub bit-within : (n : ℕ) → innerBit n ≤ 1
 bit-within zero = omega arith
 bit-within (suc n) = omega arith
 
--- of two bytes the one that a bit chooses, as a sum of products, fits a byte
-pub chosen-fits : (i y x : ℕ) → i ≤ 1 → y ≤ 255 → x ≤ 255 → i * y + (1 - i) * x ≤ 255
+-- a bit times a byte is a byte, and so is the byte that a bit chooses of two, as a sum of products
+pub times-fits : (i x : ℕ) → i ≤ 1 → x < 256 → i * x < 256
+times-fits zero x h g = omega arith
+times-fits (suc zero) x h g = omega arith
+times-fits (suc (suc i)) x h g = absurd (omega (arith, h))
+
+pub chosen-fits : (i y x : ℕ) → i ≤ 1 → y < 256 → x < 256 → i * y + (1 - i) * x < 256
 chosen-fits zero y x h g f = omega arith
 chosen-fits (suc zero) y x h g f = omega arith
 chosen-fits (suc (suc i)) y x h g f = absurd (omega (arith, h))
@@ -35,7 +40,8 @@ pub by-subtraction : (n x i y : ℕ) → i ≡ innerBit n → y ≡ 1 - x → i 
 by-subtraction zero x i y e f = rw e (omega arith)
 by-subtraction (suc n) x i y e f = rw e (omega arith)
 
--- a virtual vertex keeps its byte
+-- ---- what a flip keeps
+
 pub flipped-virtual : (n x : ℕ) → (n ≡ 0 → ⊥) → flipped n x ≡ x
 flipped-virtual zero x f = absurd (f refl)
 flipped-virtual (suc n) x f = refl

@@ -1,4 +1,4 @@
-// Prints the flip of every byte at an inner, a left and a right vertex, then what errors do on the smallest graph: an inner vertex joined to a virtual one.
+// Prints the flip of every byte at an inner, a left and a right vertex, then errors and syndromes on the smallest graph: an inner vertex joined to a virtual one.
 // What it prints is compared with the file stdout.
 use sampling_calls::ListCount;
 use sampling_calls::SyndromeCounts;
@@ -23,7 +23,7 @@ fn flips(boundary: u8) {
     end_line();
 }
 
-// Errors over two standing defect bytes, the second at the virtual vertex: the counts, or the number of a refusal and 100; the bytes; the list.
+// Errors over two standing defect bytes, the second at the virtual vertex: the counts, or the number of a refusal plus 100; the bytes; the list.
 fn errors(boundary: u8, list: &[u32], at_inner: u8, at_virtual: u8) {
     let mut defect = [at_inner, at_virtual];
     let mut defect_list = [7u32; 2];
@@ -52,7 +52,7 @@ fn errors(boundary: u8, list: &[u32], at_inner: u8, at_virtual: u8) {
     show_list(&defect_list, 2);
 }
 
-// The syndrome of listed edges: the count, or the number of a refusal and 100; the list.
+// The syndrome of listed edges: the count, or the number of a refusal plus 100; the list.
 fn syndrome(boundary: u8, list: &[u32]) {
     let mut defect_list = [7u32; 2];
     let answer = sampling_calls::syndrome_of(

@@ -1,6 +1,6 @@
 -- `test_flips::flips` meets its contract. Invariant: the byte is at most 256. Assumes nothing.
 use borrow.Author.Needs.{needs}
-use Prim.Native.Nat.{_≤_, _<_, _-_, _+_}
+use Prim.Native.Nat.{_≤_, _-_}
 use Rattle.test_flips.proofs.flips.Statement.{statement}
 use Rattle.test_flips.proofs.flips.Tie as tie
 

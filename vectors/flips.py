@@ -13,13 +13,13 @@ def listing(defects):
 
 def errors(times, inner, virtual):
     if max(inner, virtual) > 1:
-        show([107])
+        show([7])
         show([inner, virtual])
         listing([7, 7])
         return
     inner = (inner + times) % 2
     defects = [v for v, byte in ((0, inner), (1, virtual)) if byte]
-    show([len(defects), 0])
+    show([0, len(defects), 0])
     show([inner, virtual])
     listing(defects)
 

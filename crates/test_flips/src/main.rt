@@ -1,11 +1,11 @@
 // Prints the flip of every byte at an inner, a left and a right vertex, then errors and syndromes on the smallest graph: an inner vertex joined to a virtual one.
 // What it prints is compared with the file stdout.
-use sampling_calls::ListCount;
-use sampling_calls::SyndromeCounts;
 use sampling_flips::flip;
 use test_numbers::end_line;
 use test_numbers::show;
 use test_numbers::show_bytes;
+use test_numbers::show_count;
+use test_numbers::show_counts;
 use test_numbers::show_list;
 
 // One flip.
@@ -23,12 +23,12 @@ fn flips(boundary: u8) {
     end_line();
 }
 
-// Errors over two standing defect bytes, the second at the virtual vertex: the counts, or the number of a refusal plus 100; the bytes; the list.
+// Errors over two standing defect bytes, the second at the virtual vertex: the answer, the bytes, the list.
 fn errors(boundary: u8, list: &[u32], at_inner: u8, at_virtual: u8) {
     let mut defect = [at_inner, at_virtual];
     let mut defect_list = [7u32; 2];
     let mut erasure_list = [7u32; 1];
-    let answer = sampling_calls::generate_errors(
+    show_counts(sampling_calls::generate_errors(
         2,
         1,
         &[0],
@@ -39,23 +39,15 @@ fn errors(boundary: u8, list: &[u32], at_inner: u8, at_virtual: u8) {
         &[0],
         &mut defect_list,
         &mut erasure_list,
-    );
-    match answer {
-        SyndromeCounts::Counts { defects, erasures } => {
-            show(defects as u64);
-            show(erasures as u64);
-        }
-        SyndromeCounts::Refused(number) => show(number as u64 + 100),
-    }
-    end_line();
+    ));
     show_bytes(&defect, 2);
     show_list(&defect_list, 2);
 }
 
-// The syndrome of listed edges: the count, or the number of a refusal plus 100; the list.
+// The syndrome of listed edges: the answer, the list.
 fn syndrome(boundary: u8, list: &[u32]) {
     let mut defect_list = [7u32; 2];
-    let answer = sampling_calls::syndrome_of(
+    show_count(sampling_calls::syndrome_of(
         2,
         1,
         &[0],
@@ -63,12 +55,7 @@ fn syndrome(boundary: u8, list: &[u32]) {
         &[0, boundary],
         list,
         &mut defect_list,
-    );
-    match answer {
-        ListCount::Count(n) => show(n as u64),
-        ListCount::Refused(number) => show(number as u64 + 100),
-    }
-    end_line();
+    ));
     show_list(&defect_list, 2);
 }
 

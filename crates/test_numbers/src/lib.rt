@@ -2,6 +2,8 @@
 use columns::Done;
 use columns::TableWeight;
 use columns::questions::lesser;
+use columns_answers::ListCount;
+use columns_answers::SyndromeCounts;
 use libc::STDIN_FILENO;
 use libc::STDOUT_FILENO;
 
@@ -188,6 +190,28 @@ pub fn show_line(n: u64) {
 
 pub fn show_done(answer: Done) {
     show(wide(number_of(answer)));
+    end_line();
+}
+
+// How many numbers a call listed, or the number of a refusal plus 100.
+pub fn show_count(answer: ListCount) {
+    match answer {
+        ListCount::Count(n) => show(n as u64),
+        ListCount::Refused(number) => show(number as u64 + 100),
+    }
+    end_line();
+}
+
+// 0 and how many defects and erasures a call listed, or the number of a refusal.
+pub fn show_counts(answer: SyndromeCounts) {
+    match answer {
+        SyndromeCounts::Counts { defects, erasures } => {
+            show(0);
+            show(defects as u64);
+            show(erasures as u64);
+        }
+        SyndromeCounts::Refused(number) => show(number as u64),
+    }
     end_line();
 }
 

@@ -1,11 +1,12 @@
 // Samples the rotated code of distance 3 from fixed seeds, then generates errors, finds a syndrome, clears and reorders.
 // What it prints is compared with the file stdout.
 use reorder_calls::TranslatedAnswer;
-use sampling_calls::ListCount;
 use sampling_calls::SyndromeCounts;
 use test_numbers::end_line;
 use test_numbers::show;
 use test_numbers::show_bytes;
+use test_numbers::show_count;
+use test_numbers::show_counts;
 use test_numbers::show_done;
 use test_numbers::show_list;
 
@@ -21,15 +22,7 @@ fn show_syndrome(
     defect_list: [u32; 9],
     erasure_list: [u32; 10],
 ) {
-    match answer {
-        SyndromeCounts::Counts { defects, erasures } => {
-            show(0);
-            show(defects as u64);
-            show(erasures as u64);
-        }
-        SyndromeCounts::Refused(number) => show(number as u64),
-    }
-    end_line();
+    show_counts(answer);
     show_bytes(&defect, 9);
     show_bytes(&erasure, 10);
     show_list(&defect_list, 9);
@@ -93,7 +86,7 @@ fn syndrome(list: &[u32]) {
     let ends_b = [2u32, 3, 3, 4, 4, 5, 6, 7, 7];
     let boundary = [0u8, 2, 1, 0, 0, 2, 1, 0];
     let mut defect_list = [7u32; 9];
-    let answer = sampling_calls::syndrome_of(
+    show_count(sampling_calls::syndrome_of(
         VERTEX_NUM,
         EDGE_NUM,
         &ends_a,
@@ -101,12 +94,7 @@ fn syndrome(list: &[u32]) {
         &boundary,
         list,
         &mut defect_list,
-    );
-    match answer {
-        ListCount::Count(n) => show(n as u64),
-        ListCount::Refused(number) => show(number as u64 + 100),
-    }
-    end_line();
+    ));
     show_list(&defect_list, 9);
 }
 

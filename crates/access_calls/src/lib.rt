@@ -1,4 +1,6 @@
 // Getters and setters of a code's columns, and its vertex columns filled in from the edges.
+#![tactic(auto)]
+
 pub mod fill;
 
 ghost use Rattle.std.specs.Prelude.{◌≡◌};

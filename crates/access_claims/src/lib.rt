@@ -1,4 +1,6 @@
 // What is claimed of getters and setters. Each claim is the contract of a function with nothing to do.
+#![tactic(auto)]
+
 ghost use Rattle.access_claims.specs.Lists.{GetterLists};
 ghost use Rattle.access_claims.specs.SetThenGet.{SetThenGet};
 

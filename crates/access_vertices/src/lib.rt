@@ -1,4 +1,6 @@
 // Whether a vertex is virtual, or a defect; the positions of vertices, and the weights of edges.
+#![tactic(auto)]
+
 pub mod positions;
 pub mod weights;
 
@@ -10,7 +12,7 @@ use columns::questions::{asked, at_most, both, boundaries_sound, marks_sound, ve
 use columns_marks::is_set;
 
 // What a call answers that is asked about one vertex.
-#[derive(Drop)]
+#[derive(Clone, Copy)]
 pub enum Truth {
     Is(bool),
     Refused(u32),

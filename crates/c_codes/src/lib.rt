@@ -1,4 +1,6 @@
 // For C and Rust: slices as pointer and length, answers as structs of numbers.
+#![tactic(auto)]
+
 mod access;
 mod codes;
 mod counts;

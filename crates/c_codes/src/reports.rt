@@ -9,21 +9,21 @@ use sanity_calls::Verdict;
 use weights_calls::WeightOfP;
 
 #[repr(C)]
-#[derive(Drop)]
+#[derive(Clone, Copy)]
 pub struct WeighedReport {
     pub number: u32,
     pub weight: f64,
 }
 
 #[repr(C)]
-#[derive(Drop)]
+#[derive(Clone, Copy)]
 pub struct TruthReport {
     pub number: u32,
     pub value: bool,
 }
 
 #[repr(C)]
-#[derive(Drop)]
+#[derive(Clone, Copy)]
 pub struct VerdictReport {
     pub number: u32,
     pub verdict: u32,

@@ -6,7 +6,7 @@ use prebuilt_calls::nearest::BoundaryAnswer;
 
 // `found` is 1 where there is a virtual vertex, 0 where there is none.
 #[repr(C)]
-#[derive(Drop)]
+#[derive(Clone, Copy)]
 pub struct BoundaryReport {
     pub number: u32,
     pub found: u32,

@@ -7,7 +7,7 @@ use engine_columns::EngineAnswer;
 use query_tables::End;
 
 #[repr(C)]
-#[derive(Drop)]
+#[derive(Clone, Copy)]
 pub struct EngineReport {
     pub number: u32,
     pub vertices: u32,

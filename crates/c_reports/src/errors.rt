@@ -4,7 +4,7 @@ ghost use Rattle.c_reports.specs.Errors.{ReportsTranslated};
 use reorder_calls::TranslatedAnswer;
 
 #[repr(C)]
-#[derive(Drop)]
+#[derive(Clone, Copy)]
 pub struct LongCount {
     pub number: u32,
     pub count: usize,

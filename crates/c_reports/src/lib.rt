@@ -1,4 +1,6 @@
 // Answers as numbers and structs of numbers, for C.
+#![tactic(auto)]
+
 pub mod engine;
 pub mod errors;
 
@@ -9,7 +11,7 @@ use columns_answers::{ListCount, SyndromeCounts};
 
 // A question's number, 0 where the call was accepted, and a count, 0 where it was refused.
 #[repr(C)]
-#[derive(Drop)]
+#[derive(Clone, Copy)]
 pub struct OneCount {
     pub number: u32,
     pub count: u32,
@@ -17,7 +19,7 @@ pub struct OneCount {
 
 // The same with two counts.
 #[repr(C)]
-#[derive(Drop)]
+#[derive(Clone, Copy)]
 pub struct TwoCounts {
     pub number: u32,
     pub first: u32,

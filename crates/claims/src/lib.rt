@@ -1,4 +1,6 @@
 // What is claimed of several sections together. Each claim is the contract of a function with nothing to do.
+#![tactic(auto)]
+
 ghost use Rattle.claims.specs.Demand3.{Demand3};
 ghost use Rattle.claims.specs.Met.{ColumnsInRange};
 ghost use Rattle.claims.specs.Queries.{AllEdgesIsLeast, GetPathIsLeast, CrossingCallIsLeast};

@@ -1,4 +1,6 @@
 // Document 01's checked examples and its listing. Each claim is the contract of a function with nothing to do.
+#![tactic(auto)]
+
 ghost use Rattle.claims_examples.specs.Starred.{StarredExamples};
 ghost use Rattle.claims_examples.specs.Listing.{ListingPrinted};
 

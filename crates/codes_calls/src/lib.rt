@@ -1,4 +1,6 @@
 // The calls that build codes.
+#![tactic(auto)]
+
 pub mod create;
 pub mod weighted;
 
@@ -9,7 +11,7 @@ pub use create::create_code;
 pub use weighted::{new, new_diagonal};
 
 // The counts of vertices and edges of a built code, or the number of the question that was answered no.
-#[derive(Drop)]
+#[derive(Clone, Copy)]
 pub enum Created {
     Code(u32, u32),
     Refused(u32),

@@ -41,7 +41,7 @@ fn edge_count(kind: u32, d: u32, rounds: u32) -> usize
 }
 
 // The lengths of the columns lent for a code: the shortest vertex column, the shortest edge column, the neighbour numbers.
-#[derive(Drop)]
+#[derive(Clone, Copy)]
 struct CodeRoom {
     vertices: usize,
     edges: usize,

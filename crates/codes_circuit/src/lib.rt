@@ -1,4 +1,6 @@
 // Kind 4: the edges between layers.
+#![tactic(auto)]
+
 ghost use Rattle.std.specs.Prelude.{◌+◌, ◌*◌, ◌≤◌, ◌<◌};
 ghost use Rattle.codes_writers.specs.Steps.{Room, Wrote};
 ghost use Rattle.codes_circuit.specs.Circuit.{circuit_cell, circuit_row, circuit_gap};

@@ -1,4 +1,6 @@
 // The edges of a code.
+#![tactic(auto)]
+
 ghost use Rattle.std.specs.Prelude.{◌≡◌, ◌+◌, ◌*◌, ◌≤◌};
 ghost use Rattle.codes_writers.specs.Steps.{Room, Wrote};
 ghost use Rattle.codes_layers.specs.Codes.{layer_size, layer_edges, gap_edges, edges_of};

@@ -1,4 +1,6 @@
 // Kinds 1, 2 and 3, and the vertices and the edges within a layer of kind 4: rows of d + 1 places.
+#![tactic(auto)]
+
 ghost use Rattle.std.specs.Prelude.{◌≡◌, cond, ◌+◌, ◌-◌, ◌*◌, ◌≤◌, ◌<◌, ltb};
 ghost use Rattle.codes_writers.specs.Steps.{Room, Wrote};
 ghost use Rattle.codes_planar.specs.Planar.{planar_size, row_edges, planar_row, planar_layer, planar_boundary, planar_across, capacity_vertex, layer_vertex};

@@ -1,4 +1,6 @@
 // Questions 2 to 5 of document 01, and the calls that count the vertices and edges of a code.
+#![tactic(auto)]
+
 ghost use Rattle.std.specs.Prelude.{◌≡◌, ◌≤◌};
 ghost use Rattle.codes_layers.specs.Accepts.{kind_known, distance_sound, rounds_sound, code_refusal};
 ghost use Rattle.codes_questions.specs.Answers.{CountsVertices, CountsEdges, distance_within, rounds_within};
@@ -7,7 +9,7 @@ use columns::VERTEX_LIMIT;
 use columns::questions::{asked, both};
 
 // A count, or the number of the question that was answered no.
-#[derive(Drop)]
+#[derive(Clone, Copy)]
 pub enum Count {
     Counted(u32),
     Refused(u32),

@@ -1,4 +1,6 @@
 // Kinds 5 and 6: d + 1 rows of (d + 1) / 2 places.
+#![tactic(auto)]
+
 ghost use Rattle.std.specs.Prelude.{◌≡◌, cond, ◌+◌, ◌*◌, ◌%◌, ◌≤◌, eqb};
 ghost use Rattle.codes_writers.specs.Steps.{Room, Wrote};
 ghost use Rattle.codes_rotated.specs.Rotated.{rotated_width, rotated_size, rotated_place, rotated_row, rotated_layer, rotated_boundary, rotated_time, rotated_vertex};

@@ -1,4 +1,6 @@
 // Stores of edges and vertices into lent columns, one after another from a place on.
+#![tactic(auto)]
+
 ghost use Rattle.std.specs.Prelude.{[], ◌∷◌, ◌+◌, ◌*◌, ◌≤◌, ◌<◌, length};
 ghost use Rattle.columns.specs.Lists.{when};
 ghost use Rattle.codes_writers.specs.Edges.{straight_edges, straight_rows};
@@ -7,7 +9,7 @@ ghost use Rattle.codes_writers.specs.Steps.{Room, Wrote, VertexRoom, Placed};
 use columns::{VertexIndex, VisualizePosition};
 
 // A new vertex: its boundary byte, and where it is drawn.
-#[derive(Drop)]
+#[derive(Clone, Copy)]
 pub struct CodeVertex {
     pub boundary: u8,
     pub position: VisualizePosition,

@@ -1,5 +1,7 @@
 // The records of document 01 as columns, the tests its questions are made of, and stores into columns.
 // Every function takes any input: a place past a column's end reads as 0 and is not written.
+#![tactic(auto)]
+
 pub mod questions;
 pub mod stores;
 
@@ -10,10 +12,10 @@ ghost use Rattle.columns.specs.Answers.{done};
 ghost use Rattle.columns.specs.Places.{position, position_at};
 
 // The number of a vertex, and of an edge. They count separately from 0.
-#[derive(Drop)]
+#[derive(Clone, Copy)]
 pub struct VertexIndex(pub u32);
 
-#[derive(Drop)]
+#[derive(Clone, Copy)]
 pub struct EdgeIndex(pub u32);
 
 // The width of a stored weight, and of a weight in a table, where -1 stands for none. specs/Limits.antt and proofs/Widths.antt say the second for contracts and proofs.
@@ -64,7 +66,7 @@ pub fn of_bits(n: u64) -> f64
 }
 
 // What a call answers that has no value to report.
-#[derive(Drop)]
+#[derive(Clone, Copy)]
 pub enum Done {
     Accepted,
     Refused(u32),
@@ -82,7 +84,7 @@ pub fn done_of(number: u32) -> Done
 }
 
 // Where a vertex is drawn: i down, j to the right, t in time.
-#[derive(Drop)]
+#[derive(Clone, Copy)]
 pub struct VisualizePosition {
     pub i: f64,
     pub j: f64,

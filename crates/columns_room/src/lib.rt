@@ -1,4 +1,6 @@
 // Question 6, whether columns are long enough, and question 7 of a code's graph.
+#![tactic(auto)]
+
 ghost use Rattle.std.specs.Prelude.{◌≡◌, ◌≤◌, leb};
 ghost use Rattle.columns_neighbors.specs.Lists.{sum_to};
 ghost use Rattle.columns_room.specs.Room.{two_long, three_long, long_enough, edge_columns_long, lists_long};

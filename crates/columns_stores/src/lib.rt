@@ -1,4 +1,6 @@
 // Runs of stores from a column's start: fills and copies. Every function takes any input.
+#![tactic(auto)]
+
 ghost use Rattle.std.specs.Prelude.{◌≡◌, take, replicate};
 ghost use Rattle.std.proofs.lemmas.List.Edits.{sets};
 

@@ -1,4 +1,6 @@
 // The changes of an engine graph's weights: open, load erasures, load weights, reset.
+#![tactic(auto)]
+
 ghost use Rattle.engine_columns.specs.Records.{kept, engine_in};
 ghost use Rattle.engine_columns.specs.Calls.{Modified, load_erasures, load_weights, reset};
 ghost use Rattle.engine_columns.specs.Open.{Opened, graph_columns};

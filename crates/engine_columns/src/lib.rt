@@ -1,4 +1,6 @@
 // The engine graph over lent columns, and questions 6 and 7 of it.
+#![tactic(auto)]
+
 ghost use Rattle.std.specs.Prelude.{◌≡◌};
 ghost use Rattle.engine_columns.specs.Records.{engine_in};
 ghost use Rattle.engine_columns.specs.Questions.{columns_long, engine_long, columns_sound, engine_sound};
@@ -9,7 +11,7 @@ use columns_neighbors::sound::{graph_sound, log_sound};
 use columns_room::three_long;
 
 // How many vertices, edges and log entries the engine's columns hold. A log may hold more entries than there are edges.
-#[derive(Drop)]
+#[derive(Clone, Copy)]
 pub struct EngineCounts {
     pub vertices: u32,
     pub edges: u32,
@@ -17,7 +19,7 @@ pub struct EngineCounts {
 }
 
 // The counts to go on with, or the number of the question that was not met.
-#[derive(Drop)]
+#[derive(Clone, Copy)]
 pub enum EngineAnswer {
     Counts(EngineCounts),
     Refused(u32),

@@ -1,4 +1,6 @@
 // Changes of edge weights with the log of earlier weights: in list order, and undone from the log's end.
+#![tactic(auto)]
+
 ghost use Rattle.std.specs.Prelude.{◌≡◌, ℕ, ◌<◌, ◌≤◌, length, set, get_or};
 ghost use Rattle.engine_log.specs.Load.{loaded, earlier, named, undone, erased, given};
 

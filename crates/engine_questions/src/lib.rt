@@ -1,4 +1,6 @@
 // The questions of open, the loads and reset.
+#![tactic(auto)]
+
 ghost use Rattle.std.specs.Prelude.{◌≡◌};
 ghost use Rattle.engine_columns.specs.Records.{engine_in};
 ghost use Rattle.engine_columns.specs.Calls.{engine_refusal, load_erasures, load_weights, reset};

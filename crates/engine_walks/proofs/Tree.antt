@@ -163,7 +163,7 @@ module _ {g : Graph} {w : ℕ → ℕ} {a : ℕ} {σ : State} where
     read-law (suc n) (at_source {v = v} e p) h = rw (eq-eqb v a e) (subst (λ z. P 0 z []) (sym e) empty)
     read-law (suc n) (by_previous {v = v} {k = k} f p u r) h =
         rw (ne_eqb v a f, eq-eqb (status_at σ v) 2 p)
-        (behind v k (read_back_of σ a n (previous_at σ v)) f (by_previous f p u r) u (read-law n r (omega arith)))
+        (behind v k (read_back_of σ a n (previous_at σ v)) f (by_previous f p u r) u (read-law {v = previous_at σ v} {k = k} n r (omega arith)))
 
   -- it is a walk, by its vertices and the weights of its steps
   pub read_back : {v k : ℕ} (n : ℕ) → WayBack g w a σ v k → k < n → Route g w a (read_back_of σ a n v) (map (step_into σ) (read_back_of σ a n v)) v

@@ -67,6 +67,8 @@ compare f h i (negsuc n) (negsuc m) p q = subst₂ (λ x y. NotGreater (negsuc x
 both : (z z' : ℤ) → NotGreater z z' → NotGreater z' z → z ≡ z'
 both (pos k) (pos k') (reached l) (reached m) = ap (λ n. pos n) (le_antisymm l m)
 both (negsuc n) (negsuc m) unreached q = refl
+both (pos k) (negsuc m) h q = elim h [ ]
+both (negsuc n) (pos k') h q = elim h [ ]
 
 -- columns of which each is nowhere greater than the other are equal
 both_columns : {n : ℕ} (l l' : List ℤ) → length l ≡ n → length l' ≡ n → ((v : ℕ) → v < n → NotGreater (weight_in l v) (weight_in l' v))

@@ -1,4 +1,6 @@
 // Walks, edge sets and settling: what is claimed of their definitions. Each claim is the contract of a function with nothing to do.
+#![tactic(auto)]
+
 ghost use Rattle.engine_walks.specs.Claims.{FirstIsLeast, SettlingIsLeast, TableIsLeast, PathIsLeast, SumsFit, CrossingIsLeast, CrossingIsBounded, CertificateDecides, WeightsCompare};
 ghost use Rattle.engine_walks.specs.Examples.{SettlingExamples};
 

@@ -1,4 +1,6 @@
 // The prebuilt complete graph: the row of a vertex, with its least weights to the other vertices that are not virtual, and its nearest virtual vertex; the nearest virtual vertex of every vertex.
+#![tactic(auto)]
+
 pub mod boundaries;
 pub mod nearest;
 

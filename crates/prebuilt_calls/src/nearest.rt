@@ -13,7 +13,7 @@ use prebuilt_entries::nearest::{amount_at, nearest_place};
 use query_tables::all_edges;
 
 // The nearest virtual vertex and its weight, none, or the number of the question that is not met.
-#[derive(Drop)]
+#[derive(Clone, Copy)]
 pub enum BoundaryAnswer {
     Nearest(VertexIndex, Weight),
     NoBoundary,

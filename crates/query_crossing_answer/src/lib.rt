@@ -1,4 +1,6 @@
 // What a crossing asks and answers: its questions, the nearest of the right vertices that a search has taken, the reply.
+#![tactic(auto)]
+
 ghost use Rattle.std.specs.Prelude.{◌≡◌, cond, ◌&&◌, List, ℕ, ◌<◌, length, get_or, eqb, ltb};
 ghost use Rattle.columns.specs.Limits.{sum_limit};
 ghost use Rattle.engine_columns.specs.Records.{engine_in};
@@ -14,7 +16,7 @@ use engine_columns::EngineCounts;
 use query_questions::query_refusal;
 
 // The crossing weight, or the number of the question that is not met.
-#[derive(Drop)]
+#[derive(Clone, Copy)]
 pub enum CrossingReply {
     Crossed(Weight),
     Refused(u32),

@@ -1,4 +1,6 @@
 // The crossing query: the least weight of a walk from a left to a right vertex, and the least weight from the left of every vertex.
+#![tactic(auto)]
+
 ghost use Rattle.std.specs.Prelude.{◌≡◌, cond, List, ℕ, ◌<◌, ◌≤◌, length, get_or, eqb};
 ghost use Rattle.std.proofs.lemmas.List.Edits.{sets};
 ghost use Rattle.columns.specs.Limits.{sum_limit};

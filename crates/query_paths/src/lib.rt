@@ -1,4 +1,6 @@
 // The path between two vertices: settled from the one, read back from the other.
+#![tactic(auto)]
+
 ghost use Rattle.std.specs.Prelude.{◌≡◌, ◌≤◌, length};
 ghost use Rattle.engine_columns.specs.Records.{engine_in};
 ghost use Rattle.query_relaxing.specs.Ready.{state_of};
@@ -14,7 +16,7 @@ use query_read_back::{is_taken, load_weight, path_length, write_path};
 use query_search::{Origin, search};
 
 // The path's length and total, or the number of the question that is not met.
-#[derive(Drop)]
+#[derive(Clone, Copy)]
 pub enum PathAnswer {
     Found(u32, Weight),
     Refused(u32),

@@ -1,4 +1,6 @@
 // Questions 6, 7 and 13 of the queries, and the number after which a search stops.
+#![tactic(auto)]
+
 ghost use Rattle.std.specs.Prelude.{◌≡◌, cond, eqb};
 ghost use Rattle.engine_columns.specs.Records.{engine_in};
 ghost use Rattle.query_questions.specs.Queries.{query_refusal};

@@ -1,4 +1,6 @@
 // A tree of least keys over the numbers below n, in two lent columns.
+#![tactic(auto)]
+
 ghost use Rattle.std.specs.Prelude.{◌≡◌, ◌+◌, ◌<◌, ◌≤◌, min, length, set};
 ghost use Rattle.query_queue.specs.Tree.{place_of, Tree, TreeBut, TreeRoom, Least, Same};
 

@@ -1,4 +1,6 @@
 // A path read back from its last vertex in a settled state.
+#![tactic(auto)]
+
 ghost use Rattle.std.specs.Prelude.{◌≡◌, List, map, ℕ, ◌-◌, ◌≤◌, length, get_or};
 ghost use Rattle.std.proofs.lemmas.List.Edits.{sets};
 ghost use Rattle.engine_walks.specs.Answers.{entry, read_back_of, step_into, taken};
@@ -8,7 +10,7 @@ ghost use Rattle.query_read_back.specs.Path.{step_back, entry_of};
 use columns::{VertexIndex, Weight};
 
 // An entry of the table: a previous vertex or none.
-#[derive(Drop)]
+#[derive(Clone, Copy)]
 pub enum TableEntry {
     Previous(VertexIndex),
     None,

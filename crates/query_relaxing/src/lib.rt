@@ -1,4 +1,6 @@
 // One edge of a taken vertex, over columns: its other end is offered the weight by way of it, and the tie rule decides.
+#![tactic(auto)]
+
 ghost use Rattle.std.specs.Prelude.{◌≡◌, ◌⊎◌, cond, List, ℕ, ◌+◌, ◌<◌, length, get_or, eqb};
 ghost use Rattle.columns.specs.Limits.{sum_limit};
 ghost use Rattle.engine_walks.specs.Settling.{changes, apart, waits, offer, relax_edge};

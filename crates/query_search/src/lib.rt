@@ -1,4 +1,6 @@
 // What all queries of the engine graph share: the search, and the columns of a table.
+#![tactic(auto)]
+
 pub mod sources;
 
 ghost use Rattle.std.specs.Prelude.{◌≡◌, true, cond, List, ℕ, ◌<◌, ◌≤◌, length, get_or, eqb, pos, negsuc};
@@ -17,7 +19,7 @@ use engine_columns::EngineCounts;
 
 // Where a search begins, and after which vertex it stops: at a vertex, with the number after which it stops, one that no vertex has for none; or at every
 // left vertex, with none.
-#[derive(Drop)]
+#[derive(Clone, Copy)]
 pub enum Origin {
     At(VertexIndex, VertexIndex),
     Left,

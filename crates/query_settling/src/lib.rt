@@ -1,4 +1,6 @@
 // Settling over columns: one turn takes the waiting vertex of least weight and offers its neighbours, until nothing waits or an end is taken.
+#![tactic(auto)]
+
 ghost use Rattle.std.specs.Prelude.{◌≡◌, false, ◌&&◌, List, ℕ, ◌-◌, ◌<◌, length, get_or, take, drop, eqb, ltb};
 ghost use Rattle.std.proofs.Math.Option.{none};
 ghost use Rattle.engine_walks.specs.Settling.{take_chosen, to_take, settled, relax_along};

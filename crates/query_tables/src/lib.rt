@@ -1,4 +1,6 @@
 // Queries of the engine graph: the table of least weights and previous vertices.
+#![tactic(auto)]
+
 ghost use Rattle.std.specs.Prelude.{◌≡◌};
 ghost use Rattle.engine_columns.specs.Records.{engine_in};
 ghost use Rattle.query_tables.specs.Ends.{end_in_range, stop_of};
@@ -12,7 +14,7 @@ use query_questions::{named_stop, query_refusal, scratch_fits};
 use query_search::{Origin, search, write_previous, write_weights};
 
 // The vertex after which a search stops.
-#[derive(Drop)]
+#[derive(Clone, Copy)]
 pub enum End {
     None,
     At(VertexIndex),

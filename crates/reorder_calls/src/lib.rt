@@ -1,4 +1,6 @@
 // Vertices in another order: old numbers and new ones, and every column moved.
+#![tactic(auto)]
+
 mod lists;
 
 ghost use Rattle.std.specs.Prelude.{◌≡◌, true, ◌≤◌};
@@ -14,7 +16,7 @@ use reorder_columns::{move_positions, move_u8, move_u32};
 use reorder_orders::{order_questions, place_numbers, rename_ends, translate};
 
 // How many numbers were translated, or the number of the question that was not met.
-#[derive(Drop)]
+#[derive(Clone, Copy)]
 pub enum TranslatedAnswer {
     Count(usize),
     Refused(u32),

@@ -1,4 +1,6 @@
 // What is claimed of reorderings. Each claim is the contract of a function with nothing to do.
+#![tactic(auto)]
+
 ghost use Rattle.reorder_claims.specs.Moves.{ReorderingMoves};
 ghost use Rattle.reorder_claims.specs.Keeps.{ReorderingKeeps};
 

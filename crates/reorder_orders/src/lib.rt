@@ -1,4 +1,6 @@
 // Orders: question 14, and the new number of each old vertex.
+#![tactic(auto)]
+
 ghost use Rattle.std.specs.Prelude.{◌≡◌, true, ℕ, ◌<◌, ◌≤◌, length, get_or, take};
 ghost use Rattle.columns.specs.Lists.{over};
 ghost use Rattle.columns.specs.Questions.{ask, all_below};

@@ -1,4 +1,6 @@
 // Errors on the edges of a code, the defects they leave, and their sampling from a seed.
+#![tactic(auto)]
+
 pub mod questions;
 
 ghost use Rattle.std.specs.Prelude.{◌≡◌, ℕ, ◌<◌, ◌≤◌, length, get_or};

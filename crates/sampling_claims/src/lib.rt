@@ -1,4 +1,6 @@
 // What document 01 says of samplings, errors and syndromes, and document 02, job 4, of flips, over what callers learn. Each claim is the contract of a function with nothing to do.
+#![tactic(auto)]
+
 ghost use Rattle.sampling_claims.specs.Lists.{ListsAscend};
 ghost use Rattle.sampling_claims.specs.Samplings.{SameMarks, TakesTwoDraws, SampledSyndrome};
 ghost use Rattle.sampling_claims.specs.Flips.{FlipGives, ErrorsFlip, TwiceCancels};

@@ -1,4 +1,6 @@
 // Clears the defects and sets the erasures of a code.
+#![tactic(auto)]
+
 ghost use Rattle.std.specs.Prelude.{◌≡◌};
 ghost use Rattle.sampling_clear.specs.Clear.{clear_refusal, ClearedErrors};
 

@@ -1,4 +1,6 @@
 // Sampling: two draws for every edge.
+#![tactic(auto)]
+
 ghost use Rattle.std.specs.Prelude.{◌≡◌, cond, ◌≤◌, length};
 ghost use Rattle.columns.specs.Places.{half};
 ghost use Rattle.sampling_flips.specs.Steps.{Fits};
@@ -9,7 +11,7 @@ use sampling_flips::flip_edge_if;
 use sampling_generator::DeterministicRng;
 
 // What two draws say of an edge, and the generator after them.
-#[derive(Drop)]
+#[derive(Clone, Copy)]
 pub struct SampledEdge {
     pub erased: bool,
     pub error: bool,

@@ -1,4 +1,6 @@
 // The defect flip, at a vertex, at the ends of an edge, and for a list of edges.
+#![tactic(auto)]
+
 ghost use Rattle.std.specs.Prelude.{◌≡◌, ℕ, ◌<◌, ◌-◌, length, get_or};
 ghost use Rattle.columns.specs.Lists.{when};
 ghost use Rattle.sampling_flips.specs.Flip.{inner_bit, flipped, flip_at, flip_edge, flip_each};

@@ -1,4 +1,6 @@
 // Document 01's generator: Xoshiro256** seeded by SplitMix64, over wrapping 64-bit words.
+#![tactic(auto)]
+
 ghost use Rattle.std.specs.Prelude.{◌≡◌, ◌+◌, ◌*◌, ◌%◌, ◌^◌, ◌<◌};
 ghost use Rattle.sampling_generator.specs.Random.{rotate_left, shift_xor, split_mix_next, split_mix_word, seed_from_u64, word_of, next_of, draw_of};
 
@@ -52,7 +54,7 @@ fn shift_xor(z: u64, k: u32) -> u64
 }
 
 // The four state words of Xoshiro256**.
-#[derive(Drop)]
+#[derive(Clone, Copy)]
 pub struct DeterministicRng {
     pub s0: u64,
     pub s1: u64,
@@ -61,14 +63,14 @@ pub struct DeterministicRng {
 }
 
 // A word, and the generator after it.
-#[derive(Drop)]
+#[derive(Clone, Copy)]
 pub struct Next {
     pub word: u64,
     pub rng: DeterministicRng,
 }
 
 // A draw from 0 up to 1, and the generator after it.
-#[derive(Drop)]
+#[derive(Clone, Copy)]
 pub struct Drawn {
     pub value: f64,
     pub rng: DeterministicRng,

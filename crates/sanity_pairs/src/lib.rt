@@ -1,4 +1,6 @@
 // The first edge that joins the pair of an earlier one.
+#![tactic(auto)]
+
 ghost use Rattle.std.specs.Prelude.{◌≡◌, ℕ, ◌<◌, ◌≤◌, length};
 ghost use Rattle.columns_pairs.specs.Pairs.{high_at, FirstRepeat};
 ghost use Rattle.sanity_verdicts.specs.Sanity.{first_of, duplicate};

@@ -1,4 +1,6 @@
 // The verdicts of `sanity_check`.
+#![tactic(auto)]
+
 pub mod lists;
 
 ghost use Rattle.std.specs.Prelude.{◌≡◌};
@@ -7,7 +9,7 @@ ghost use Rattle.sanity_verdicts.specs.Steps.{is_sound};
 use columns::{EdgeIndex, VertexIndex};
 
 // What `sanity_check` answers: verdicts 0 to 4 with their numbers, or the number of the question that was not met.
-#[derive(Drop)]
+#[derive(Clone, Copy)]
 pub enum Verdict {
     Sound,
     Empty,

@@ -1,4 +1,6 @@
 // Damaged graphs for `sanity_check`, and getters after setters.
+#![tactic(auto)]
+
 ghost use Rattle.std.specs.Prelude.{◌≤◌};
 
 use access_calls::{ListCount, SyndromeCounts, Truth};

@@ -1,4 +1,6 @@
 // Reads inputs of `codelist`, each ended by the byte 7c, and prints for each the first line of its text, how many bytes the text has and a checksum of them.
+#![tactic(auto)]
+
 ghost use Rattle.std.specs.Prelude.{◌≡◌, ◌+◌, ◌≤◌, min, length};
 
 use libc::STDIN_FILENO;

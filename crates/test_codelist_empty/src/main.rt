@@ -1,4 +1,6 @@
 // `codelist` on an empty input.
+#![tactic(auto)]
+
 fn main() {
     text_program::run();
 }

@@ -1,4 +1,6 @@
 // Builds codes of every kind and prints their counts and a checksum of each column. What it prints is compared with the file stdout.
+#![tactic(auto)]
+
 ghost use Rattle.std.specs.Prelude.{◌≤◌};
 
 use codes_calls::Created;

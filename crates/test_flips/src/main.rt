@@ -1,5 +1,7 @@
 // Prints the flip of every byte at an inner, a left and a right vertex, then errors and syndromes on the smallest graph: an inner vertex joined to a virtual one.
 // What it prints is compared with the file stdout.
+#![tactic(auto)]
+
 use sampling_flips::flip;
 use test_numbers::{end_line, show, show_bytes, show_count, show_counts, show_list};
 

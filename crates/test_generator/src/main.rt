@@ -1,5 +1,7 @@
 // Runs the published vectors of SplitMix64 and Xoshiro256**, then draws from three seeds, by value and by the call that a generator is lent to. What it prints is
 // compared with the file stdout.
+#![tactic(auto)]
+
 ghost use Rattle.std.specs.Prelude.{◌≡◌};
 ghost use Rattle.sampling_generator.specs.Random.{word_of, next_of, draw_of};
 

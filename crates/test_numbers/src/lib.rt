@@ -1,4 +1,6 @@
 // What the test programs share: reading numbers, printing, checksums. A place past the end reads as 0 and is not written.
+#![tactic(auto)]
+
 use columns::questions::lesser;
 use columns::{Done, TableWeight};
 use columns_answers::{ListCount, SyndromeCounts};
@@ -44,7 +46,7 @@ fn appended(n: u64, b: u8) -> u64 {
 }
 
 // How many numbers have ended, the number that is read, and whether one is.
-#[derive(Drop)]
+#[derive(Clone, Copy)]
 struct Reading {
     count: usize,
     value: u64,

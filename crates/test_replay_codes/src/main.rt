@@ -2,6 +2,8 @@
 // decimal numbers, oracle/README.md says how they and the file stdout were made.
 // First the number of cases. A case: kind, d, rounds, seed, the places of p and pe in the table below, four edge numbers, an order of 24
 // vertices.
+#![tactic(auto)]
+
 use codes_calls::Created;
 use columns::Weight;
 use sampling_calls::{ListCount, SyndromeCounts};

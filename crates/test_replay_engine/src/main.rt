@@ -3,6 +3,8 @@
 // First the number of cases. A case: vertices, edges, queries; first ends, second ends, weights, boundary bytes; a list of four edges and their
 // weights; the queries, three numbers each. A query: 0 source 0, the table; 1 source end, the table up to the end; 2 0 0, load the list as
 // erasures; 3 0 0, load the list with its weights; 4 0 0, reset; 5 0 0, crossing; 6 a b, path. Queries after a refused open have the counts that it was asked for.
+#![tactic(auto)]
+
 use columns::{TableWeight, VertexIndex, Weight};
 use engine_columns::{EngineAnswer, EngineCounts};
 use query_crossing_answer::CrossingReply;

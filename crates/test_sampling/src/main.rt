@@ -1,5 +1,7 @@
 // Samples the rotated code of distance 3 from fixed seeds, then generates errors, finds a syndrome, clears and reorders.
 // What it prints is compared with the file stdout.
+#![tactic(auto)]
+
 use reorder_calls::TranslatedAnswer;
 use sampling_calls::SyndromeCounts;
 use test_numbers::{end_line, show, show_bytes, show_count, show_counts, show_done, show_list};

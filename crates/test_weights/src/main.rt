@@ -1,6 +1,8 @@
 // Reads lines of fixed width, each with the bits of two probabilities and a largest half weight, all in hexadecimal.
 // Writes for each the answer of `weight_of_p` to the first probability, that of `compute_weights` to both, and those of
 // `set_probability` and `set_erasure_probability` to the first.
+#![tactic(auto)]
+
 ghost use Rattle.std.specs.Prelude.{◌+◌, ◌≤◌, length};
 
 use columns::{Done, of_bits};

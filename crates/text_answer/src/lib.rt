@@ -1,4 +1,6 @@
 // What `codelist` prints for an input.
+#![tactic(auto)]
+
 ghost use Rattle.std.specs.Prelude.{◌≤◌, length};
 ghost use Rattle.text_numbers.specs.Steps.{Put};
 ghost use Rattle.text_answer.specs.Answer.{text_of, CodeListed};
@@ -10,7 +12,7 @@ use text_listing::{CodeArguments, write_code};
 use text_numbers::lines::write_refusal;
 
 // How many bytes the text has, or the number of the question that was answered no.
-#[derive(Drop)]
+#[derive(Clone, Copy)]
 pub enum Listed {
     Text(u32),
     Refused(u32),

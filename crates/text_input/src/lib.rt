@@ -1,4 +1,6 @@
 // The input line of `codelist`: kind,d,rounds,p,M and a line's end.
+#![tactic(auto)]
+
 mod fields;
 
 ghost use Rattle.std.specs.Prelude.{◌≡◌, ◌≤◌, length, eqb};
@@ -8,7 +10,7 @@ use columns::questions::both;
 use fields::{decimal_sound, decimal_value, digits_at, hex_sound, hex_value};
 
 // The five numbers; p by its bits.
-#[derive(Drop)]
+#[derive(Clone, Copy)]
 pub struct CodeLine {
     pub kind: u32,
     pub d: u32,
@@ -18,7 +20,7 @@ pub struct CodeLine {
 }
 
 // What reading a line answers; a line that is not well formed is refused with 1.
-#[derive(Drop)]
+#[derive(Clone, Copy)]
 pub enum LineRead {
     WellFormed(CodeLine),
     NotWellFormed,

@@ -13,7 +13,7 @@ use query_crossings::crossing;
 use text_numbers::lines::{GraphLine, write_listing, write_refusal};
 
 // What a code is built from.
-#[derive(Drop)]
+#[derive(Clone, Copy)]
 pub struct CodeArguments {
     pub kind: u32,
     pub d: u32,

@@ -1,4 +1,6 @@
 // What `codelist` prints for a code.
+#![tactic(auto)]
+
 mod built;
 
 ghost use Rattle.std.specs.Prelude.{◌≤◌, length};

@@ -1,4 +1,6 @@
 // Bytes and decimal numbers of a text, and the lines of a listing.
+#![tactic(auto)]
+
 pub mod lines;
 
 ghost use Rattle.std.specs.Prelude.{◌≡◌, [], ◌∷◌, set, ◌+◌, ◌/◌, ◌%◌, ◌^◌, ◌≤◌};

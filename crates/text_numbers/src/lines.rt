@@ -105,7 +105,7 @@ pub fn write_refusal(text: &mut [u8], number: u32) -> usize
 }
 
 // The numbers of a graph line.
-#[derive(Drop)]
+#[derive(Clone, Copy)]
 pub struct GraphLine {
     pub kind: u32,
     pub d: u32,

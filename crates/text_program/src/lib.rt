@@ -3,6 +3,8 @@
 // what a call of C reads or writes, so this is left to the reader and to the runs of the programs: that `text_reading::read_input` reads standard input to the buffer,
 // that `run` makes its one call, that `read_and_answer` hands on exactly the bytes read, and that `print` and `report` write. Of an input longer than the
 // buffer a part is read, which is refused as the whole would be (`text_input::long_inputs_alike`).
+#![tactic(auto)]
+
 ghost use Rattle.std.specs.Prelude.{◌≡◌, ◌≤◌, length, take};
 ghost use Rattle.text_answer.specs.Answer.{answer_text, text_room};
 
@@ -11,7 +13,7 @@ use text_answer::{Listed, codelist};
 use text_reading::{InputRead, read_input};
 
 // How many bytes a text has, and whether all of them were written.
-#[derive(Drop)]
+#[derive(Clone, Copy)]
 struct Printed {
     bytes: usize,
     whole: bool,

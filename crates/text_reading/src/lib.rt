@@ -1,11 +1,13 @@
 // Standard input, read until it ends or the buffer is full.
+#![tactic(auto)]
+
 ghost use Rattle.std.specs.Prelude.{◌≡◌, ◌-◌, ◌≤◌, length};
 ghost use Rattle.text_reading.specs.Reading.{read_of, ReadWithin};
 
 use libc::STDIN_FILENO;
 
 // How many bytes were read to the buffer, or that a read failed.
-#[derive(Drop)]
+#[derive(Clone, Copy)]
 pub enum InputRead {
     Bytes(usize),
     Failed,

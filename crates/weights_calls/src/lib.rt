@@ -1,4 +1,6 @@
 // Weights: document 01's section "Weights" with questions 6 to 10.
+#![tactic(auto)]
+
 mod known;
 pub mod setters;
 
@@ -21,7 +23,7 @@ use weights_questions::{are_probabilities, is_probability};
 use weights_recipe::logarithm::edge_weight;
 
 // What `weight_of_p` answers.
-#[derive(Drop)]
+#[derive(Clone, Copy)]
 pub enum WeightOfP {
     Weighs(f64),
     Refused(u32),

@@ -1,4 +1,6 @@
 // What document 01 says of weights, over what callers learn. Each claim is the contract of a function with nothing to do.
+#![tactic(auto)]
+
 ghost use Rattle.weights_claims.specs.Claims.{HalvedUntilBelow2, HalfWeightsAreGreatest, OneZero, AllHalf, ConstantsAre};
 
 // The logarithm's halvings go on until the number is below 2.

@@ -1,4 +1,6 @@
 // The diagonal probability of kind 4.
+#![tactic(auto)]
+
 ghost use Rattle.std.specs.Prelude.{◌≡◌};
 ghost use Rattle.weights_diagonal.specs.Diagonal.{absolute, manhattan_distance, is_diagonal, new_diagonal, is_diagonal_probability};
 
@@ -6,7 +8,7 @@ use columns::VisualizePosition;
 use weights_questions::is_probability;
 
 // Absent, or the probability of the diagonal edges.
-#[derive(Drop)]
+#[derive(Clone, Copy)]
 pub enum DiagonalProbability {
     None,
     Given(f64),

@@ -1,4 +1,6 @@
 // The tests of question 9.
+#![tactic(auto)]
+
 ghost use Rattle.std.specs.Prelude.{◌≡◌, not, ◌&&◌, ◌≤◌, T, length, take};
 ghost use Rattle.std.specs.Float.Ieee.{is_nan};
 ghost use Rattle.columns.specs.Questions.{all};

@@ -5,4 +5,4 @@ use Rattle.columns.specs.Questions.{all_below}
 use Rattle.columns.proofs.questions.each_below.Goals as goal
 
 pub returns : goal.returns
-returns c = c.args in c.all_below.ensures ∙ ap (all_below s.limit) (take-length s.list.now)
+returns c = let s = c.args in c.all_below.ensures ∙ ap (all_below s.limit) (take-length s.list.now)

@@ -6,4 +6,4 @@ use Rattle.columns.specs.Limits.{weight_limit}
 use Rattle.columns.proofs.questions.each_weight_sound.Goals as goal
 
 pub returns : goal.returns
-returns c = c.args in c.weights_within.ensures ∙ ap (all_within weight_limit) (take-length s.list.now)
+returns c = let s = c.args in c.weights_within.ensures ∙ ap (all_within weight_limit) (take-length s.list.now)

@@ -15,7 +15,7 @@ rest u m l h = elim (dec_le m (l - u)) [
 ]
 
 pub returns-then-places-used : goal.returns-then-places-used
-returns-then-places-used c = c.args in sym (lt-leb (s.used + s.more) s.places (omega arith))
+returns-then-places-used c = let s = c.args in sym (lt-leb (s.used + s.more) s.places (omega arith))
 
 pub returns : goal.returns
-returns c = c.args in rest s.used s.more s.places c.if-places-used.false
+returns c = let s = c.args in rest s.used s.more s.places c.if-places-used.false

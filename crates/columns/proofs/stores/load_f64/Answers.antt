@@ -7,7 +7,7 @@ use Rattle.columns.proofs.Columns.{get_d_any}
 use Rattle.columns.proofs.stores.load_f64.Goals as goal
 
 pub returns-then-at-column : goal.returns-then-at-column
-returns-then-at-column c = c.args in get_d_any s.column.now s.at nan zero_float c.if-at-column.true
+returns-then-at-column c = let s = c.args in get_d_any s.column.now s.at nan zero_float c.if-at-column.true
 
 pub returns-else-at-column : goal.returns-else-at-column
-returns-else-at-column c = c.args in sym (get_or-eq_default s.column.now zero_float c.if-at-column.false)
+returns-else-at-column c = let s = c.args in sym (get_or-eq_default s.column.now zero_float c.if-at-column.false)

@@ -4,4 +4,4 @@ use lib.Seq.{set_out}
 use Rattle.columns.proofs.stores.store_f64.Goals as goal
 
 pub returns-else-at-column : goal.returns-else-at-column
-returns-else-at-column c = c.args in sym (set_out s.column.now s.at s.value c.if-at-column.false)
+returns-else-at-column c = let s = c.args in sym (set_out s.column.now s.at s.value c.if-at-column.false)

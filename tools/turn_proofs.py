@@ -182,6 +182,7 @@ class Function:
         self.module = "Rattle.%s.proofs.%s" % (self.name, folder.replace("/", "."))
         self.own = clauses.get("::".join([self.name] + folder.split("/")), ([], []))
         self.said = []
+        self.params = entry["params"]
         src = "".join(read(p) for p in glob.glob(os.path.join(crate, "src", "**", "*.rt"), recursive=True))
         self.rust = set(re.findall(r"\b[a-z]\w*", re.sub(r"//[^\n]*", "", src)))
 
@@ -304,7 +305,11 @@ class Function:
             if not parts:
                 return parts
             fields, at = None, 0
-            if parts[0] in ("args", "requires", "ranges", "lifetimes", "type_inv", "auto", "fn", "new", "initial", "well_formed", "utf8"):
+            parts = [re.sub("[-_](lem|holds)$", "", x) if x not in rust and re.sub("[-_](lem|holds)$", "", x) in rust else x for x in parts]
+            parts = [{"well-formed": "well_formed", "type-inv": "type_inv"}.get(x, x) for x in parts]
+            if norm(parts[0]) not in table and norm(re.sub("[-_](lem|holds)$", "", parts[0])) in table:
+                parts[0] = re.sub("[-_](lem|holds)$", "", parts[0])
+            if norm(parts[0]) not in table and parts[0] in ("args", "requires", "ranges", "lifetimes", "type_inv", "auto", "fn", "new", "initial", "well_formed", "utf8"):
                 if parts[0] == "requires":
                     fields, at = self.own[0], 1
                 if len(parts) > 1:
@@ -320,6 +325,15 @@ class Function:
                         known = self.clauses.get(new[1]) or self.kit.get((new[1] or parts[0]).split("::")[-1]) or self.kit.get(norm(parts[0]).replace("-", "_"))
                         if known:
                             fields, at = known[1 if parts[1] == "ensures" else 0], 2
+                    if len(parts) > 2 and parts[1] in ("new", "auto") and parts[2] in ("0", "1"):
+                        k = 2
+                        while k < len(parts) and parts[k] == "1":
+                            k += 1
+                        ps = self.params.get(new[1]) or []
+                        if k - 2 < len(ps) and (k == len(parts) or parts[k] == "0"):
+                            parts = parts[:2] + [ps[k - 2]] + parts[k + 1 :]
+                        else:
+                            self.look("a place among " + ".".join(parts) + " " + " ".join(ps))
                     for j in range(1, len(parts)):
                         if parts[j].replace("-", "_") in rust:
                             parts[j] = parts[j].replace("-", "_")
@@ -433,6 +447,9 @@ class Function:
             bodytext = inline(bodytext)
             bodytext = re.sub(r"(let (?:" + W + r")) : tie\.(?:Start|After|Then|Else|At|In)[^=\n]* = ", r"\1 = ", bodytext)
             bodytext = rename(bodytext, table, var)
+            # a test of !x says now what x is
+            bodytext = re.sub(r"\(not-(?:true|false) \S+ ([\w.'-]*if-not-[\w.'-]+\.(?:true|false))\)", r"\1", bodytext)
+            bodytext = re.sub(r"not-(?:true|false) \S+ ([\w.'-]*if-not-[\w.'-]+\.(?:true|false))", r"\1", bodytext)
             # a record behind an alias of a step
             fields = None
             if old.startswith("returns"):

@@ -1,6 +1,6 @@
 -- A getter's list holds the numbers whose byte is set, and a setter sets the bytes of the numbers that it was handed. Assumes nothing.
 use mathlib.Core.Path.{◌≡◌, refl, sym, ap, ◌∙◌, subst}
-use mathlib.Core.Bool.{Bool, true, false, ◌&&◌, ◌||◌, not, cond, false≢true, or_true}
+use mathlib.Core.Bool.{Bool, true, false, ◌&&◌, ◌||◌, not, cond, false≢true, or-true}
 use mathlib.Core.List.{List, [], ◌∷◌}
 use Prim.Native.Nat.{ℕ, zero, suc, ◌≤◌, ◌<◌}
 use native.Mathlib.Decide.{ℕ_discrete}
@@ -158,7 +158,7 @@ stands_names : (xs : List ℕ) (k i : ℕ) → i < length xs → get_or xs i 0 �
 unfolding names
 stands_names [] k i h e = absurd (omega arith)
 stands_names (x ∷ xs) k zero h e = ap (λ (b : Bool). b || names xs k) (eq-eqb x k e)
-stands_names (x ∷ xs) k (suc i) h e = ap (λ (b : Bool). eqb x k || b) (stands_names xs k i (omega arith) e) ∙ or_true (eqb x k)
+stands_names (x ∷ xs) k (suc i) h e = ap (λ (b : Bool). eqb x k || b) (stands_names xs k i (omega arith) e) ∙ or-true (eqb x k)
 
 set-named : (b : Bool) {byte : ℕ} → byte ≡ cond b 1 0 → (byte ≡ 0 → ⊥) → b ≡ true
 set-named true p f = refl

@@ -8,7 +8,7 @@ use native.Mathlib.Decide.{ℕ_discrete}
 use native.Mathlib.Omega.{arith}
 use lib.ListN.{length, get_or}
 use lib.Dec.{eqb}
-use borrow.Author.Tests.{eq-eqb, ne_eqb, eqb-false, not_true}
+use borrow.Author.Tests.{eq-eqb, ne_eqb, eqb-false, not-true}
 use Rattle.columns.specs.Questions.{every}
 use Rattle.columns.proofs.Tests.{every-at, below_at}
 use Rattle.reorder_orders.specs.Order.{none_twice, new_number}
@@ -146,7 +146,7 @@ pub once_of : (order : List ℕ) → none_twice order ≡ true → Once order
 unfolding none_twice
 once_of order p j k h l e =
     eqb-false (get_or order j 0) (get_or order k 0)
-    (not_true (eqb (get_or order j 0) (get_or order k 0))
+    (not-true (eqb (get_or order j 0) (get_or order k 0))
     (every-at (λ j. not (eqb (get_or order j 0) (get_or order k 0))) k (every-at (λ k. every k (λ j. not (eqb (get_or order j 0) (get_or order k 0)))) (length order) p k l) j h))
     e
 

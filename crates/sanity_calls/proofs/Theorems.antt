@@ -7,7 +7,7 @@ use Prim.Native.Nat.{ℕ, ◌+◌, ◌≤◌, ◌<◌}
 use native.Mathlib.Omega.{arith}
 use lib.ListN.{length, get_or, take, drop, length-take}
 use lib.Seq.{get_or-take}
-use borrow.Author.Tests.{ne_eqb, not_true}
+use borrow.Author.Tests.{ne_eqb, not-true}
 use Rattle.columns.specs.Questions.{every}
 use Rattle.columns.proofs.Counting.{length-each, getD-each}
 use Rattle.columns.proofs.Tests.{every-at}
@@ -76,7 +76,7 @@ module _ (v e : ℕ) (a b lengths numbers : List ℕ) (sound : graph_sound v e a
   unfolding duplicate pairs_apart
   no-duplicate k h =
       let p = every-at (λ k. every k (λ j. not (same_pair a b j k))) e (at_apart a b e graph.apart) k h in
-      first-all _ k (λ j l. found_false _ (DuplicateEdge (edge_numbered j) (edge_numbered k)) (not_true (same_pair a b j k) (every-at (λ j. not (same_pair a b j k)) k p j l)))
+      first-all _ k (λ j l. found_false _ (DuplicateEdge (edge_numbered j) (edge_numbered k)) (not-true (same_pair a b j k) (every-at (λ j. not (same_pair a b j k)) k p j l)))
 
   no-finding : (u : ℕ) → u < v → at_vertex (neighbor_list_at lengths numbers u) (get_or lengths u 0) u ≡ Sound
   no-finding u h =

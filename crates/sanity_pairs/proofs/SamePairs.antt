@@ -5,7 +5,7 @@ use mathlib.Core.Bool.{Bool, true, false, not, ◌&&◌, false≢true}
 use mathlib.Core.List.{List}
 use Prim.Native.Nat.{ℕ, ◌+◌, ◌≤◌, ◌<◌}
 use native.Mathlib.Omega.{arith}
-use borrow.Author.Tests.{eq-eqb, eqb-true, not_true}
+use borrow.Author.Tests.{eq-eqb, eqb-true, not-true}
 use lib.Dec.{eqb}
 use Rattle.columns.specs.Questions.{every}
 use Rattle.columns.proofs.Tests.{every-at, every_more}
@@ -23,7 +23,7 @@ module _ {a b : List ℕ} {i r : ℕ} (s : FirstSame a b i r) where
   apart = fresh-all a b i r s.none
 
   before : (m : ℕ) → m < r → same_pair a b m i ≡ false
-  before m h = not_true (same_pair a b m i) (every-at (λ j. not (same_pair a b j i)) r apart m h)
+  before m h = not-true (same_pair a b m i) (every-at (λ j. not (same_pair a b j i)) r apart m h)
 
   here : r < i → same_pair a b r i ≡ true
   here h = go (same_pair a b r i) refl
@@ -55,7 +55,7 @@ module _ (a b : List ℕ) (n r : ℕ) (s : FirstRepeat a b n r) where
   none_before : first_of r (duplicate a b) ≡ Sound
   unfolding duplicate pairs_apart
   none_before = first-all (duplicate a b) r (λ k h. first-all _ k (λ m l. found_false (same_pair a b m k) (DuplicateEdge (edge_numbered m) (edge_numbered k))
-      (not_true (same_pair a b m k) (every-at (λ j. not (same_pair a b j k)) k (every-at (λ k. every k (λ j. not (same_pair a b j k))) r s.apart k h) m l))))
+      (not-true (same_pair a b m k) (every-at (λ j. not (same_pair a b j k)) k (every-at (λ k. every k (λ j. not (same_pair a b j k))) r s.apart k h) m l))))
 
   pub repeat-none : n ≤ r → first_of n (duplicate a b) ≡ Sound
   repeat-none h = let e : r ≡ n = omega (arith, s.within) in rw e at none_before

@@ -6,7 +6,7 @@ use mathlib.Core.Bool.{◌&&◌}
 use mathlib.Core.List.{List}
 use lib.ListN.{length, get_or}
 use lib.Dec.{eqb, ltb}
-use borrow.Author.Tests.{not_true}
+use borrow.Author.Tests.{not-true}
 use Rattle.engine_walks.specs.Settling as S
 use Rattle.engine_walks.specs.Settling.{take_chosen, to_take}
 use Rattle.query_relaxing.specs.Ready.{state_of, graph_of, weighs, Ready, sources, end_of}
@@ -72,8 +72,8 @@ returns-2 c =
     let s = c.before.before.before.before.before.before.before.before.before.before.before.before.before.before.before.before.before.before.before.before.before.before.before.before.before.before.before.before.before.before.before.before in
     let at = c.before.before.before.before.before.before.before.before.before.before.before.before.before.before.before.before.before.before.before.before.before.loop in
     let o = c.before.before.before.before.before.before.before.before.before.before.before.turn.ensures in
-    let none-waits = ap (λ k. to_take k (state_of at.status at.weight at.previous)) (sym at.invariant.1) ∙ o.1.1 (not_true _ c.if2.true) in (
-      (λ m. o.0 m ∙ ap (take_chosen (graph_of (length at.status) s.args.ends_a.now s.args.ends_b.now m) (weighs s.args.weights.now) (state_of at.status at.weight at.previous)) (o.1.1 (not_true _ c.if2.true))
+    let none-waits = ap (λ k. to_take k (state_of at.status at.weight at.previous)) (sym at.invariant.1) ∙ o.1.1 (not-true _ c.if2.true) in (
+      (λ m. o.0 m ∙ ap (take_chosen (graph_of (length at.status) s.args.ends_a.now s.args.ends_b.now m) (weighs s.args.weights.now) (state_of at.status at.weight at.previous)) (o.1.1 (not-true _ c.if2.true))
           ∙ ends-none (length s.args.status.now) s.args.ends_a.now s.args.ends_b.now s.args.weights.now s.args.status.now s.args.weight.now s.args.previous.now s.args.stop.0 refl s.requires.1.1 at.t _ at.invariant.3 m none-waits at.invariant.0),
       ready_as at.invariant.1 o.1.0,
     )

@@ -2,7 +2,7 @@
 use mathlib.Core.Path.{◌≡◌, sym, ap, ◌∙◌}
 use mathlib.Core.Bool.{Bool, true, ◌&&◌}
 use native.Mathlib.Omega.{arith}
-use borrow.Author.Tests.{not_true, not_false}
+use borrow.Author.Tests.{not-true, not-false}
 use Rattle.text_input.specs.Line.{well_formed}
 use Rattle.text_input.proofs.Lines.{well, fit1, fit2, fit3, fit4, fit5, line, not_formed, formed}
 use borrow.Author.Rules.{rules}
@@ -18,7 +18,7 @@ well_is c =
     ∙ well c.before.before.before.before.before.before.before.before.before.before.before.before.before.before.before.before.args.text.now c.before.before.before.before.before.before.before.before.before.before.before.before.before.before.digits-at.result c.before.before.before.before.before.before.before.before.before.before.before.before.digits-at2.result c.before.before.before.before.before.before.before.before.before.before.digits-at3.result c.before.before.before.before.before.before.before.digits-at4.result c.before.before.before.before.before.before.before.before.before.before.before.before.before.before.digits-at.ensures.0 c.before.before.before.before.before.before.before.before.before.before.before.before.digits-at2.ensures.0 c.before.before.before.before.before.before.before.before.before.before.digits-at3.ensures.0 c.before.before.before.before.before.before.before.digits-at4.ensures.0 c.before.before.before.before.before.before.before.before.before.before.before.before.before.decimal-sound.ensures c.before.before.before.before.before.before.before.before.before.before.before.decimal-sound2.ensures c.before.before.before.before.before.before.before.before.before.decimal-sound3.ensures c.before.before.before.before.before.before.before.before.hex-sound.ensures c.before.before.before.before.before.before.decimal-sound4.ensures c.before.before.before.before.before.is.ensures
 
 is_well : (c : tie.Else1) → well_formed c.before.before.before.before.before.before.before.before.before.before.before.before.before.before.before.before.before.args.text.now ≡ true
-is_well c = sym (well_is c.before) ∙ not_false _ c.if1.false
+is_well c = sym (well_is c.before) ∙ not-false _ c.if1.false
 
 decimal-sound-requires : tie.Need-decimal-sound-requires
 decimal-sound-requires c κs = (omega arith, omega arith, c.digits-at.ensures.0)
@@ -33,7 +33,7 @@ decimal-sound-requires-4 : tie.Need-decimal-sound-requires-4
 decimal-sound-requires-4 c κs = (omega arith, omega arith, c.digits-at4.ensures.0)
 
 returns : tie.Need-returns
-returns c = not_formed c.before.before.before.before.before.before.before.before.before.before.before.before.before.before.before.before.before.args.text.now (sym (well_is c.before) ∙ not_true _ c.if1.true)
+returns c = not_formed c.before.before.before.before.before.before.before.before.before.before.before.before.before.before.before.before.before.args.text.now (sym (well_is c.before) ∙ not-true _ c.if1.true)
 
 decimal-value-requires : tie.Need-decimal-value-requires
 decimal-value-requires c κs = fit1 c.before.before.before.before.before.before.before.before.before.before.before.before.before.before.before.before.before.args.text.now c.before.before.before.before.before.before.before.before.before.before.before.before.before.before.before.digits-at.result c.before.before.before.before.before.before.before.before.before.before.before.before.before.digits-at2.result c.before.before.before.before.before.before.before.before.before.before.before.digits-at3.result c.before.before.before.before.before.before.before.before.digits-at4.result c.before.before.before.before.before.before.before.before.before.before.before.before.before.before.before.digits-at.ensures.0 c.before.before.before.before.before.before.before.before.before.before.before.before.before.digits-at2.ensures.0 c.before.before.before.before.before.before.before.before.before.before.before.digits-at3.ensures.0 c.before.before.before.before.before.before.before.before.digits-at4.ensures.0 (is_well (c))

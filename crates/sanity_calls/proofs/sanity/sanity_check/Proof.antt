@@ -1,7 +1,7 @@
 -- `sanity_calls::sanity::sanity_check` meets its contract: columns that are too short give 6, else `verdict_of` promises the verdict. Assumes nothing.
 use mathlib.Core.Path.{◌≡◌, sym, ap, ◌∙◌}
 use mathlib.Core.Bool.{Bool, true, false, cond}
-use borrow.Author.Tests.{not_true, not_false}
+use borrow.Author.Tests.{not-true, not-false}
 use Rattle.sanity_verdicts.specs.declared.Verdict.TheVariants.{Refused}
 use Rattle.sanity_verdicts.specs.Sanity.{verdict, sanity_long}
 use Rattle.sanity_calls.proofs.Verdicts.{long_of, checked}
@@ -11,19 +11,19 @@ use Rattle.sanity_calls.proofs.sanity.sanity_check.Tie as tie
 returns : tie.Need-returns
 returns c =
     let s = c.before.before.before.before.before.before.args in
-    let d : sanity_long s.vertex-num s.edge-num s.ends_a.now s.ends_b.now s.list-lengths.now s.neighbor-numbers.now ≡ false = sym c.before.sanity-long.ensures ∙ not_true _ c.if1.true in
+    let d : sanity_long s.vertex-num s.edge-num s.ends_a.now s.ends_b.now s.list-lengths.now s.neighbor-numbers.now ≡ false = sym c.before.sanity-long.ensures ∙ not-true _ c.if1.true in
     checked s.vertex-num s.edge-num s.ends_a.now s.ends_b.now s.list-lengths.now s.neighbor-numbers.now _ (sym (ap (λ (t : Bool). cond t (verdict s.vertex-num s.edge-num s.ends_a.now s.ends_b.now s.list-lengths.now s.neighbor-numbers.now) (Refused 6)) d))
 
 verdict-of-requires : tie.Need-verdict-of-requires
 verdict-of-requires c κs =
     let s = c.before.before.before.before.before.before.args in
-    let l = long_of s.vertex-num s.edge-num s.ends_a.now s.ends_b.now s.list-lengths.now s.neighbor-numbers.now (sym c.before.sanity-long.ensures ∙ not_false _ c.if1.false) in
+    let l = long_of s.vertex-num s.edge-num s.ends_a.now s.ends_b.now s.list-lengths.now s.neighbor-numbers.now (sym c.before.sanity-long.ensures ∙ not-false _ c.if1.false) in
     (l.a-long, l.b-long, l.lengths-long, l.sum-long)
 
 returns-2 : tie.Need-returns-2
 returns-2 c =
     let s = c.before.before.before.before.before.before.before.args in
-    let d : sanity_long s.vertex-num s.edge-num s.ends_a.now s.ends_b.now s.list-lengths.now s.neighbor-numbers.now ≡ true = sym c.before.before.sanity-long.ensures ∙ not_false _ c.before.if1.false in
+    let d : sanity_long s.vertex-num s.edge-num s.ends_a.now s.ends_b.now s.list-lengths.now s.neighbor-numbers.now ≡ true = sym c.before.before.sanity-long.ensures ∙ not-false _ c.before.if1.false in
     checked s.vertex-num s.edge-num s.ends_a.now s.ends_b.now s.list-lengths.now s.neighbor-numbers.now _ (c.verdict-of.ensures ∙ sym (ap (λ (t : Bool). cond t (verdict s.vertex-num s.edge-num s.ends_a.now s.ends_b.now s.list-lengths.now s.neighbor-numbers.now) (Refused 6)) d))
 
 pub sanity-check-spec : {M : Type 1} → statement M

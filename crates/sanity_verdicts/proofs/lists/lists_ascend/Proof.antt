@@ -5,7 +5,7 @@ use mathlib.Core.Bool.{true, true≢false}
 use native.Mathlib.Omega.{arith}
 use borrow.Author.Count.{below_none, below_more}
 use borrow.Author.Rules.{rules}
-use borrow.Author.Tests.{not_false}
+use borrow.Author.Tests.{not-false}
 use lib.ListN.{get_or}
 use Rattle.columns_neighbors.specs.Lists.{sum_to}
 use Rattle.columns_neighbors.proofs.Placing.{sum_more}
@@ -38,7 +38,7 @@ loop-again c =
     let s = c.before.before.before.before.before.before.before.before.args in
     let l = c.before.before.before.before.before.loop in
     let w = c.before.before.wide.ensures.0 in
-    let here = c.before.list-ascends.ensures (not_false _ c.if1.false) in (
+    let here = c.before.list-ascends.ensures (not-false _ c.if1.false) in (
       omega arith,
       omega (arith, l.invariant.1, w, sum_more l.v s.lengths.now),
       below_more (λ (u : ℕ). Ascends s.numbers.now (sum_to u s.lengths.now) (get_or s.lengths.now u 0)) l.v l.invariant.2

@@ -4,7 +4,7 @@ use mathlib.Core.List.{List}
 use Prim.Native.Nat.{ℕ, ◌-◌, ◌≤◌}
 use native.Mathlib.Omega.{arith}
 use lib.ListN.{length, get_or}
-use borrow.Author.Tests.{not_true, not_false}
+use borrow.Author.Tests.{not-true, not-false}
 use Rattle.sanity_verdicts.specs.declared.Verdict.{Verdict}
 use Rattle.sanity_verdicts.specs.declared.Verdict.TheVariants.{Sound}
 use Rattle.sanity_verdicts.specs.Sanity.{first_of, at_vertex}
@@ -52,7 +52,7 @@ returns c =
     let s = c.before.before.before.before.before.before.before.before.before.before.before.before.before.before in
     let l = c.before.before.before.before.before.before.before.before.before.loop in
     let is = vertex_is s.args.lengths.now s.args.numbers.now l.v c.before.before.before.before.before.before.wide.ensures.0 l.invariant.2 c.before.before.before.before.at-vertex.ensures.0 in
-    is ∙ sym (first-stop (finding s.args.lengths.now s.args.numbers.now) s.args.n l.v (omega arith) l.invariant.3 (ap is_sound (sym is) ∙ sym c.before.is_sound_holds.ensures ∙ not_true _ c.if1.true))
+    is ∙ sym (first-stop (finding s.args.lengths.now s.args.numbers.now) s.args.n l.v (omega arith) l.invariant.3 (ap is_sound (sym is) ∙ sym c.before.is_sound_holds.ensures ∙ not-true _ c.if1.true))
 
 add_start : tie.Need-overflow-add-start invariant-loop decreases-loop
 add_start c =
@@ -65,7 +65,7 @@ loop-again c =
     let s = c.before.before.before.before.before.before.before.before.before.before.before.before.before.before in
     let l = c.before.before.before.before.before.before.before.before.before.loop in
     let is = vertex_is s.args.lengths.now s.args.numbers.now l.v c.before.before.before.before.before.before.wide.ensures.0 l.invariant.2 c.before.before.before.before.at-vertex.ensures.0 in
-    let none = sym is ∙ sound_of _ (sym c.before.is_sound_holds.ensures ∙ not_false _ c.if1.false) in
+    let none = sym is ∙ sound_of _ (sym c.before.is_sound_holds.ensures ∙ not-false _ c.if1.false) in
     (omega arith, c.before.before.before.before.at-vertex.ensures.1, omega (arith, l.invariant.2, c.before.before.before.before.before.before.wide.ensures.0, sum_more l.v s.args.lengths.now), first_next (finding s.args.lengths.now s.args.numbers.now) l.v l.invariant.3 none, c.before.before.before.before.at-vertex.ensures.2 ∙ l.invariant.4)
 
 same-length-2 : tie.Need-same-length-2 invariant-loop decreases-loop

@@ -6,7 +6,7 @@ use Prim.Native.Nat.{ℕ, ◌+◌, ◌-◌, ◌*◌, ◌≤◌, ◌<◌}
 use native.Mathlib.Omega.{arith}
 use lib.ListN.{take, drop, length-drop}
 use lib.Seq.{get_or-drop}
-use borrow.Author.Tests.{not_true, not_false}
+use borrow.Author.Tests.{not-true, not-false}
 use Rattle.columns.specs.Questions.{all}
 use Rattle.columns.proofs.Tests.{all_more, all-fails}
 use Rattle.text_input.specs.Line.{is_hex_digit}
@@ -34,14 +34,14 @@ returns : tie.Need-returns invariant-loop decreases-loop
 returns c =
     let s = c.before.before.before.before.before.before.args in
     let l = c.before.before.before.before.loop in
-    let fails = ap is_hex_digit (get_or-drop s.at s.text.now l.i 0) ∙ sym c.before.is-hex-digit.ensures ∙ not_true _ c.if1.true in
+    let fails = ap is_hex_digit (get_or-drop s.at s.text.now l.i 0) ∙ sym c.before.is-hex-digit.ensures ∙ not-true _ c.if1.true in
     sym (all-fails is_hex_digit (drop s.at s.text.now) 0 16 l.i (omega arith) (omega (arith, length-drop s.at s.text.now)) fails)
 
 loop-again : tie.Need-loop-preserved invariant-loop decreases-loop
 loop-again c =
     let s = c.before.before.before.before.before.before.args in
     let l = c.before.before.before.before.loop in
-    let passes = ap is_hex_digit (get_or-drop s.at s.text.now l.i 0) ∙ sym c.before.is-hex-digit.ensures ∙ not_false _ c.if1.false in
+    let passes = ap is_hex_digit (get_or-drop s.at s.text.now l.i 0) ∙ sym c.before.is-hex-digit.ensures ∙ not-false _ c.if1.false in
     (omega arith, all_more is_hex_digit (drop s.at s.text.now) 0 l.i (omega (arith, length-drop s.at s.text.now)) l.invariant.1 passes)
 
 returns-2 : tie.Need-returns-2 invariant-loop decreases-loop

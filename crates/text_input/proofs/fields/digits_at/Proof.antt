@@ -3,7 +3,7 @@ use mathlib.Core.Path.{◌≡◌, sym, ◌∙◌}
 use Prim.Native.Nat.{ℕ, ◌+◌, ◌-◌, ◌*◌, ◌≤◌, ◌<◌}
 use native.Mathlib.Omega.{arith}
 use lib.ListN.{length, drop, length-drop}
-use borrow.Author.Tests.{not_true, not_false}
+use borrow.Author.Tests.{not-true, not-false}
 use Rattle.text_input.specs.Line.{digits}
 use Rattle.text_input.proofs.Runs.{digits_within, seen_none, seen_next, seen-stop, seen_end}
 use Rattle.text_input.proofs.fields.digits_at.Statement.{statement}
@@ -22,10 +22,10 @@ add-loop : tie.Need-overflow-add-loop invariant-loop decreases-loop
 add-loop c = omega (arith, c.loop.invariant.0, c.loop.invariant.1, digits_within (drop c.before.before.args.at c.before.before.args.text.now), length-drop c.before.before.args.at c.before.before.args.text.now, c.before.before.requires)
 
 returns : tie.Need-returns invariant-loop decreases-loop
-returns c = (seen-stop c.before.before.before.before.before.before.args.text.now c.before.before.before.before.before.before.args.at c.before.before.before.before.loop.n c.before.before.before.loop-test.true (sym c.before.is_digit.ensures ∙ not_true _ c.if1.true) c.before.before.before.before.loop.invariant.1, omega arith)
+returns c = (seen-stop c.before.before.before.before.before.before.args.text.now c.before.before.before.before.before.before.args.at c.before.before.before.before.loop.n c.before.before.before.loop-test.true (sym c.before.is_digit.ensures ∙ not-true _ c.if1.true) c.before.before.before.before.loop.invariant.1, omega arith)
 
 loop-again : tie.Need-loop-preserved invariant-loop decreases-loop
-loop-again c = (omega arith, seen_next c.before.before.before.before.before.before.args.text.now c.before.before.before.before.before.before.args.at c.before.before.before.before.loop.n c.before.before.before.loop-test.true (sym c.before.is_digit.ensures ∙ not_false _ c.if1.false) c.before.before.before.before.loop.invariant.1)
+loop-again c = (omega arith, seen_next c.before.before.before.before.before.before.args.text.now c.before.before.before.before.before.before.args.at c.before.before.before.before.loop.n c.before.before.before.loop-test.true (sym c.before.is_digit.ensures ∙ not-false _ c.if1.false) c.before.before.before.before.loop.invariant.1)
 
 returns-2 : tie.Need-returns-2 invariant-loop decreases-loop
 returns-2 c =

@@ -7,4 +7,4 @@ use Rattle.columns_room.proofs.long_enough.Goals as goal
 
 pub returns : goal.returns
 unfolding long_enough
-returns c = c.both.ensures ∙ ap (λ (b : Bool). leb c.args.vertices c.args.vertex_room_holds && b) c.both-rest.ensures
+returns c = c.both.ensures ∙ ap (λ (b : Bool). leb c.args.vertices c.args.vertex_room && b) c.both-rest.ensures

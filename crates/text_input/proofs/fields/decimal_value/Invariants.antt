@@ -1,0 +1,12 @@
+-- `text_input::fields::decimal_value` meets its contract. Invariant: v is what the first i digits write, and at most 9 digits fit a u32. Assumes nothing.
+use mathlib.Core.Path.{◌≡◌}
+use Prim.Native.Nat.{◌-◌, ◌≤◌}
+use lib.ListN.{take, drop}
+use Rattle.text_input.specs.Line.{digit_of, number}
+use Rattle.text_input.proofs.fields.decimal_value.Given as goal
+
+abbrev pub invariant-loop-i : goal.invariant-loop-i
+invariant-loop-i l = (l.i ≤ l.n) × (l.v ≡ number 10 digit_of 0 (take l.i (drop l.at l.text)))
+
+abbrev pub decreases-loop-i : goal.decreases-loop-i
+decreases-loop-i l = l.n - l.i

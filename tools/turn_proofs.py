@@ -382,7 +382,7 @@ class Function:
             if depth > 8:
                 return text
             for name, d in context.items():
-                rx = re.compile(r"(?<![.\w'-])" + re.escape(name) + r"(?=[\s)])")
+                rx = re.compile(r"(?<![.\w'-])" + re.escape(name) + r"(?=[\s)])(?! =)")
                 while True:
                     m = rx.search(text)
                     if not m:

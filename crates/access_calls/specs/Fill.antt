@@ -1,6 +1,5 @@
 -- What fill_vertices asks and leaves.
 use Rattle.std.specs.Prelude.{ℕ, ◌≡◌, Bool, ◌&&◌, List, length, replicate, Float}
-use Rattle.std.specs.Borrow.{Bor}
 use Rattle.columns.specs.Lists.{after}
 use Rattle.columns.specs.Questions.{ask}
 use Rattle.columns_answers.specs.Said.{Answered}
@@ -27,8 +26,8 @@ vertices i j t boundary defect lengths numbers =
     record { pos_i = i; pos_j = j; pos_t = t; boundary = boundary; defect = defect; list_lengths = lengths; neighbor_numbers = numbers }
 
 -- Records, on vertices and on neighbour lists: likewise, lent or left by reference.
-abbrev pub vertices_in : (i j t : Bor (List Float)) (boundary defect lengths numbers : Bor (List ℕ)) → Vertices
-vertices_in i j t boundary defect lengths numbers = vertices i.now j.now t.now boundary.now defect.now lengths.now numbers.now
+abbrev pub vertices_in : (i j t : List Float) (boundary defect lengths numbers : List ℕ) → Vertices
+vertices_in i j t boundary defect lengths numbers = vertices i j t boundary defect lengths numbers
 
 -- Questions at the door, 6: vertex columns as long as the vertices.
 unfoldable pub vertex_columns_long : ℕ → Vertices → Bool

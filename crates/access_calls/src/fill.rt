@@ -25,7 +25,7 @@ fn vertex_columns_long(
     list_lengths: &[u32],
     neighbor_numbers: &[u32],
 ) -> bool
-    ensures { result ≡ vertex_columns_long vertex_num (vertices_in pos_i.entry pos_j.entry pos_t.entry boundary.entry defect.entry list_lengths.entry neighbor_numbers.entry) }
+    ensures { result ≡ vertex_columns_long vertex_num (vertices_in pos_i.now pos_j.now pos_t.now boundary.now defect.now list_lengths.now neighbor_numbers.now) }
 {
     let n = vertex_num as usize;
     let positions = three_long(n, pos_i.len(), pos_j.len(), pos_t.len());
@@ -47,7 +47,7 @@ fn fill_refusal(
     list_lengths: &[u32],
     neighbor_numbers: &[u32],
 ) -> u32
-    ensures { result ≡ fill_refusal vertex_num edge_num ends_a.now ends_b.now (vertices_in pos_i.entry pos_j.entry pos_t.entry boundary.entry defect.entry list_lengths.entry neighbor_numbers.entry) }
+    ensures { result ≡ fill_refusal vertex_num edge_num ends_a.now ends_b.now (vertices_in pos_i.now pos_j.now pos_t.now boundary.now defect.now list_lengths.now neighbor_numbers.now) }
 {
     let vertices = vertex_columns_long(
         vertex_num,
@@ -118,8 +118,8 @@ pub fn fill_vertices(
     neighbor_numbers: &mut [u32],
 ) -> Done
     ensures { FilledVertices vertex_num edge_num ends_a.now ends_b.now
-        (vertices_in pos_i.entry pos_j.entry pos_t.entry boundary.entry defect.entry list_lengths.entry neighbor_numbers.entry)
-        (vertices_in pos_i.exit pos_j.exit pos_t.exit boundary.exit defect.exit list_lengths.exit neighbor_numbers.exit)
+        (vertices_in pos_i.old pos_j.old pos_t.old boundary.old defect.old list_lengths.old neighbor_numbers.old)
+        (vertices_in pos_i.new pos_j.new pos_t.new boundary.new defect.new list_lengths.new neighbor_numbers.new)
         result }
 {
     let number = fill_refusal(

@@ -19,8 +19,8 @@ pub extern "C" fn moldingcress_fill_vertices(
     neighbor_numbers: &mut [u32],
 ) -> u32
     ensures { Reported ReportsDone (λ r. FilledVertices vertex_num edge_num ends_a.now ends_b.now
-        (vertices_in pos_i.entry pos_j.entry pos_t.entry boundary.entry defect.entry list_lengths.entry neighbor_numbers.entry)
-        (vertices_in pos_i.exit pos_j.exit pos_t.exit boundary.exit defect.exit list_lengths.exit neighbor_numbers.exit)
+        (vertices_in pos_i.old pos_j.old pos_t.old boundary.old defect.old list_lengths.old neighbor_numbers.old)
+        (vertices_in pos_i.new pos_j.new pos_t.new boundary.new defect.new list_lengths.new neighbor_numbers.new)
         r) result }
 {
     done_number(access_calls::fill::fill_vertices(

@@ -44,8 +44,8 @@ pub extern "C" fn moldingcress_new(
     neighbor_numbers: &mut [u32],
 ) -> TwoCounts
     ensures { Reported ReportsCreated (λ r. NewCode kind d rounds probability max_half_weight
-        (code_in ends_a.entry ends_b.entry p.entry pe.entry half_weight.entry erasure.entry pos_i.entry pos_j.entry pos_t.entry boundary.entry defect.entry list_lengths.entry neighbor_numbers.entry)
-        (code_in ends_a.exit ends_b.exit p.exit pe.exit half_weight.exit erasure.exit pos_i.exit pos_j.exit pos_t.exit boundary.exit defect.exit list_lengths.exit neighbor_numbers.exit)
+        (code_in ends_a.old ends_b.old p.old pe.old half_weight.old erasure.old pos_i.old pos_j.old pos_t.old boundary.old defect.old list_lengths.old neighbor_numbers.old)
+        (code_in ends_a.new ends_b.new p.new pe.new half_weight.new erasure.new pos_i.new pos_j.new pos_t.new boundary.new defect.new list_lengths.new neighbor_numbers.new)
         r) result }
 {
     created_report(codes_calls::weighted::new(
@@ -95,8 +95,8 @@ pub extern "C" fn moldingcress_new_diagonal(
     neighbor_numbers: &mut [u32],
 ) -> TwoCounts
     ensures { Reported ReportsCreated (λ r. NewDiagonal d rounds probability (diagonal_from has_diagonal diagonal) max_half_weight
-        (code_in ends_a.entry ends_b.entry p.entry pe.entry half_weight.entry erasure.entry pos_i.entry pos_j.entry pos_t.entry boundary.entry defect.entry list_lengths.entry neighbor_numbers.entry)
-        (code_in ends_a.exit ends_b.exit p.exit pe.exit half_weight.exit erasure.exit pos_i.exit pos_j.exit pos_t.exit boundary.exit defect.exit list_lengths.exit neighbor_numbers.exit)
+        (code_in ends_a.old ends_b.old p.old pe.old half_weight.old erasure.old pos_i.old pos_j.old pos_t.old boundary.old defect.old list_lengths.old neighbor_numbers.old)
+        (code_in ends_a.new ends_b.new p.new pe.new half_weight.new erasure.new pos_i.new pos_j.new pos_t.new boundary.new defect.new list_lengths.new neighbor_numbers.new)
         r) result }
 {
     created_report(codes_calls::weighted::new_diagonal(

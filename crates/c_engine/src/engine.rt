@@ -57,9 +57,9 @@ pub extern "C" fn moldingcress_load_erasures(
     list: &[u32],
 ) -> EngineReport
     ensures { Reported ReportsEngine (λ r. Modified (load_erasures list.now)
-        (engine_in (counts vertices edges entries) ends_a.entry ends_b.entry weights.entry boundary.entry log_edges.entry log_weights.entry)
+        (engine_in (counts vertices edges entries) ends_a.now ends_b.now weights.old boundary.now log_edges.old log_weights.old)
         r
-        (engine_in (kept (counts vertices edges entries) r) ends_a.entry ends_b.entry weights.exit boundary.entry log_edges.exit log_weights.exit)) result }
+        (engine_in (kept (counts vertices edges entries) r) ends_a.now ends_b.now weights.new boundary.now log_edges.new log_weights.new)) result }
 {
     engine_report(engine_calls::load_erasures(
         EngineCounts {
@@ -93,9 +93,9 @@ pub extern "C" fn moldingcress_load_dynamic_weights(
     values: &[Weight],
 ) -> EngineReport
     ensures { Reported ReportsEngine (λ r. Modified (load_weights list.now values.now)
-        (engine_in (counts vertices edges entries) ends_a.entry ends_b.entry weights.entry boundary.entry log_edges.entry log_weights.entry)
+        (engine_in (counts vertices edges entries) ends_a.now ends_b.now weights.old boundary.now log_edges.old log_weights.old)
         r
-        (engine_in (kept (counts vertices edges entries) r) ends_a.entry ends_b.entry weights.exit boundary.entry log_edges.exit log_weights.exit)) result }
+        (engine_in (kept (counts vertices edges entries) r) ends_a.now ends_b.now weights.new boundary.now log_edges.new log_weights.new)) result }
 {
     engine_report(engine_calls::load_dynamic_weights(
         EngineCounts {
@@ -128,9 +128,9 @@ pub extern "C" fn moldingcress_reset(
     log_weights: &[Weight],
 ) -> EngineReport
     ensures { Reported ReportsEngine (λ r. Modified reset
-        (engine_in (counts vertices edges entries) ends_a.entry ends_b.entry weights.entry boundary.entry log_edges.entry log_weights.entry)
+        (engine_in (counts vertices edges entries) ends_a.now ends_b.now weights.old boundary.now log_edges.now log_weights.now)
         r
-        (engine_in (kept (counts vertices edges entries) r) ends_a.entry ends_b.entry weights.exit boundary.entry log_edges.entry log_weights.entry)) result }
+        (engine_in (kept (counts vertices edges entries) r) ends_a.now ends_b.now weights.new boundary.now log_edges.now log_weights.now)) result }
 {
     engine_report(engine_calls::reset(
         EngineCounts {

@@ -37,10 +37,10 @@ pub extern "C" fn moldingcress_get_path(
     node: &mut [u64],
     leaf: &mut [u64],
 ) -> TwoCounts
-    ensures { Reported ReportsPath (λ r. GotPath (engine_in (counts vertices edges entries) ends_a.entry ends_b.entry weights.entry boundary.entry log_edges.entry log_weights.entry) a b r
+    ensures { Reported ReportsPath (λ r. GotPath (engine_in (counts vertices edges entries) ends_a.now ends_b.now weights.now boundary.now log_edges.now log_weights.now) a b r
         out_vertices.old out_vertices.new out_steps.old out_steps.new
-        (scratch_in neighbor_numbers.entry list_ends.entry status.entry weight.entry previous.entry node.entry leaf.entry)
-        (scratch_in neighbor_numbers.exit list_ends.exit status.exit weight.exit previous.exit node.exit leaf.exit)) result }
+        (scratch_in neighbor_numbers.old list_ends.old status.old weight.old previous.old node.old leaf.old)
+        (scratch_in neighbor_numbers.new list_ends.new status.new weight.new previous.new node.new leaf.new)) result }
 {
     path_report(query_paths::get_path(
         EngineCounts {
@@ -90,9 +90,9 @@ pub extern "C" fn moldingcress_crossing(
     node: &mut [u64],
     leaf: &mut [u64],
 ) -> OneCount
-    ensures { Reported ReportsCrossing (λ r. FoundCrossing (engine_in (counts vertices edges entries) ends_a.entry ends_b.entry weights.entry boundary.entry log_edges.entry log_weights.entry) r out_weight.old out_weight.new
-        (scratch_in neighbor_numbers.entry list_ends.entry status.entry weight.entry previous.entry node.entry leaf.entry)
-        (scratch_in neighbor_numbers.exit list_ends.exit status.exit weight.exit previous.exit node.exit leaf.exit)) result }
+    ensures { Reported ReportsCrossing (λ r. FoundCrossing (engine_in (counts vertices edges entries) ends_a.now ends_b.now weights.now boundary.now log_edges.now log_weights.now) r out_weight.old out_weight.new
+        (scratch_in neighbor_numbers.old list_ends.old status.old weight.old previous.old node.old leaf.old)
+        (scratch_in neighbor_numbers.new list_ends.new status.new weight.new previous.new node.new leaf.new)) result }
 {
     crossing_report(query_crossings::crossing(
         EngineCounts {

@@ -38,10 +38,10 @@ pub extern "C" fn moldingcress_fill_row(
     node: &mut [u64],
     leaf: &mut [u64],
 ) -> u32
-    ensures { Reported ReportsDone (λ r. FilledRow (engine_in (counts vertices edges entries) ends_a.entry ends_b.entry weights.entry boundary.entry log_edges.entry log_weights.entry) vertex nearest.now r
+    ensures { Reported ReportsDone (λ r. FilledRow (engine_in (counts vertices edges entries) ends_a.now ends_b.now weights.now boundary.now log_edges.now log_weights.now) vertex nearest.now r
         out.old out.new before.old before.new
-        (scratch_in neighbor_numbers.entry list_ends.entry status.entry weight.entry previous.entry node.entry leaf.entry)
-        (scratch_in neighbor_numbers.exit list_ends.exit status.exit weight.exit previous.exit node.exit leaf.exit)) result }
+        (scratch_in neighbor_numbers.old list_ends.old status.old weight.old previous.old node.old leaf.old)
+        (scratch_in neighbor_numbers.new list_ends.new status.new weight.new previous.new node.new leaf.new)) result }
 {
     done_number(prebuilt_calls::fill_row(
         EngineCounts {
@@ -92,10 +92,10 @@ pub extern "C" fn moldingcress_get_boundary_weight(
     node: &mut [u64],
     leaf: &mut [u64],
 ) -> BoundaryReport
-    ensures { Reported ReportsBoundary (λ r. GotBoundaryWeight (engine_in (counts vertices edges entries) ends_a.entry ends_b.entry weights.entry boundary.entry log_edges.entry log_weights.entry) vertex r
+    ensures { Reported ReportsBoundary (λ r. GotBoundaryWeight (engine_in (counts vertices edges entries) ends_a.now ends_b.now weights.now boundary.now log_edges.now log_weights.now) vertex r
         least.old least.new before.old before.new
-        (scratch_in neighbor_numbers.entry list_ends.entry status.entry weight.entry previous.entry node.entry leaf.entry)
-        (scratch_in neighbor_numbers.exit list_ends.exit status.exit weight.exit previous.exit node.exit leaf.exit)) result }
+        (scratch_in neighbor_numbers.old list_ends.old status.old weight.old previous.old node.old leaf.old)
+        (scratch_in neighbor_numbers.new list_ends.new status.new weight.new previous.new node.new leaf.new)) result }
 {
     boundary_report(prebuilt_calls::nearest::get_boundary_weight(
         EngineCounts {
@@ -146,10 +146,10 @@ pub extern "C" fn moldingcress_fill_boundaries(
     node: &mut [u64],
     leaf: &mut [u64],
 ) -> u32
-    ensures { Reported ReportsDone (λ r. FilledBoundaries (engine_in (counts vertices edges entries) ends_a.entry ends_b.entry weights.entry boundary.entry log_edges.entry log_weights.entry) r
+    ensures { Reported ReportsDone (λ r. FilledBoundaries (engine_in (counts vertices edges entries) ends_a.now ends_b.now weights.now boundary.now log_edges.now log_weights.now) r
         out_weight.old out_weight.new out_vertex.old out_vertex.new least.old least.new before.old before.new
-        (scratch_in neighbor_numbers.entry list_ends.entry status.entry weight.entry previous.entry node.entry leaf.entry)
-        (scratch_in neighbor_numbers.exit list_ends.exit status.exit weight.exit previous.exit node.exit leaf.exit)) result }
+        (scratch_in neighbor_numbers.old list_ends.old status.old weight.old previous.old node.old leaf.old)
+        (scratch_in neighbor_numbers.new list_ends.new status.new weight.new previous.new node.new leaf.new)) result }
 {
     done_number(prebuilt_calls::boundaries::fill_boundaries(
         EngineCounts {

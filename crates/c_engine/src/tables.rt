@@ -36,10 +36,10 @@ pub extern "C" fn moldingcress_all_edges_with_terminate(
     node: &mut [u64],
     leaf: &mut [u64],
 ) -> u32
-    ensures { Reported ReportsDone (λ r. FoundTable (engine_in (counts vertices edges entries) ends_a.entry ends_b.entry weights.entry boundary.entry log_edges.entry log_weights.entry) source (given_end has_end end) r
+    ensures { Reported ReportsDone (λ r. FoundTable (engine_in (counts vertices edges entries) ends_a.now ends_b.now weights.now boundary.now log_edges.now log_weights.now) source (given_end has_end end) r
         out_weight.old out_weight.new out_previous.old out_previous.new
-        (scratch_in neighbor_numbers.entry list_ends.entry status.entry weight.entry previous.entry node.entry leaf.entry)
-        (scratch_in neighbor_numbers.exit list_ends.exit status.exit weight.exit previous.exit node.exit leaf.exit)) result }
+        (scratch_in neighbor_numbers.old list_ends.old status.old weight.old previous.old node.old leaf.old)
+        (scratch_in neighbor_numbers.new list_ends.new status.new weight.new previous.new node.new leaf.new)) result }
 {
     done_number(query_tables::all_edges_with_terminate(
         EngineCounts {
@@ -90,10 +90,10 @@ pub extern "C" fn moldingcress_all_edges(
     node: &mut [u64],
     leaf: &mut [u64],
 ) -> u32
-    ensures { Reported ReportsDone (λ r. FoundTable (engine_in (counts vertices edges entries) ends_a.entry ends_b.entry weights.entry boundary.entry log_edges.entry log_weights.entry) source no_end r
+    ensures { Reported ReportsDone (λ r. FoundTable (engine_in (counts vertices edges entries) ends_a.now ends_b.now weights.now boundary.now log_edges.now log_weights.now) source no_end r
         out_weight.old out_weight.new out_previous.old out_previous.new
-        (scratch_in neighbor_numbers.entry list_ends.entry status.entry weight.entry previous.entry node.entry leaf.entry)
-        (scratch_in neighbor_numbers.exit list_ends.exit status.exit weight.exit previous.exit node.exit leaf.exit)) result }
+        (scratch_in neighbor_numbers.old list_ends.old status.old weight.old previous.old node.old leaf.old)
+        (scratch_in neighbor_numbers.new list_ends.new status.new weight.new previous.new node.new leaf.new)) result }
 {
     done_number(query_tables::all_edges(
         EngineCounts {

@@ -44,9 +44,9 @@ pub extern "C" fn moldingcress_reorder_vertices(
     scratch: &mut [u32],
 ) -> u32
     ensures { Reported ReportsDone (λ r. ReorderedVertices vertex_num edge_num order.now
-        (reorder_in ends_a.entry ends_b.entry boundary.entry defect.entry pos_i.entry pos_j.entry pos_t.entry list_lengths.entry neighbor_numbers.entry scratch.entry)
+        (reorder_in ends_a.old ends_b.old boundary.old defect.old pos_i.old pos_j.old pos_t.old list_lengths.old neighbor_numbers.old scratch.old)
         r
-        (reorder_in ends_a.exit ends_b.exit boundary.exit defect.exit pos_i.exit pos_j.exit pos_t.exit list_lengths.exit neighbor_numbers.exit scratch.exit)) result }
+        (reorder_in ends_a.new ends_b.new boundary.new defect.new pos_i.new pos_j.new pos_t.new list_lengths.new neighbor_numbers.new scratch.new)) result }
 {
     done_number(reorder_calls::reorder_vertices(
         vertex_num,

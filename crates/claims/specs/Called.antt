@@ -44,19 +44,19 @@ pub data OpenCalled : (vertices edges : ℕ) → GraphColumns → Engine → Typ
 pub data Called : Call → Engine → EngineAnswer → Engine → Type 0 where
   load_erasures_called : (κs : Lfts 7) (a : Dens κs erasures-kinds.ps) (r : EngineAnswer) (s : AtExit (ended_of 7 erasures-kinds.ps erasures-kinds.r) κs) → erasures-reads.Learnt κs a r s
       → Called (load_erasures a.1.1.1.1.1.1.1.0.now)
-      (engine_in a.0 a.1.0 a.1.1.0 a.1.1.1.0 a.1.1.1.1.0 a.1.1.1.1.1.0 a.1.1.1.1.1.1.0)
+      (engine_in a.0 a.1.0.now a.1.1.0.now a.1.1.1.0.now a.1.1.1.1.0.now a.1.1.1.1.1.0.now a.1.1.1.1.1.1.0.now)
       r
-      (engine_in (kept a.0 r) a.1.0 a.1.1.0 s.1.1.1.0 a.1.1.1.1.0 s.1.1.1.1.1.0 s.1.1.1.1.1.1.0)
+      (engine_in (kept a.0 r) a.1.0.now a.1.1.0.now s.1.1.1.0.now a.1.1.1.1.0.now s.1.1.1.1.1.0.now s.1.1.1.1.1.1.0.now)
   load_weights_called : (κs : Lfts 8) (a : Dens κs weights-kinds.ps) (r : EngineAnswer) (s : AtExit (ended_of 8 weights-kinds.ps weights-kinds.r) κs) → weights-reads.Learnt κs a r s
       → Called (load_weights a.1.1.1.1.1.1.1.0.now a.1.1.1.1.1.1.1.1.0.now)
-      (engine_in a.0 a.1.0 a.1.1.0 a.1.1.1.0 a.1.1.1.1.0 a.1.1.1.1.1.0 a.1.1.1.1.1.1.0)
+      (engine_in a.0 a.1.0.now a.1.1.0.now a.1.1.1.0.now a.1.1.1.1.0.now a.1.1.1.1.1.0.now a.1.1.1.1.1.1.0.now)
       r
-      (engine_in (kept a.0 r) a.1.0 a.1.1.0 s.1.1.1.0 a.1.1.1.1.0 s.1.1.1.1.1.0 s.1.1.1.1.1.1.0)
+      (engine_in (kept a.0 r) a.1.0.now a.1.1.0.now s.1.1.1.0.now a.1.1.1.1.0.now s.1.1.1.1.1.0.now s.1.1.1.1.1.1.0.now)
   reset_called : (κs : Lfts 6) (a : Dens κs reset-kinds.ps) (r : EngineAnswer) (s : AtExit (ended_of 6 reset-kinds.ps reset-kinds.r) κs) → reset-reads.Learnt κs a r s
       → Called reset
-      (engine_in a.0 a.1.0 a.1.1.0 a.1.1.1.0 a.1.1.1.1.0 a.1.1.1.1.1.0 a.1.1.1.1.1.1.0)
+      (engine_in a.0 a.1.0.now a.1.1.0.now a.1.1.1.0.now a.1.1.1.1.0.now a.1.1.1.1.1.0.now a.1.1.1.1.1.1.0.now)
       r
-      (engine_in (kept a.0 r) a.1.0 a.1.1.0 s.1.1.1.0 a.1.1.1.1.0 a.1.1.1.1.1.0 a.1.1.1.1.1.1.0)
+      (engine_in (kept a.0 r) a.1.0.now a.1.1.0.now s.1.1.1.0.now a.1.1.1.1.0.now a.1.1.1.1.1.0.now a.1.1.1.1.1.1.0.now)
 
 -- Engine, Crossing: a crossing that returned: the columns lent, which it only reads, the lengths of its own columns, the answer, and the weight column before and after.
 pub data CrossingCalled : Engine → OwnLengths → CrossingReply → (column₀ column : List ℤ) → Type 0 where

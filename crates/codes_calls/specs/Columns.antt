@@ -1,6 +1,5 @@
 -- The columns of a code, as document 01's "Records" have them, and question 6 about them.
 use Rattle.std.specs.Prelude.{ℕ, min, ◌≡◌, List, length, Float}
-use Rattle.std.specs.Borrow.{Bor}
 use Rattle.columns.specs.Lists.{after}
 unfoldable pub use Rattle.columns_room.specs.Room.{long_enough}
 
@@ -24,22 +23,22 @@ pub record CodeColumns : Type 0 where
   pub neighbor_numbers : List ℕ
 
 -- Records, on vertices, edges and neighbour lists: these columns, lent or left by reference.
-abbrev pub code_in : (ends_a ends_b : Bor (List ℕ)) (p pe : Bor (List Float)) (half_weight_holds erasure : Bor (List ℕ)) (pos-i pos-j pos-t : Bor (List Float))
-    (boundary defect list-lengths neighbor-numbers : Bor (List ℕ)) → CodeColumns
-code_in ends_a ends_b p pe half_weight_holds erasure pos-i pos-j pos-t boundary defect list-lengths neighbor-numbers = record {
-  ends_a = ends_a.now;
-  ends_b = ends_b.now;
-  p = p.now;
-  pe = pe.now;
-  half_weight = half_weight_holds.now;
-  erasure = erasure.now;
-  pos_i = pos-i.now;
-  pos_j = pos-j.now;
-  pos_t = pos-t.now;
-  boundary = boundary.now;
-  defect = defect.now;
-  list_lengths = list-lengths.now;
-  neighbor_numbers = neighbor-numbers.now;
+abbrev pub code_in : (ends_a ends_b : List ℕ) (p pe : List Float) (half_weight erasure : List ℕ) (pos_i pos_j pos_t : List Float)
+    (boundary defect list_lengths neighbor_numbers : List ℕ) → CodeColumns
+code_in ends_a ends_b p pe half_weight erasure pos_i pos_j pos_t boundary defect list_lengths neighbor_numbers = record {
+  ends_a = ends_a;
+  ends_b = ends_b;
+  p = p;
+  pe = pe;
+  half_weight = half_weight;
+  erasure = erasure;
+  pos_i = pos_i;
+  pos_j = pos_j;
+  pos_t = pos_t;
+  boundary = boundary;
+  defect = defect;
+  list_lengths = list_lengths;
+  neighbor_numbers = neighbor_numbers;
 }
 
 -- Questions at the door, 6: the least of six lengths.

@@ -105,8 +105,8 @@ fn create_in(
 ) -> Created
     requires { length list_ends.old ≡ 4096 }
     ensures { CreateCode kind d rounds
-        (code_in ends_a.entry ends_b.entry p.entry pe.entry half_weight.entry erasure.entry pos_i.entry pos_j.entry pos_t.entry boundary.entry defect.entry list_lengths.entry neighbor_numbers.entry)
-        (code_in ends_a.exit ends_b.exit p.exit pe.exit half_weight.exit erasure.exit pos_i.exit pos_j.exit pos_t.exit boundary.exit defect.exit list_lengths.exit neighbor_numbers.exit)
+        (code_in ends_a.old ends_b.old p.old pe.old half_weight.old erasure.old pos_i.old pos_j.old pos_t.old boundary.old defect.old list_lengths.old neighbor_numbers.old)
+        (code_in ends_a.new ends_b.new p.new pe.new half_weight.new erasure.new pos_i.new pos_j.new pos_t.new boundary.new defect.new list_lengths.new neighbor_numbers.new)
         result }
 {
     let edge_room = shortest_of(
@@ -170,8 +170,8 @@ pub fn create_code(
     neighbor_numbers: &mut [u32],
 ) -> Created
     ensures { CreateCode kind d rounds
-        (code_in ends_a.entry ends_b.entry p.entry pe.entry half_weight.entry erasure.entry pos_i.entry pos_j.entry pos_t.entry boundary.entry defect.entry list_lengths.entry neighbor_numbers.entry)
-        (code_in ends_a.exit ends_b.exit p.exit pe.exit half_weight.exit erasure.exit pos_i.exit pos_j.exit pos_t.exit boundary.exit defect.exit list_lengths.exit neighbor_numbers.exit)
+        (code_in ends_a.old ends_b.old p.old pe.old half_weight.old erasure.old pos_i.old pos_j.old pos_t.old boundary.old defect.old list_lengths.old neighbor_numbers.old)
+        (code_in ends_a.new ends_b.new p.new pe.new half_weight.new erasure.new pos_i.new pos_j.new pos_t.new boundary.new defect.new list_lengths.new neighbor_numbers.new)
         result }
 {
     let mut list_ends = [0u32; 4096];

@@ -23,9 +23,9 @@ pub fn load_erasures(
     list: &[u32],
 ) -> EngineAnswer
     ensures { Modified (load_erasures list.now)
-        (engine_in c ends_a.entry ends_b.entry weights.entry boundary.entry log_edges.entry log_weights.entry)
+        (engine_in c ends_a.now ends_b.now weights.old boundary.now log_edges.old log_weights.old)
         result
-        (engine_in (kept c result) ends_a.entry ends_b.entry weights.exit boundary.entry log_edges.exit log_weights.exit) }
+        (engine_in (kept c result) ends_a.now ends_b.now weights.new boundary.now log_edges.new log_weights.new) }
 {
     let no = load_erasures_refusal(
         c,
@@ -61,9 +61,9 @@ pub fn load_dynamic_weights(
     values: &[Weight],
 ) -> EngineAnswer
     ensures { Modified (load_weights list.now values.now)
-        (engine_in c ends_a.entry ends_b.entry weights.entry boundary.entry log_edges.entry log_weights.entry)
+        (engine_in c ends_a.now ends_b.now weights.old boundary.now log_edges.old log_weights.old)
         result
-        (engine_in (kept c result) ends_a.entry ends_b.entry weights.exit boundary.entry log_edges.exit log_weights.exit) }
+        (engine_in (kept c result) ends_a.now ends_b.now weights.new boundary.now log_edges.new log_weights.new) }
 {
     let no = load_weights_refusal(
         c,
@@ -98,9 +98,9 @@ pub fn reset(
     log_weights: &[Weight],
 ) -> EngineAnswer
     ensures { Modified reset
-        (engine_in c ends_a.entry ends_b.entry weights.entry boundary.entry log_edges.entry log_weights.entry)
+        (engine_in c ends_a.now ends_b.now weights.old boundary.now log_edges.now log_weights.now)
         result
-        (engine_in (kept c result) ends_a.entry ends_b.entry weights.exit boundary.entry log_edges.entry log_weights.entry) }
+        (engine_in (kept c result) ends_a.now ends_b.now weights.new boundary.now log_edges.now log_weights.now) }
 {
     let no = reset_refusal(c, ends_a, ends_b, weights, boundary, log_edges, log_weights);
     if no == 0 {

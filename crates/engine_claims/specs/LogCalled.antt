@@ -20,18 +20,18 @@ pub data LoadAccepted : (es : List ℕ) (x : ℕ → ℕ) (e₀ e : Engine) → 
   erasures_accepted : (κs : Lfts 7) (a : Dens κs erasures-kinds.ps) (c : EngineCounts) (s : AtExit (ended_of 7 erasures-kinds.ps erasures-kinds.r) κs)
       → erasures-reads.Learnt κs a (Counts c) s
       → LoadAccepted a.1.1.1.1.1.1.1.0.now erased
-      (engine_in a.0 a.1.0 a.1.1.0 a.1.1.1.0 a.1.1.1.1.0 a.1.1.1.1.1.0 a.1.1.1.1.1.1.0)
-      (engine_in c a.1.0 a.1.1.0 s.1.1.1.0 a.1.1.1.1.0 s.1.1.1.1.1.0 s.1.1.1.1.1.1.0)
+      (engine_in a.0 a.1.0.now a.1.1.0.now a.1.1.1.0.now a.1.1.1.1.0.now a.1.1.1.1.1.0.now a.1.1.1.1.1.1.0.now)
+      (engine_in c a.1.0.now a.1.1.0.now s.1.1.1.0.now a.1.1.1.1.0.now s.1.1.1.1.1.0.now s.1.1.1.1.1.1.0.now)
   weights_accepted : (κs : Lfts 8) (a : Dens κs weights-kinds.ps) (c : EngineCounts) (s : AtExit (ended_of 8 weights-kinds.ps weights-kinds.r) κs)
       → weights-reads.Learnt κs a (Counts c) s
       → LoadAccepted a.1.1.1.1.1.1.1.0.now (given a.1.1.1.1.1.1.1.1.0.now)
-      (engine_in a.0 a.1.0 a.1.1.0 a.1.1.1.0 a.1.1.1.1.0 a.1.1.1.1.1.0 a.1.1.1.1.1.1.0)
-      (engine_in c a.1.0 a.1.1.0 s.1.1.1.0 a.1.1.1.1.0 s.1.1.1.1.1.0 s.1.1.1.1.1.1.0)
+      (engine_in a.0 a.1.0.now a.1.1.0.now a.1.1.1.0.now a.1.1.1.1.0.now a.1.1.1.1.1.0.now a.1.1.1.1.1.1.0.now)
+      (engine_in c a.1.0.now a.1.1.0.now s.1.1.1.0.now a.1.1.1.1.0.now s.1.1.1.1.1.0.now s.1.1.1.1.1.1.0.now)
 
 -- Engine, Reset: an accepted reset: the engine's columns before and after.
 pub data ResetAccepted : (e₀ e : Engine) → Type 0 where
   reset_accepted : (κs : Lfts 6) (a : Dens κs reset-kinds.ps) (c : EngineCounts) (s : AtExit (ended_of 6 reset-kinds.ps reset-kinds.r) κs)
       → reset-reads.Learnt κs a (Counts c) s
       → ResetAccepted
-      (engine_in a.0 a.1.0 a.1.1.0 a.1.1.1.0 a.1.1.1.1.0 a.1.1.1.1.1.0 a.1.1.1.1.1.1.0)
-      (engine_in c a.1.0 a.1.1.0 s.1.1.1.0 a.1.1.1.1.0 a.1.1.1.1.1.0 a.1.1.1.1.1.1.0)
+      (engine_in a.0 a.1.0.now a.1.1.0.now a.1.1.1.0.now a.1.1.1.1.0.now a.1.1.1.1.1.0.now a.1.1.1.1.1.1.0.now)
+      (engine_in c a.1.0.now a.1.1.0.now s.1.1.1.0.now a.1.1.1.1.0.now a.1.1.1.1.1.0.now a.1.1.1.1.1.1.0.now)

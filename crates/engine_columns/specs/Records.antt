@@ -1,6 +1,5 @@
 -- The engine graph of document 01's "Records": the columns that a caller lends, with their counts.
 use Rattle.std.specs.Prelude.{ℕ, List, []}
-use Rattle.std.specs.Borrow.{Bor}
 use Rattle.columns_answers.specs.Said.{Said, accepts, refuses}
 use Rattle.engine_columns.specs.declared.EngineCounts.{EngineCounts}
 use Rattle.engine_columns.specs.declared.EngineAnswer.{EngineAnswer}
@@ -23,12 +22,12 @@ engine c a b w m e l =
     record { counts = c; ends_a = a; ends_b = b; weights = w; boundary = m; log_edges = e; log_weights = l }
 
 -- Records, on engine graphs: likewise, of columns lent or left by reference.
-abbrev pub engine_in : EngineCounts → (a b w m e l : Bor (List ℕ)) → Engine
-engine_in c a b w m e l = engine c a.now b.now w.now m.now e.now l.now
+abbrev pub engine_in : EngineCounts → (a b w m e l : List ℕ) → Engine
+engine_in c a b w m e l = engine c a b w m e l
 
 -- Records, on engine graphs: likewise, where no log is lent.
-abbrev pub engine_without_log : EngineCounts → (a b w m : Bor (List ℕ)) → Engine
-engine_without_log c a b w m = engine c a.now b.now w.now m.now [] []
+abbrev pub engine_without_log : EngineCounts → (a b w m : List ℕ) → Engine
+engine_without_log c a b w m = engine c a b w m [] []
 
 -- Records, on engine graphs: the numbers of vertices, edges and log entries together.
 abbrev pub counts : ℕ → ℕ → ℕ → EngineCounts

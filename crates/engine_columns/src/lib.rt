@@ -53,7 +53,7 @@ pub fn long_enough(
     log_weights: &[Weight],
     n: usize,
 ) -> bool
-    ensures { result ≡ engine_long n (engine_in c ends_a.entry ends_b.entry weights.entry boundary.entry log_edges.entry log_weights.entry) }
+    ensures { result ≡ engine_long n (engine_in c ends_a.now ends_b.now weights.now boundary.now log_edges.now log_weights.now) }
 {
     let long = columns_long(c.vertices, c.edges, ends_a, ends_b, weights, boundary);
     let e = has_room(c.entries, n, log_edges.len());
@@ -88,7 +88,7 @@ pub fn engine_sound(
     log_edges: &[u32],
     log_weights: &[Weight],
 ) -> bool
-    ensures { result ≡ engine_sound (engine_in c ends_a.entry ends_b.entry weights.entry boundary.entry log_edges.entry log_weights.entry) }
+    ensures { result ≡ engine_sound (engine_in c ends_a.now ends_b.now weights.now boundary.now log_edges.now log_weights.now) }
 {
     let graph = columns_sound(c.vertices, c.edges, ends_a, ends_b, weights, boundary);
     let log = log_sound(c.edges, c.entries, log_edges, log_weights);

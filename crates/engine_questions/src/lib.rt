@@ -21,7 +21,7 @@ pub fn load_erasures_refusal(
     log_weights: &[Weight],
     list: &[u32],
 ) -> u32
-    ensures { result ≡ engine_refusal (load_erasures list.now) (engine_in c ends_a.entry ends_b.entry weights.entry boundary.entry log_edges.entry log_weights.entry) }
+    ensures { result ≡ engine_refusal (load_erasures list.now) (engine_in c ends_a.now ends_b.now weights.now boundary.now log_edges.now log_weights.now) }
 {
     let long = long_enough(
         c,
@@ -55,7 +55,7 @@ pub fn load_weights_refusal(
     list: &[u32],
     values: &[Weight],
 ) -> u32
-    ensures { result ≡ engine_refusal (load_weights list.now values.now) (engine_in c ends_a.entry ends_b.entry weights.entry boundary.entry log_edges.entry log_weights.entry) }
+    ensures { result ≡ engine_refusal (load_weights list.now values.now) (engine_in c ends_a.now ends_b.now weights.now boundary.now log_edges.now log_weights.now) }
 {
     let many = equal(list.len(), values.len());
     let long = long_enough(
@@ -97,7 +97,7 @@ pub fn reset_refusal(
     log_edges: &[u32],
     log_weights: &[Weight],
 ) -> u32
-    ensures { result ≡ engine_refusal reset (engine_in c ends_a.entry ends_b.entry weights.entry boundary.entry log_edges.entry log_weights.entry) }
+    ensures { result ≡ engine_refusal reset (engine_in c ends_a.now ends_b.now weights.now boundary.now log_edges.now log_weights.now) }
 {
     let long = long_enough(
         c,

@@ -34,12 +34,12 @@ fn fill_one(
     node: &mut [u64],
     leaf: &mut [u64],
 )
-    requires fillable { Fillable (engine_in c ends_a ends_b weights boundary log_edges log_weights) (length out_weight.old) (length out_vertex.old) (length least.old) (length before.old) (scratch_lengths (scratch_in neighbor_numbers list_ends status weight previous node leaf)) }
+    requires fillable { Fillable (engine_in c ends_a.now ends_b.now weights.now boundary.now log_edges.now log_weights.now) (length out_weight.old) (length out_vertex.old) (length least.old) (length before.old) (scratch_lengths (scratch_in neighbor_numbers.old list_ends.old status.old weight.old previous.old node.old leaf.old)) }
     requires v_lt_vertices { v.0 < c.vertices }
-    ensures { OneFilled (engine_in c ends_a.entry ends_b.entry weights.entry boundary.entry log_edges.entry log_weights.entry) v.0
+    ensures { OneFilled (engine_in c ends_a.now ends_b.now weights.now boundary.now log_edges.now log_weights.now) v.0
         out_weight.old out_weight.new out_vertex.old out_vertex.new least.old least.new before.old before.new
-        (scratch_in neighbor_numbers.entry list_ends.entry status.entry weight.entry previous.entry node.entry leaf.entry)
-        (scratch_in neighbor_numbers.exit list_ends.exit status.exit weight.exit previous.exit node.exit leaf.exit) }
+        (scratch_in neighbor_numbers.old list_ends.old status.old weight.old previous.old node.old leaf.old)
+        (scratch_in neighbor_numbers.new list_ends.new status.new weight.new previous.new node.new leaf.new) }
 {
     all_edges(
         c,
@@ -91,11 +91,11 @@ fn fill_all(
     node: &mut [u64],
     leaf: &mut [u64],
 )
-    requires { Fillable (engine_in c ends_a ends_b weights boundary log_edges log_weights) (length out_weight.old) (length out_vertex.old) (length least.old) (length before.old) (scratch_lengths (scratch_in neighbor_numbers list_ends status weight previous node leaf)) }
-    ensures { AllFilled (engine_in c ends_a.entry ends_b.entry weights.entry boundary.entry log_edges.entry log_weights.entry)
+    requires { Fillable (engine_in c ends_a.now ends_b.now weights.now boundary.now log_edges.now log_weights.now) (length out_weight.old) (length out_vertex.old) (length least.old) (length before.old) (scratch_lengths (scratch_in neighbor_numbers.old list_ends.old status.old weight.old previous.old node.old leaf.old)) }
+    ensures { AllFilled (engine_in c ends_a.now ends_b.now weights.now boundary.now log_edges.now log_weights.now)
         out_weight.old out_weight.new out_vertex.old out_vertex.new least.old least.new before.old before.new
-        (scratch_in neighbor_numbers.entry list_ends.entry status.entry weight.entry previous.entry node.entry leaf.entry)
-        (scratch_in neighbor_numbers.exit list_ends.exit status.exit weight.exit previous.exit node.exit leaf.exit) }
+        (scratch_in neighbor_numbers.old list_ends.old status.old weight.old previous.old node.old leaf.old)
+        (scratch_in neighbor_numbers.new list_ends.new status.new weight.new previous.new node.new leaf.new) }
 {
     let mut v: u32 = 0;
     while v < c.vertices {
@@ -146,10 +146,10 @@ pub fn fill_boundaries(
     node: &mut [u64],
     leaf: &mut [u64],
 ) -> Done
-    ensures { FilledBoundaries (engine_in c ends_a.entry ends_b.entry weights.entry boundary.entry log_edges.entry log_weights.entry) result
+    ensures { FilledBoundaries (engine_in c ends_a.now ends_b.now weights.now boundary.now log_edges.now log_weights.now) result
         out_weight.old out_weight.new out_vertex.old out_vertex.new least.old least.new before.old before.new
-        (scratch_in neighbor_numbers.entry list_ends.entry status.entry weight.entry previous.entry node.entry leaf.entry)
-        (scratch_in neighbor_numbers.exit list_ends.exit status.exit weight.exit previous.exit node.exit leaf.exit) }
+        (scratch_in neighbor_numbers.old list_ends.old status.old weight.old previous.old node.old leaf.old)
+        (scratch_in neighbor_numbers.new list_ends.new status.new weight.new previous.new node.new leaf.new) }
 {
     let v = c.vertices as usize;
     let room = scratch_fits(

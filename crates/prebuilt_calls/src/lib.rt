@@ -39,10 +39,10 @@ pub fn fill_row(
     node: &mut [u64],
     leaf: &mut [u64],
 ) -> Done
-    ensures { FilledRow (engine_in c ends_a.entry ends_b.entry weights.entry boundary.entry log_edges.entry log_weights.entry) vertex.0 nearest.now result
+    ensures { FilledRow (engine_in c ends_a.now ends_b.now weights.now boundary.now log_edges.now log_weights.now) vertex.0 nearest.now result
         out.old out.new before.old before.new
-        (scratch_in neighbor_numbers.entry list_ends.entry status.entry weight.entry previous.entry node.entry leaf.entry)
-        (scratch_in neighbor_numbers.exit list_ends.exit status.exit weight.exit previous.exit node.exit leaf.exit) }
+        (scratch_in neighbor_numbers.old list_ends.old status.old weight.old previous.old node.old leaf.old)
+        (scratch_in neighbor_numbers.new list_ends.new status.new weight.new previous.new node.new leaf.new) }
 {
     let v = c.vertices as usize;
     let room = scratch_fits(

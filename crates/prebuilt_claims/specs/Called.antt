@@ -18,19 +18,19 @@ use Rattle.prebuilt_calls.specs.declared.nearest.BoundaryAnswer.{BoundaryAnswer}
 pub data BoundariesFilled : Engine → (weights : List ℤ) (vertices : List ℕ) → Type 0 where
   boundaries_filled : (κs : Lfts 17) (a : Dens κs boundaries-kinds.ps) (s : AtExit (ended_of 17 boundaries-kinds.ps boundaries-kinds.r) κs) → boundaries-reads.Learnt κs a Accepted s
       → BoundariesFilled
-      (engine_in a.0 a.1.0 a.1.1.0 a.1.1.1.0 a.1.1.1.1.0 a.1.1.1.1.1.0 a.1.1.1.1.1.1.0)
+      (engine_in a.0 a.1.0.now a.1.1.0.now a.1.1.1.0.now a.1.1.1.1.0.now a.1.1.1.1.1.0.now a.1.1.1.1.1.1.0.now)
       s.1.1.1.1.1.1.1.0.now s.1.1.1.1.1.1.1.1.0.now
 
 -- complete_graph.rs, by `fill_row`: the engine lent, the vertex, the column of boundary weights lent, and the row's column as the call left it.
 pub data RowFilled : Engine → (v : ℕ) (weights row : List ℤ) → Type 0 where
   row_filled : (κs : Lfts 16) (a : Dens κs row-kinds.ps) (s : AtExit (ended_of 16 row-kinds.ps row-kinds.r) κs) → row_reads.Learnt κs a Accepted s
       → RowFilled
-      (engine_in a.0 a.1.0 a.1.1.0 a.1.1.1.0 a.1.1.1.1.0 a.1.1.1.1.1.0 a.1.1.1.1.1.1.0)
+      (engine_in a.0 a.1.0.now a.1.1.0.now a.1.1.1.0.now a.1.1.1.1.0.now a.1.1.1.1.1.0.now a.1.1.1.1.1.1.0.now)
       a.1.1.1.1.1.1.1.0.0 a.1.1.1.1.1.1.1.1.0.now s.1.1.1.1.1.1.1.1.1.0.now
 
 -- complete_graph.rs, by `get_boundary_weight`: the engine lent, the vertex, and the answer.
 pub data BoundaryAsked : Engine → (v : ℕ) → BoundaryAnswer → Type 0 where
   boundary_asked : (κs : Lfts 15) (a : Dens κs nearest-kinds.ps) (r : BoundaryAnswer) (s : AtExit (ended_of 15 nearest-kinds.ps nearest-kinds.r) κs) → nearest-reads.Learnt κs a r s
       → BoundaryAsked
-      (engine_in a.0 a.1.0 a.1.1.0 a.1.1.1.0 a.1.1.1.1.0 a.1.1.1.1.1.0 a.1.1.1.1.1.1.0)
+      (engine_in a.0 a.1.0.now a.1.1.0.now a.1.1.1.0.now a.1.1.1.1.0.now a.1.1.1.1.1.0.now a.1.1.1.1.1.1.0.now)
       a.1.1.1.1.1.1.1.0.0 r

@@ -65,7 +65,7 @@ pub fn crossing_asked(
     out: usize,
     scratch: bool,
 ) -> u32
-    ensures { result ≡ crossing_asked (engine_in c ends_a.entry ends_b.entry weights.entry boundary.entry log_edges.entry log_weights.entry) scratch out 0 }
+    ensures { result ≡ crossing_asked (engine_in c ends_a.now ends_b.now weights.now boundary.now log_edges.now log_weights.now) scratch out 0 }
 {
     let fits = both(at_most(c.vertices as usize, out), scratch);
     query_refusal(

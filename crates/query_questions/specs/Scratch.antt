@@ -1,6 +1,5 @@
 -- The scratch columns of a query, and what it may leave in them.
 use Rattle.std.specs.Prelude.{ℕ, ◌+◌, ◌*◌, ◌≡◌, Bool, true, false, ◌&&◌, ◌||◌, List, length, drop, eqb, leb}
-use Rattle.std.specs.Borrow.{Bor}
 use Rattle.columns.specs.Lists.{each, over}
 use Rattle.query_queue.specs.Tree.{Tree}
 use Rattle.columns_neighbors.specs.Lists.{lists}
@@ -25,8 +24,8 @@ scratch_of neighbor_numbers list_ends status weight previous node leaf =
     record { neighbor_numbers = neighbor_numbers; list_ends = list_ends; status = status; weight = weight; previous = previous; node = node; leaf = leaf }
 
 -- Engine, Crossing, last sentence: likewise, of columns lent or left by reference.
-abbrev pub scratch_in : (neighbor_numbers list_ends status weight previous node leaf : Bor (List ℕ)) → ScratchColumns
-scratch_in neighbor_numbers list_ends status weight previous node leaf = scratch_of neighbor_numbers.now list_ends.now status.now weight.now previous.now node.now leaf.now
+abbrev pub scratch_in : (neighbor_numbers list_ends status weight previous node leaf : List ℕ) → ScratchColumns
+scratch_in neighbor_numbers list_ends status weight previous node leaf = scratch_of neighbor_numbers list_ends status weight previous node leaf
 
 -- Questions at the door, 6: the lengths of the scratch columns.
 pub record ScratchLengths : Type 0 where

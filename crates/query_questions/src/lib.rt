@@ -21,7 +21,7 @@ pub fn scratch_fits(
     node: &[u64],
     leaf: &[u64],
 ) -> bool
-    ensures { result ≡ scratch_fits c (scratch_in neighbor_numbers.entry list_ends.entry status.entry weight.entry previous.entry node.entry leaf.entry) }
+    ensures { result ≡ scratch_fits c (scratch_in neighbor_numbers.now list_ends.now status.now weight.now previous.now node.now leaf.now) }
 {
     let v = c.vertices as usize;
     let twice = at_most(2 * (c.edges as usize), neighbor_numbers.len());
@@ -56,7 +56,7 @@ pub fn query_refusal(
     in_range: bool,
     next: u32,
 ) -> u32
-    ensures { result ≡ query_refusal (engine_in c ends_a.entry ends_b.entry weights.entry boundary.entry log_edges.entry log_weights.entry) fits in_range next }
+    ensures { result ≡ query_refusal (engine_in c ends_a.now ends_b.now weights.now boundary.now log_edges.now log_weights.now) fits in_range next }
 {
     let long = long_enough(
         c,

@@ -51,16 +51,16 @@ scratch_of_lem c l h =
     }
 
 -- 6, 7 and 13 of any query
-pub record QueryAsked (e : Engine) (fits in_range : Bool) (next : ℕ) : Type 0 where
+pub record QueryAsked (e : Engine) (fits within : Bool) (next : ℕ) : Type 0 where
   pub long : Long 0 e
   pub fits_are : fits ≡ true
   pub sound : Sound e
-  pub in_range : in_range ≡ true
+  pub in_range : within ≡ true
   pub last : next ≡ 0
 
-pub query_of : (e : Engine) (fits in_range : Bool) (next : ℕ) → query_refusal e fits in_range next ≡ 0 → QueryAsked e fits in_range next
-query_of e fits in_range next z =
-    let q3 = ask in_range 13 next in
+pub query_of : (e : Engine) (fits within : Bool) (next : ℕ) → query_refusal e fits within next ≡ 0 → QueryAsked e fits within next
+query_of e fits within next z =
+    let q3 = ask within 13 next in
     let q2 = ask (engine_sound e) 7 q3 in
     let (p, q) = and_both (engine_long 0 e) fits (met (engine_long 0 e && fits) 5 q2 z) in
     let z2 = goes_on (engine_long 0 e && fits) 5 q2 z in
@@ -69,8 +69,8 @@ query_of e fits in_range next z =
       long = long_of 0 e p;
       fits_are = q;
       sound = sound_of e (met (engine_sound e) 6 q3 z2);
-      in_range = met in_range 12 next z3;
-      last = goes_on in_range 12 next z3;
+      in_range = met within 12 next z3;
+      last = goes_on within 12 next z3;
     }
 
 -- columns cut to their counts

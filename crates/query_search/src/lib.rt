@@ -90,10 +90,10 @@ pub fn search(
     leaf: &mut [u64],
 )
     requires boundary_value { (columns_long c.vertices c.edges ends_a.now ends_b.now weights.now boundary.now ≡ true) × (columns_sound c.vertices c.edges ends_a.now ends_b.now weights.now boundary.now ≡ true) }
-    requires leaf_value { (scratch_fits c (scratch_in neighbor_numbers list_ends status weight previous node leaf) ≡ true) × Starts origin c.vertices }
-    ensures { SearchDone (engine_without_log c ends_a.entry ends_b.entry weights.entry boundary.entry) origin
-        (scratch_in neighbor_numbers.entry list_ends.entry status.entry weight.entry previous.entry node.entry leaf.entry)
-        (scratch_in neighbor_numbers.exit list_ends.exit status.exit weight.exit previous.exit node.exit leaf.exit) }
+    requires leaf_value { (scratch_fits c (scratch_in neighbor_numbers.old list_ends.old status.old weight.old previous.old node.old leaf.old) ≡ true) × Starts origin c.vertices }
+    ensures { SearchDone (engine_without_log c ends_a.now ends_b.now weights.now boundary.now) origin
+        (scratch_in neighbor_numbers.old list_ends.old status.old weight.old previous.old node.old leaf.old)
+        (scratch_in neighbor_numbers.new list_ends.new status.new weight.new previous.new node.new leaf.new) }
 {
     let v = c.vertices as usize;
     let e = c.edges as usize;

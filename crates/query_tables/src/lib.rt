@@ -62,10 +62,10 @@ pub fn all_edges_with_terminate(
     node: &mut [u64],
     leaf: &mut [u64],
 ) -> Done
-    ensures { FoundTable (engine_in c ends_a.entry ends_b.entry weights.entry boundary.entry log_edges.entry log_weights.entry) source.0 end result
+    ensures { FoundTable (engine_in c ends_a.now ends_b.now weights.now boundary.now log_edges.now log_weights.now) source.0 end result
         out_weight.old out_weight.new out_previous.old out_previous.new
-        (scratch_in neighbor_numbers.entry list_ends.entry status.entry weight.entry previous.entry node.entry leaf.entry)
-        (scratch_in neighbor_numbers.exit list_ends.exit status.exit weight.exit previous.exit node.exit leaf.exit) }
+        (scratch_in neighbor_numbers.old list_ends.old status.old weight.old previous.old node.old leaf.old)
+        (scratch_in neighbor_numbers.new list_ends.new status.new weight.new previous.new node.new leaf.new) }
 {
     let v = c.vertices as usize;
     let room = scratch_fits(
@@ -139,10 +139,10 @@ pub fn all_edges(
     node: &mut [u64],
     leaf: &mut [u64],
 ) -> Done
-    ensures { FoundTable (engine_in c ends_a.entry ends_b.entry weights.entry boundary.entry log_edges.entry log_weights.entry) source.0 End.None result
+    ensures { FoundTable (engine_in c ends_a.now ends_b.now weights.now boundary.now log_edges.now log_weights.now) source.0 End.None result
         out_weight.old out_weight.new out_previous.old out_previous.new
-        (scratch_in neighbor_numbers.entry list_ends.entry status.entry weight.entry previous.entry node.entry leaf.entry)
-        (scratch_in neighbor_numbers.exit list_ends.exit status.exit weight.exit previous.exit node.exit leaf.exit) }
+        (scratch_in neighbor_numbers.old list_ends.old status.old weight.old previous.old node.old leaf.old)
+        (scratch_in neighbor_numbers.new list_ends.new status.new weight.new previous.new node.new leaf.new) }
 {
     all_edges_with_terminate(
         c,

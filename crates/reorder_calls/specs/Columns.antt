@@ -1,6 +1,5 @@
 -- `reorder_vertices`: boundary, defect, position, list length and neighbour list move with the vertex, edge ends are renamed.
 use Rattle.std.specs.Prelude.{ℕ, ◌≡◌, Bool, ◌&&◌, List, length, get_or, take, eqb, Float}
-use Rattle.std.specs.Borrow.{Bor}
 use Rattle.columns.specs.Lists.{joined, after}
 use Rattle.columns.specs.Questions.{ask, all_below, marks_sound}
 use Rattle.columns.specs.Places.{zero_float}
@@ -41,8 +40,8 @@ reorder_columns a b m d i j t l n s = record {
 }
 
 -- Records, on vertices and edges: likewise, lent or left by reference.
-abbrev pub reorder_in : (a b m d : Bor (List ℕ)) (i j t : Bor (List Float)) (lengths numbers scratch : Bor (List ℕ)) → ReorderColumns
-reorder_in a b m d i j t l n s = reorder_columns a.now b.now m.now d.now i.now j.now t.now l.now n.now s.now
+abbrev pub reorder_in : (a b m d : List ℕ) (i j t : List Float) (lengths numbers scratch : List ℕ) → ReorderColumns
+reorder_in a b m d i j t l n s = reorder_columns a b m d i j t l n s
 
 -- Sampling, syndromes, reordering, paragraph 2, sentence 5: the neighbour lists in the new order, one after another.
 unfoldable pub moved_lists : (order lengths numbers : List ℕ) → List ℕ

@@ -95,7 +95,7 @@ fn columns_long(
     neighbor_numbers: &[u32],
     scratch: &[u32],
 ) -> bool
-    ensures { result ≡ reorder_long vertex_num edge_num (reorder_in ends_a.entry ends_b.entry boundary.entry defect.entry pos_i.entry pos_j.entry pos_t.entry list_lengths.entry neighbor_numbers.entry scratch.entry) }
+    ensures { result ≡ reorder_long vertex_num edge_num (reorder_in ends_a.now ends_b.now boundary.now defect.now pos_i.now pos_j.now pos_t.now list_lengths.now neighbor_numbers.now scratch.now) }
 {
     let n = vertex_num as usize;
     let ends = two_long(edge_num as usize, ends_a.len(), ends_b.len());
@@ -163,7 +163,7 @@ fn reorder_refusal(
     neighbor_numbers: &[u32],
     scratch: &[u32],
 ) -> u32
-    ensures { result ≡ reorder_refusal vertex_num edge_num order.now (reorder_in ends_a.entry ends_b.entry boundary.entry defect.entry pos_i.entry pos_j.entry pos_t.entry list_lengths.entry neighbor_numbers.entry scratch.entry) }
+    ensures { result ≡ reorder_refusal vertex_num edge_num order.now (reorder_in ends_a.now ends_b.now boundary.now defect.now pos_i.now pos_j.now pos_t.now list_lengths.now neighbor_numbers.now scratch.now) }
 {
     let long = columns_long(
         vertex_num,
@@ -200,9 +200,9 @@ pub fn reorder_vertices(
     scratch: &mut [u32],
 ) -> Done
     ensures { ReorderedVertices vertex_num edge_num order.now
-        (reorder_in ends_a.entry ends_b.entry boundary.entry defect.entry pos_i.entry pos_j.entry pos_t.entry list_lengths.entry neighbor_numbers.entry scratch.entry)
+        (reorder_in ends_a.old ends_b.old boundary.old defect.old pos_i.old pos_j.old pos_t.old list_lengths.old neighbor_numbers.old scratch.old)
         result
-        (reorder_in ends_a.exit ends_b.exit boundary.exit defect.exit pos_i.exit pos_j.exit pos_t.exit list_lengths.exit neighbor_numbers.exit scratch.exit) }
+        (reorder_in ends_a.new ends_b.new boundary.new defect.new pos_i.new pos_j.new pos_t.new list_lengths.new neighbor_numbers.new scratch.new) }
 {
     let number = reorder_refusal(
         vertex_num,

@@ -41,7 +41,7 @@ fn crossing_in(
     leaf: &mut [u64],
 ) -> CrossingReply
     requires holds_weights { HoldsWeights code.kind code.d code.rounds code.probability code.max v e ends_a.now ends_b.now weights.now boundary.now }
-    requires scratch_room { ScratchRoom (length out_weight.old) (scratch_lengths (scratch_in neighbor_numbers list_ends status weight previous node leaf)) }
+    requires scratch_room { ScratchRoom (length out_weight.old) (scratch_lengths (scratch_in neighbor_numbers.old list_ends.old status.old weight.old previous.old node.old leaf.old)) }
     ensures { Replied code.kind code.d code.rounds code.probability code.max result }
 {
     let log_edges = [0u32; 1];

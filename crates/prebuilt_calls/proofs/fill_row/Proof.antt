@@ -28,10 +28,10 @@ use Rattle.prebuilt_calls.proofs.fill_row.Statement.{statement}
 use Rattle.prebuilt_calls.proofs.fill_row.Tie as tie
 
 engine-of : tie.Start → Engine
-engine-of s = engine_in s.args.c s.args.ends_a s.args.ends_b s.args.weights s.args.boundary s.args.log-edges s.args.log-weights
+engine-of s = engine_in s.args.c s.args.ends_a.now s.args.ends_b.now s.args.weights.now s.args.boundary.now s.args.log-edges.now s.args.log-weights.now
 
 scratch-at : tie.Start → Bool
-scratch-at s = scratch_fits s.args.c (scratch_in s.args.neighbor-numbers s.args.list-ends s.args.status s.args.weight s.args.previous s.args.node s.args.leaf)
+scratch-at s = scratch_fits s.args.c (scratch_in s.args.neighbor-numbers.now s.args.list-ends.now s.args.status.now s.args.weight.now s.args.previous.now s.args.node.now s.args.leaf.now)
 
 number_at : tie.Start → ℕ
 unfolding engine-of scratch-at
@@ -101,7 +101,7 @@ returns-2 c =
       out_after = sym (after-refused (number_at s) (row (graph_in (engine-of s)) (weights_in (engine-of s)) s.args.nearest.now s.args.vertex.0) s.args.out.now f);
       before_after = sym (after-refused c.before.query-refusal.result (table (graph_in (engine-of s)) (weights_in (engine-of s)) s.args.vertex.0 none).previous s.args.before.now c.if1.false);
       scratch_after = scratch_kept _ (graph_in (engine-of s)) (settled (graph_in (engine-of s)) (weights_in (engine-of s)) (only s.args.vertex.0) none)
-          (scratch_in s.args.neighbor-numbers s.args.list-ends s.args.status s.args.weight s.args.previous s.args.node s.args.leaf) (ap is_free d ∙ row_kept (engine-of s) (scratch-at s) s.args.vertex.0 _ _ _ f);
+          (scratch_in s.args.neighbor-numbers.now s.args.list-ends.now s.args.status.now s.args.weight.now s.args.previous.now s.args.node.now s.args.leaf.now) (ap is_free d ∙ row_kept (engine-of s) (scratch-at s) s.args.vertex.0 _ _ _ f);
     }
 
 pub fill-row-spec : {M : Type 1} → statement M

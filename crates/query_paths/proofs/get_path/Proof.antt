@@ -28,10 +28,10 @@ use Rattle.query_paths.proofs.get_path.Statement.{statement}
 use Rattle.query_paths.proofs.get_path.Tie as tie
 
 engine-of : tie.Start → Engine
-engine-of s = engine_in s.args.c s.args.ends_a s.args.ends_b s.args.weights s.args.boundary s.args.log-edges s.args.log-weights
+engine-of s = engine_in s.args.c s.args.ends_a.now s.args.ends_b.now s.args.weights.now s.args.boundary.now s.args.log-edges.now s.args.log-weights.now
 
 scratch-at : tie.Start → Bool
-scratch-at s = scratch_fits s.args.c (scratch_in s.args.neighbor-numbers s.args.list-ends s.args.status s.args.weight s.args.previous s.args.node s.args.leaf)
+scratch-at s = scratch_fits s.args.c (scratch_in s.args.neighbor-numbers.now s.args.list-ends.now s.args.status.now s.args.weight.now s.args.previous.now s.args.node.now s.args.leaf.now)
 
 number_at : tie.Start → ℕ
 unfolding engine-of scratch-at
@@ -41,7 +41,7 @@ asked_at : (s : tie.Start) → number_at s ≡ 0 → PathAsked (engine-of s) (sc
 unfolding number_at
 asked_at s z = path-asked (engine-of s) (scratch-at s) s.args.a.0 s.args.b.0 _ _ z
 
-fits : (s : tie.Start) → number_at s ≡ 0 → ScratchLong s.args.c (scratch_lengths (scratch_in s.args.neighbor-numbers s.args.list-ends s.args.status s.args.weight s.args.previous s.args.node s.args.leaf))
+fits : (s : tie.Start) → number_at s ≡ 0 → ScratchLong s.args.c (scratch_lengths (scratch_in s.args.neighbor-numbers.now s.args.list-ends.now s.args.status.now s.args.weight.now s.args.previous.now s.args.node.now s.args.leaf.now))
 unfolding scratch-at engine-of
 fits s z = scratch_of_lem _ _ (asked_at s z).scratch_is
 
@@ -59,7 +59,7 @@ unfolding engine-of
 state-at s = settled (graph_in (engine-of s)) (weights_in (engine-of s)) (only s.args.a.0) (some s.args.b.0)
 
 before-it : tie.Start → ScratchColumns
-before-it s = scratch_in s.args.neighbor-numbers s.args.list-ends s.args.status s.args.weight s.args.previous s.args.node s.args.leaf
+before-it s = scratch_in s.args.neighbor-numbers.now s.args.list-ends.now s.args.status.now s.args.weight.now s.args.previous.now s.args.node.now s.args.leaf.now
 
 after-it : tie.After-search → ScratchColumns
 after-it c = let l = c.search.new.1.1.1.1.1.1 in scratch_of l.0 l.1.0 l.1.1.0 l.1.1.1.0 l.1.1.1.1.0 l.1.1.1.1.1.0 l.1.1.1.1.1.1.0

@@ -55,4 +55,4 @@ returns c =
     let f = c.fill_lists.ensures in
     let stop = c.stop_in.ensures ∙ ap (stop_in s.args.origin) s.requires.boundary_len.1 in
     let state = r.by_index m ∙ (λ i. settled (graph_of (k i) a b m) w (sources (c.begin_status.ensures i)) (end_of (k i) (stop i))) ∙ first-settled n a b m s.requires.boundary_len.0 s.args.origin s.requires.boundary_len.2 w in
-    record { built = built_as k (record { numbers_are = f.numbers_are; ends_are = f.ends_are }); state = state; (let it : let s = =.before.before.before.before.before.before.before.before.before.before.before.before.before in Searchable (length =.begin-status.new.1.0) s.args.ends_a.now s.args.ends_b.now s.args.weights.now s.args.neighbor_numbers.now s.args.list_ends.now s.args.weight.now s.args.previous.now s.args.node.now s.args.leaf.now = searchable_as (sym =.begin-status.auto.1.0) =.before.before.before.before.before.before.before.before.before.before.before.before.before.requires.0 in it) ready_in state (ready_as k r.ready_2) }
+    record { built = built_as k (record { numbers_are = f.numbers_are; ends_are = f.ends_are }); state = state; ready = ready_in state (ready_as k r.ready_2) }

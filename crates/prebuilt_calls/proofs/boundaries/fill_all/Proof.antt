@@ -27,7 +27,7 @@ abbrev decreases-loop : tie.decreases-loop
 decreases-loop c ends_a ends_b weights boundary log-edges log-weights out-weight₀ out-vertex₀ least₀ before₀ numbers₀ list-ends₀ status₀ weight₀ previous₀ node₀ leaf₀ v₀ out-weight out-vertex least before numbers list-ends status weight previous node leaf v = c.vertices - v
 
 -- the engine graph lent is in range
-ok : (s : tie.Start invariant-loop decreases-loop) → GraphInRange (graph_in (engine_in s.args.c s.args.ends_a s.args.ends_b s.args.weights s.args.boundary s.args.log-edges s.args.log-weights))
+ok : (s : tie.Start invariant-loop decreases-loop) → GraphInRange (graph_in (engine_in s.args.c s.args.ends_a.now s.args.ends_b.now s.args.weights.now s.args.boundary.now s.args.log-edges.now s.args.log-weights.now))
 ok s = in_range _ (long_of 0 _ s.requires.long) (sound_of _ s.requires.is_sound_holds)
 
 loop-holds : tie.Need-loop-init invariant-loop decreases-loop
@@ -41,7 +41,7 @@ loop-again : tie.Need-loop-preserved invariant-loop decreases-loop
 loop-again c =
     let s = c.before.before.before.before.before.before.before.before.before.before.before.before.before.before.before.before.before.before.before.before.before.before.before.before.before.before.before.before.before.before.before.before.before.before.before.before.before.before.before.before.before.before.before.before.before.before.before.before.before.before in
     let at = c.before.before.before.before.before.before.before.before.before.before.before.before.before.before.before.before.before.before.before.before.before.before.before.before.before.before.before.before.before.before.before.before.before.before.loop in
-    let E = engine_in s.args.c s.args.ends_a s.args.ends_b s.args.weights s.args.boundary s.args.log-edges s.args.log-weights in
+    let E = engine_in s.args.c s.args.ends_a.now s.args.ends_b.now s.args.weights.now s.args.boundary.now s.args.log-edges.now s.args.log-weights.now in
     let o = c.before.before.before.before.before.before.before.before.before.before.before.before.before.before.before.before.before.before.before.before.fill_one.ensures in
     (omega (arith, c.before.before.before.before.before.before.before.before.before.before.before.before.before.before.before.before.before.before.before.before.before.before.before.before.before.before.before.before.before.before.before.before.if1.true), o.weights_after ∙ ap (λ l. set l at.v (boundary_weight (graph_in E) (weights_in E) at.v)) at.invariant.1 ∙ store-each s.args.out-weight.now at.v (boundary_weight (graph_in E) (weights_in E)), o.vertices_after_holds ∙ ap (λ l. set l at.v (boundary_vertex (graph_in E) (weights_in E) at.v)) at.invariant.2 ∙ store-each s.args.out-vertex.now at.v (boundary_vertex (graph_in E) (weights_in E)), c.before.before.before.before.before.before.before.before.before.before.before.before.before.before.before.before.before.before.before.before.fill_one.auto.1.1.1.1.1.1.1.1.0 ∙ at.invariant.3, c.before.before.before.before.before.before.before.before.before.before.before.before.before.before.before.before.before.before.before.before.fill_one.auto.1.1.1.1.1.1.1.1.1.0 ∙ at.invariant.4, c.before.before.before.before.before.before.before.before.before.before.before.before.before.before.before.before.before.before.before.before.fill_one.auto.1.1.1.1.1.1.1.1.1.1.0 ∙ at.invariant.5, c.before.before.before.before.before.before.before.before.before.before.before.before.before.before.before.before.before.before.before.before.fill_one.auto.1.1.1.1.1.1.1.1.1.1.1.0 ∙ at.invariant.6, c.before.before.before.before.before.before.before.before.before.before.before.before.before.before.before.before.before.before.before.before.fill_one.auto.1.1.1.1.1.1.1.1.1.1.1.1.0 ∙ at.invariant.7, c.before.before.before.before.before.before.before.before.before.before.before.before.before.before.before.before.before.before.before.before.fill_one.auto.1.1.1.1.1.1.1.1.1.1.1.1.1.0 ∙ at.invariant.8, c.before.before.before.before.before.before.before.before.before.before.before.before.before.before.before.before.before.before.before.before.fill_one.auto.1.1.1.1.1.1.1.1.1.1.1.1.1.1.0 ∙ at.invariant.9, c.before.before.before.before.before.before.before.before.before.before.before.before.before.before.before.before.before.before.before.before.fill_one.auto.1.1.1.1.1.1.1.1.1.1.1.1.1.1.1.0 ∙ at.invariant.10, c.before.before.before.before.before.before.before.before.before.before.before.before.before.before.before.before.before.before.before.before.fill_one.auto.1.1.1.1.1.1.1.1.1.1.1.1.1.1.1.1.0 ∙ at.invariant.11, c.before.before.before.before.before.before.before.before.before.before.before.before.before.before.before.before.before.before.before.before.fill_one.auto.1.1.1.1.1.1.1.1.1.1.1.1.1.1.1.1.1.0 ∙ at.invariant.12, c.before.before.before.before.before.before.before.before.before.before.before.before.before.before.before.before.before.before.before.before.fill_one.auto.1.1.1.1.1.1.1.1.1.1.1.1.1.1.1.1.1.1.0 ∙ at.invariant.13, tables_more E (ok s) at.v c.before.before.before.before.before.before.before.before.before.before.before.before.before.before.before.before.before.before.before.before.before.before.before.before.before.before.before.before.before.before.before.before.if1.true at.invariant.14 o.table_after)
 
@@ -49,12 +49,12 @@ returns : tie.Need-returns invariant-loop decreases-loop
 returns c =
     let s = c.before.before.before.before.before.before.before.before.before.before.before.before.before.before.before.before.before.before in
     let at = c.before.before.loop in
-    let E = engine_in s.args.c s.args.ends_a s.args.ends_b s.args.weights s.args.boundary s.args.log-edges s.args.log-weights in
+    let E = engine_in s.args.c s.args.ends_a.now s.args.ends_b.now s.args.weights.now s.args.boundary.now s.args.log-edges.now s.args.log-weights.now in
     let e : at.v ≡ s.args.c.vertices = omega arith in
     record {
       weights_after = at.invariant.1 ∙ ap (λ k. sets s.args.out-weight.now 0 (each k (boundary_weight (graph_in E) (weights_in E)))) e;
       vertices_after_holds = at.invariant.2 ∙ ap (λ k. sets s.args.out-vertex.now 0 (each k (boundary_vertex (graph_in E) (weights_in E)))) e;
-      tables_after = subst (λ k. TablesInside E k s.args.least.now at.least s.args.before.now at.before (scratch_in s.args.neighbor-numbers s.args.list-ends s.args.status s.args.weight s.args.previous s.args.node s.args.leaf) (scratch_of at.neighbor-numbers at.list-ends at.status at.weight at.previous at.node at.leaf)) e at.invariant.14;
+      tables_after = subst (λ k. TablesInside E k s.args.least.now at.least s.args.before.now at.before (scratch_in s.args.neighbor-numbers.now s.args.list-ends.now s.args.status.now s.args.weight.now s.args.previous.now s.args.node.now s.args.leaf.now) (scratch_of at.neighbor-numbers at.list-ends at.status at.weight at.previous at.node at.leaf)) e at.invariant.14;
     }
 
 pub fill-all-spec : {M : Type 1} → statement M

@@ -22,10 +22,10 @@ use Rattle.prebuilt_calls.proofs.boundaries.fill_boundaries.Statement.{statement
 use Rattle.prebuilt_calls.proofs.boundaries.fill_boundaries.Tie as tie
 
 engine-of : tie.Start → Engine
-engine-of s = engine_in s.args.c s.args.ends_a s.args.ends_b s.args.weights s.args.boundary s.args.log-edges s.args.log-weights
+engine-of s = engine_in s.args.c s.args.ends_a.now s.args.ends_b.now s.args.weights.now s.args.boundary.now s.args.log-edges.now s.args.log-weights.now
 
 scratch-at : tie.Start → Bool
-scratch-at s = scratch_fits s.args.c (scratch_in s.args.neighbor-numbers s.args.list-ends s.args.status s.args.weight s.args.previous s.args.node s.args.leaf)
+scratch-at s = scratch_fits s.args.c (scratch_in s.args.neighbor-numbers.now s.args.list-ends.now s.args.status.now s.args.weight.now s.args.previous.now s.args.node.now s.args.leaf.now)
 
 number_at : tie.Start → ℕ
 unfolding engine-of scratch-at
@@ -35,7 +35,7 @@ number_then : (t : tie.Then1) → number_at t.before.before.before.before.before
 unfolding number_at engine-of scratch-at
 number_then t = sym (t.before.query-refusal.ensures ∙ (λ i. query_refusal (engine-of t.before.before.before.before.before.before.before.before.before.before.before.before.before.before.before.before.before.before.before.before.before.before.before.before.before.before.before.before.before.before.before.before.before.before) ((t.before.before.both4.ensures ∙ (λ j. t.before.before.before.before.before.at-most3.ensures j && (t.before.before.before.both3.ensures ∙ (λ k. t.before.before.before.before.at-most4.ensures k && (t.before.before.before.before.before.before.both2.ensures ∙ (λ l. t.before.before.before.before.before.before.before.before.before.at_most.ensures l && (t.before.before.before.before.before.before.before.both.ensures ∙ (λ m. t.before.before.before.before.before.before.before.before.at-most2.ensures m && t.before.before.before.before.before.before.before.before.before.before.scratch_fits_holds.ensures m)) l)) k)) j)) i) true 0)) ∙ t.if1.true
 
-fillable_at : (s : tie.Start) → number_at s ≡ 0 → Fillable (engine-of s) (length s.args.out-weight.now) (length s.args.out-vertex.now) (length s.args.least.now) (length s.args.before.now) (scratch_lengths (scratch_in s.args.neighbor-numbers s.args.list-ends s.args.status s.args.weight s.args.previous s.args.node s.args.leaf))
+fillable_at : (s : tie.Start) → number_at s ≡ 0 → Fillable (engine-of s) (length s.args.out-weight.now) (length s.args.out-vertex.now) (length s.args.least.now) (length s.args.before.now) (scratch_lengths (scratch_in s.args.neighbor-numbers.now s.args.list-ends.now s.args.status.now s.args.weight.now s.args.previous.now s.args.node.now s.args.leaf.now))
 unfolding number_at engine-of scratch-at
 fillable_at s z = fillable (engine-of s) _ _ _ _ _ z
 
@@ -67,7 +67,7 @@ returns-2 c = let s : tie.Start = c.before.before.before.before.before.before.be
       answers = refuses-of d c.if1.false;
       weights_after = sym (after-refused (number_at s) (each s.args.c.vertices (boundary_weight (graph_in (engine-of s)) (weights_in (engine-of s)))) s.args.out-weight.now f);
       vertices_after_holds = sym (after-refused (number_at s) (each s.args.c.vertices (boundary_vertex (graph_in (engine-of s)) (weights_in (engine-of s)))) s.args.out-vertex.now f);
-      table_after = inside_kept c.before.query-refusal.result (engine-of s) (s.args.c.vertices - 1) s.args.least.now s.args.before.now (scratch_in s.args.neighbor-numbers s.args.list-ends s.args.status s.args.weight s.args.previous s.args.node s.args.leaf) c.if1.false
+      table_after = inside_kept c.before.query-refusal.result (engine-of s) (s.args.c.vertices - 1) s.args.least.now s.args.before.now (scratch_in s.args.neighbor-numbers.now s.args.list-ends.now s.args.status.now s.args.weight.now s.args.previous.now s.args.node.now s.args.leaf.now) c.if1.false
           (ap is_free d ∙ boundaries-kept (engine-of s) _ _ _ _ _ f);
     }
 

@@ -27,10 +27,10 @@ use Rattle.prebuilt_calls.proofs.boundaries.fill_one.Tie as tie
 use Rattle.query_questions.specs.Scratch.{scratch_in, scratch_fits}
 
 engine-of : tie.Start → Engine
-engine-of s = engine_in s.args.c s.args.ends_a s.args.ends_b s.args.weights s.args.boundary s.args.log-edges s.args.log-weights
+engine-of s = engine_in s.args.c s.args.ends_a.now s.args.ends_b.now s.args.weights.now s.args.boundary.now s.args.log-edges.now s.args.log-weights.now
 
 scratch-at : tie.Start → Bool
-scratch-at s = scratch_fits s.args.c (scratch_in s.args.neighbor-numbers s.args.list-ends s.args.status s.args.weight s.args.previous s.args.node s.args.leaf)
+scratch-at s = scratch_fits s.args.c (scratch_in s.args.neighbor-numbers.now s.args.list-ends.now s.args.status.now s.args.weight.now s.args.previous.now s.args.node.now s.args.leaf.now)
 
 number_at : tie.Start → ℕ
 unfolding engine-of scratch-at

@@ -1,0 +1,8 @@
+-- `sanity_verdicts::lists::vertices_by_stamps` meets its contract: the array of stamps holds 0 alone, and of no place the last one is known. Assumes nothing.
+use native.Mathlib.Omega.{arith}
+use Rattle.columns_pairs.proofs.PairTests.{zeros_at}
+use Rattle.sanity_verdicts.proofs.lists.vertices_by_stamps.Goals as goal
+
+pub vertices_in-requires : goal.vertices_in-requires
+vertices_in-requires c = let p = c.requires in
+    record { n_in_bounds = p; below = (record { most = λ x h. omega (arith, zeros_at 32768 x) }, record { long = omega arith; at = λ k h. absurd (omega arith) }) }

@@ -31,7 +31,7 @@ pub decimal_value-requires-3 : goal.decimal_value-requires-3
 decimal_value-requires-3 c = fit3 c.args.text.now c.digits_at-n1.result c.digits_at-n2.result c.digits_at-n3.result c.digits_at-n5.result c.digits_at-n1.ensures.0 c.digits_at-n2.ensures.0 c.digits_at-n3.ensures.0 c.digits_at-n5.ensures.0 ((let it : well_formed c.args.text.now ≡ true = sym ((let it : c.both-3.result ≡ well_formed c.args.text.now = let first = c.both-first.ensures ∙ ap (λ (b : Bool). c.decimal_sound-sound1.result && b) c.both.ensures in let last = c.both-last.ensures ∙ ap (λ (b : Bool). c.hex_sound-sound4.result && b) c.both-2.ensures in c.both-3.ensures ∙ (λ k. first k && last k) ∙ well c.args.text.now c.digits_at-n1.result c.digits_at-n2.result c.digits_at-n3.result c.digits_at-n5.result c.digits_at-n1.ensures.0 c.digits_at-n2.ensures.0 c.digits_at-n3.ensures.0 c.digits_at-n5.ensures.0 c.decimal_sound-sound1.ensures c.decimal_sound-sound2.ensures c.decimal_sound-sound3.ensures c.hex_sound-sound4.ensures c.decimal_sound-sound5.ensures c.is-ends.ensures in it)) ∙ c.if-not-both.false in it))
 
 pub hex_value-requires : goal.hex_value-requires
-hex_value-requires c = fit4 c.args.text.now c.digits_at-n1.result c.digits_at-n2.result c.digits_at-n3.result c.digits_at-n5.result c.digits_at-n1.ensures.0 c.digits_at-n2.ensures.0 c.digits_at-n3.ensures.0 c.digits_at-n5.ensures.0 ((let it : well_formed c.args.text.now ≡ true = sym ((let it : c.both-3.result ≡ well_formed c.args.text.now = let first = c.both-first.ensures ∙ ap (λ (b : Bool). c.decimal_sound-sound1.result && b) c.both.ensures in let last = c.both-last.ensures ∙ ap (λ (b : Bool). c.hex_sound-sound4.result && b) c.both-2.ensures in c.both-3.ensures ∙ (λ k. first k && last k) ∙ well c.args.text.now c.digits_at-n1.result c.digits_at-n2.result c.digits_at-n3.result c.digits_at-n5.result c.digits_at-n1.ensures.0 c.digits_at-n2.ensures.0 c.digits_at-n3.ensures.0 c.digits_at-n5.ensures.0 c.decimal_sound-sound1.ensures c.decimal_sound-sound2.ensures c.decimal_sound-sound3.ensures c.hex_sound-sound4.ensures c.decimal_sound-sound5.ensures c.is-ends.ensures in it)) ∙ c.if-not-both.false in it))
+hex_value-requires c = let both = fit4 c.args.text.now c.digits_at-n1.result c.digits_at-n2.result c.digits_at-n3.result c.digits_at-n5.result c.digits_at-n1.ensures.0 c.digits_at-n2.ensures.0 c.digits_at-n3.ensures.0 c.digits_at-n5.ensures.0 ((let it : well_formed c.args.text.now ≡ true = sym ((let it : c.both-3.result ≡ well_formed c.args.text.now = let first = c.both-first.ensures ∙ ap (λ (b : Bool). c.decimal_sound-sound1.result && b) c.both.ensures in let last = c.both-last.ensures ∙ ap (λ (b : Bool). c.hex_sound-sound4.result && b) c.both-2.ensures in c.both-3.ensures ∙ (λ k. first k && last k) ∙ well c.args.text.now c.digits_at-n1.result c.digits_at-n2.result c.digits_at-n3.result c.digits_at-n5.result c.digits_at-n1.ensures.0 c.digits_at-n2.ensures.0 c.digits_at-n3.ensures.0 c.digits_at-n5.ensures.0 c.decimal_sound-sound1.ensures c.decimal_sound-sound2.ensures c.decimal_sound-sound3.ensures c.hex_sound-sound4.ensures c.decimal_sound-sound5.ensures c.is-ends.ensures in it)) ∙ c.if-not-both.false in it)) in record { at_in_bounds = both.0; text_value = both.1 }
 
 pub decimal_value-requires-4 : goal.decimal_value-requires-4
 decimal_value-requires-4 c = fit5 c.args.text.now c.digits_at-n1.result c.digits_at-n2.result c.digits_at-n3.result c.digits_at-n5.result c.digits_at-n1.ensures.0 c.digits_at-n2.ensures.0 c.digits_at-n3.ensures.0 c.digits_at-n5.ensures.0 ((let it : well_formed c.args.text.now ≡ true = sym ((let it : c.both-3.result ≡ well_formed c.args.text.now = let first = c.both-first.ensures ∙ ap (λ (b : Bool). c.decimal_sound-sound1.result && b) c.both.ensures in let last = c.both-last.ensures ∙ ap (λ (b : Bool). c.hex_sound-sound4.result && b) c.both-2.ensures in c.both-3.ensures ∙ (λ k. first k && last k) ∙ well c.args.text.now c.digits_at-n1.result c.digits_at-n2.result c.digits_at-n3.result c.digits_at-n5.result c.digits_at-n1.ensures.0 c.digits_at-n2.ensures.0 c.digits_at-n3.ensures.0 c.digits_at-n5.ensures.0 c.decimal_sound-sound1.ensures c.decimal_sound-sound2.ensures c.decimal_sound-sound3.ensures c.hex_sound-sound4.ensures c.decimal_sound-sound5.ensures c.is-ends.ensures in it)) ∙ c.if-not-both.false in it))

@@ -306,6 +306,7 @@ class Function:
                 return parts
             fields, at = None, 0
             parts = [re.sub("[-_](lem|holds)$", "", x) if x not in rust and re.sub("[-_](lem|holds)$", "", x) in rust else x for x in parts]
+            parts = [{"List-set_of_Decides": "list-set", "IsEdge-count": "edge-count"}.get(x, x) for x in parts]
             parts = [{"well-formed": "well_formed", "type-inv": "type_inv"}.get(x, x) for x in parts]
             if norm(parts[0]) not in table and norm(re.sub("[-_](lem|holds)$", "", parts[0])) in table:
                 parts[0] = re.sub("[-_](lem|holds)$", "", parts[0])
@@ -519,9 +520,13 @@ class Function:
                         break
                     t.append(u[0])
                     left = u[1] if len(u) == 2 else "(" + ", ".join(u[1:]) + ")"
-                if not t and re.match(r"[a-z][\w'-]* ", core) and not pre.strip() and core.split()[0] not in ("let", "rw", "simp", "omega", "grind", "search", "record", "elim", "cc", "absurd", "subst"):
+                if not t and not pre.strip():
+                    lets = re.match(r"(?s)((?:let (?:(?!\blet\b).)*? in\s+)*)(.*)$", core)
+                    if lets and not re.search(r"\bin\s", lets[2]):
+                        pre, core = lets[1], lets[2].strip()
+                if not t and re.match(r"[a-z][\w'-]* ", core) and (not pre.strip() or pre.strip().endswith(" in")) and core.split()[0] not in ("let", "rw", "simp", "omega", "grind", "search", "record", "elim", "cc", "absurd", "subst"):
                     path = lambda k: ".1" * k + (".0" if k < len(fields) - 1 else "")
-                    bodytext = " let both = " + core + " in record { " + "; ".join("%s = both%s" % (f, path(k)) for k, f in enumerate(fields)) + " }"
+                    bodytext = " " + pre + "let both = " + core + " in record { " + "; ".join("%s = both%s" % (f, path(k)) for k, f in enumerate(fields)) + " }"
                 if t and (not pre.strip() or re.search(r"(\bin|(rw|simp) .*)$", pre.strip().split("\n")[-1].strip())):
                     bodytext = " " + pre + "record { " + "; ".join("%s = %s" % (f, x) for f, x in zip(fields, t)) + " }"
             words_ = ({w for x in extra for w in x.split()[1:]} | self.opened) - set(context)

@@ -51,7 +51,7 @@ returns-then-number-eq0 c =
     let z : q ≡ 0 = sym c.initializer_refusal-number.ensures ∙ c.if-number-eq0.true in
     let m = initializer_met v e from to z in
     let vs = listed v s.boundary.now in
-    let p = c.List-set_of_Decides.ensures in
+    let p = c.list_set.ensures in
     record {
       answers = rw p.0 (accepts-of z);
       ends_a_after = c.copy_u32.ensures ∙ copy-after e q s.to_a.now s.ends_a.now z m.a m.to_a;

@@ -21,7 +21,7 @@ returns-then-number-eq0 c =
     let q = get_marks_refusal s.sound s.n s.column.now s.list.now in
     let vs = listed s.n s.column.now in
     let z : q ≡ 0 = sym ((let it : let s = c.args in c.asked-number.result ≡ get_marks_refusal s.sound s.n s.column.now s.list.now = cc in it)) ∙ c.if-number-eq0.true in
-    let p = c.List-set_of_Decides.ensures in
+    let p = c.list_set.ensures in
     record {
       answers = rw p.0 (accepts-of z);
       list_after = p.1 ∙ sym (after-accepted q vs s.list.now z);

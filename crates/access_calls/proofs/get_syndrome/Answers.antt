@@ -44,7 +44,7 @@ returns-then-number-eq0 c =
     let z : q ≡ 0 = sym c.get_syndrome_refusal-number.ensures ∙ c.if-number-eq0.true in
     let ds = listed v s.defect.now in
     let es = listed e s.erasure.now in
-    let p = c.List-set_of_Decides.ensures in
+    let p = c.list_set-defects.ensures in
     let r = c.list_set-erasures.ensures in
     record {
       answers = rw (p.0, r.0) (accepts-of z);

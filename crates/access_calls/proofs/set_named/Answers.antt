@@ -12,7 +12,8 @@ use Rattle.access_calls.proofs.set_named.Goals as goal
 pub set_marks-requires : goal.set_marks-requires
 set_marks-requires c =
     let s = c.args in
-    set_met s.sound s.n s.list.now s.column.now (sym ((let it : let s = c.args in c.asked-number.result ≡ set_marks_refusal s.sound s.n s.list.now s.column.now = cc in it)) ∙ c.if-number-eq0.true)
+    let both = set_met s.sound s.n s.list.now s.column.now (sym ((let it : let s = c.args in c.asked-number.result ≡ set_marks_refusal s.sound s.n s.list.now s.column.now = cc in it)) ∙ c.if-number-eq0.true) in
+    record { n_in_bounds = both.0; by_index = both.1 }
 
 pub shape_of-column-then-number-eq0 : goal.shape_of-column-then-number-eq0
 shape_of-column-then-number-eq0 c = c.column-1.given

@@ -306,6 +306,7 @@ class Function:
                 return parts
             fields, at = None, 0
             parts = [re.sub("[-_](lem|holds)$", "", x) if x not in rust and re.sub("[-_](lem|holds)$", "", x) in rust else x for x in parts]
+            parts = [{"List-set_of_Decides": "list-set", "IsEdge-count": "edge-count"}.get(x, x) for x in parts]
             parts = [{"well-formed": "well_formed", "type-inv": "type_inv"}.get(x, x) for x in parts]
             if norm(parts[0]) not in table and norm(re.sub("[-_](lem|holds)$", "", parts[0])) in table:
                 parts[0] = re.sub("[-_](lem|holds)$", "", parts[0])
@@ -377,9 +378,34 @@ class Function:
             vs = "|".join(re.escape(v) for v in sorted(alias, key=len, reverse=True))
             return re.sub(r"(?<![.\w'-])(" + vs + r")((?:\." + W + r")+)", one, text)
 
+        def parts_of(sig):
+            """The binders of a signature: (names, type), and what is behind the last."""
+            out, depth, cur = [], 0, ""
+            k = 0
+            while k < len(sig):
+                ch = sig[k]
+                depth += {"(": 1, "{": 1, "[": 1, ")": -1, "}": -1, "]": -1}.get(ch, 0)
+                if ch == "→" and depth == 0:
+                    out.append(cur.strip())
+                    cur = ""
+                else:
+                    cur += ch
+                k += 1
+            binders = []
+            for b in out:
+                groups_ = re.findall(r"\(([^():]+) : ((?:[^()]|\((?:[^()]|\([^()]*\))*\))*)\)", b)
+                whole = re.fullmatch(r"(?:\([^():]+ : (?:[^()]|\((?:[^()]|\([^()]*\))*\))*\)\s*)+", b)
+                if whole:
+                    for names_, t in groups_:
+                        for x in names_.split():
+                            binders.append((x, t))
+                else:
+                    binders.append((None, b))
+            return binders, cur.strip()
+
         def inline(text, depth=0):
             """Writes out what takes a record of the old form."""
-            if depth > 8:
+            if depth > 12:
                 return text
             for name, d in context.items():
                 rx = re.compile(r"(?<![.\w'-])" + re.escape(name) + r"(?=[\s)])(?! =)")
@@ -388,21 +414,35 @@ class Function:
                     if not m:
                         break
                     rest = text[m.end() :]
-                    k = re.match(r"\s*(\((?:[^()]|\((?:[^()]|\([^()]*\))*\))*\)|" + W + r"(?:\." + W + r")*)", rest)
                     sig = " ".join(x.strip() for x in d[2])
                     lines = [x for x in d[3] if not x.startswith("unfolding")]
                     one = " ".join(x.strip() for x in lines)
-                    df = re.match(re.escape(name) + r" (" + W + r") = (.*)$", one, re.S)
-                    ty = re.match(r"(?:abbrev )?" + re.escape(name) + r" : \((" + W + r") : tie\.[^)]*\) → (.*)$", sig)
-                    if not k or not df or not ty:
+                    df = re.match(re.escape(name) + r"((?: (?!=)" + W + r")*) = (.*)$", one, re.S)
+                    ty = re.match(r"(?:(?:abbrev|pub|unfoldable) )*" + re.escape(name) + r" : (.*)$", sig)
+                    if not df or not ty:
                         self.look("cannot write out " + name)
                         return text
-                    arg = k[1]
-                    put = lambda s, v: re.sub(r"(?<![.\w'-])" + re.escape(v) + r"(?![\w'-])", lambda _: arg, s)
+                    params = df[1].split()
+                    binders, result = parts_of(ty[1])
+                    args_, at = [], 0
+                    for _ in params:
+                        k = re.match(r"\s*(\((?:[^()]|\((?:[^()]|\((?:[^()]|\([^()]*\))*\))*\))*\)(?:\.[\w'-]+)*|" + W + r"(?:\." + W + r")*)", rest[at:])
+                        if not k or k[1].startswith("="):
+                            break
+                        args_.append(re.sub(r"^\((" + W + r"(?:\." + W + r")*)\)$", r"\1", k[1]))
+                        at += k.end()
+                    if len(args_) != len(params) or len(binders) < len(params):
+                        self.look("cannot write out " + name)
+                        return text
+                    table_ = dict(zip(params, args_))
+                    typed_ = {b[0]: a for b, a in zip(binders, args_) if b[0]}
+                    put = lambda s, tb: re.sub(r"(?<![.\w'-])(" + "|".join(re.escape(v) for v in sorted(tb, key=len, reverse=True)) + r")(?![\w'-])", lambda q: tb[q[1]], s) if tb else s
                     self.opened |= {w for x in d[3] if x.startswith("unfolding") for w in x.split()[1:]}
-                    got = inline(put(df[2], df[1]), depth + 1)
-                    typ = inline(put(ty[2], ty[1]), depth + 1)
-                    text = text[: m.start()] + "(let it : " + typ + " = " + got + " in it)" + rest[k.end() :]
+                    left_ = "".join((" (%s : %s) →" % b if b[0] else " %s →" % b[1]) for b in binders[len(params) :])
+                    got = inline(put(df[2], table_), depth + 1)
+                    typ = inline(put((left_ + " " + result).strip(), typed_), depth + 1)
+                    plain_type = re.fullmatch(r"[\w'. -]+", typ) and len(typ.split()) == 1 or True
+                    text = text[: m.start()] + "(let it : " + typ + " = " + got + " in it)" + rest[at:]
             return text
 
         answers, used = [], set()
@@ -480,11 +520,17 @@ class Function:
                         break
                     t.append(u[0])
                     left = u[1] if len(u) == 2 else "(" + ", ".join(u[1:]) + ")"
+                if not t and not pre.strip():
+                    lets = re.match(r"(?s)((?:let (?:(?!\blet\b).)*? in\s+)*)(.*)$", core)
+                    if lets and not re.search(r"\bin\s", lets[2]):
+                        pre, core = lets[1], lets[2].strip()
+                if not t and re.match(r"[a-z][\w'-]* ", core) and (not pre.strip() or pre.strip().endswith(" in")) and core.split()[0] not in ("let", "rw", "simp", "omega", "grind", "search", "record", "elim", "cc", "absurd", "subst"):
+                    path = lambda k: ".1" * k + (".0" if k < len(fields) - 1 else "")
+                    bodytext = " " + pre + "let both = " + core + " in record { " + "; ".join("%s = both%s" % (f, path(k)) for k, f in enumerate(fields)) + " }"
                 if t and (not pre.strip() or re.search(r"(\bin|(rw|simp) .*)$", pre.strip().split("\n")[-1].strip())):
                     bodytext = " " + pre + "record { " + "; ".join("%s = %s" % (f, x) for f, x in zip(fields, t)) + " }"
-            if self.opened:
-                words = {w for x in extra for w in x.split()[1:]} | self.opened
-                extra = ["unfolding " + " ".join(sorted(words))]
+            words_ = ({w for x in extra for w in x.split()[1:]} | self.opened) - set(context)
+            extra = ["unfolding " + " ".join(sorted(words_))] if words_ else []
             answers.append((new, note, extra, var, bodytext))
         # answers that other answers cite
         given_name = {answer[n]: needs[n][1] for n in answer if answer[n] in bydecl}

@@ -1,6 +1,6 @@
 // The program `codelist`: reads one line, writes the listing or the refusal.
 #![tactic(auto)]
 
-fn main() {
-    text_program::run();
+fn main(rt: HostRuntime) {
+    text_program::run(&rt);
 }

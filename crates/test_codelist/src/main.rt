@@ -3,8 +3,7 @@
 
 ghost use Rattle.std.specs.Prelude.{◌≡◌, ◌+◌, ◌≤◌, min, length};
 
-use libc::STDIN_FILENO;
-use test_numbers::{checksum, show, show_line, wide, write};
+use test_numbers::{checksum, read_bytes, show, show_line, wide, write};
 use text_answer::{Listed, codelist};
 
 // Where the byte b first stands from a place on, or the length.
@@ -22,19 +21,19 @@ fn find(text: &[u8], from: usize, b: u8) -> usize
     i
 }
 
-fn show_text(text: &[u8], n: u32) {
+fn show_text(rt: &impl Print, text: &[u8], n: u32) {
     let first = find(text, 0, b'\n');
-    write(&text[..first]);
-    write(b" ");
-    show(wide(n));
-    show_line(checksum(text, n as usize));
+    write(rt, &text[..first]);
+    write(rt, b" ");
+    show(rt, wide(n));
+    show_line(rt, checksum(text, n as usize));
 }
 
-fn answer(input: &[u8], text: &mut [u8]) {
+fn answer(rt: &impl Print, input: &[u8], text: &mut [u8]) {
     let listed = codelist(input, text);
     match listed {
-        Listed::Text(n) => show_text(text, n),
-        Listed::Refused(number) => show_line(wide(number)),
+        Listed::Text(n) => show_text(rt, text, n),
+        Listed::Refused(number) => show_line(rt, wide(number)),
     }
 }
 
@@ -49,25 +48,30 @@ fn past(end: usize, length: usize) -> usize
 }
 
 // Each input of the list.
-fn answer_all(list: &[u8], text: &mut [u8]) {
+fn answer_all(rt: &impl Print, list: &[u8], text: &mut [u8]) {
     let mut at: usize = 0;
     while at < list.len() {
         let end = find(list, at, b'|');
-        answer(&list[at..end], text);
+        answer(rt, &list[at..end], text);
         at = past(end, list.len());
     }
 }
 
-fn read_and_answer(buffer: &mut [u8], text: &mut [u8], short: &mut [u8]) {
-    let n = io::read_full(STDIN_FILENO, buffer);
-    answer_all(&buffer[..n], text);
+fn read_and_answer(
+    rt: &(impl Print + Input),
+    buffer: &mut [u8],
+    text: &mut [u8],
+    short: &mut [u8],
+) {
+    let n = read_bytes(rt, buffer);
+    answer_all(rt, &buffer[..n], text);
     // a text column that is too short: 6
-    answer(&buffer[..n], short);
+    answer(rt, &buffer[..n], short);
 }
 
-fn main() {
-    let mut buffer = io::large_buffer();
+fn main(rt: HostRuntime) {
+    let mut buffer = [0u8; 65536];
     let mut text = [0u8; 320000];
     let mut short = [0u8; 100];
-    read_and_answer(&mut buffer, &mut text, &mut short);
+    read_and_answer(&rt, &mut buffer, &mut text, &mut short);
 }

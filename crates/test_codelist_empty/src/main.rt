@@ -1,6 +1,6 @@
 // `codelist` on an empty input.
 #![tactic(auto)]
 
-fn main() {
-    text_program::run();
+fn main(rt: HostRuntime) {
+    text_program::run(&rt);
 }

@@ -1,6 +1,6 @@
 // `codelist` on an input longer than its buffer: well-formed lines, more than one.
 #![tactic(auto)]
 
-fn main() {
-    text_program::run();
+fn main(rt: HostRuntime) {
+    text_program::run(&rt);
 }

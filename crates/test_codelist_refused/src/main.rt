@@ -1,6 +1,6 @@
 // `codelist` on a line that is refused: d is 4.
 #![tactic(auto)]
 
-fn main() {
-    text_program::run();
+fn main(rt: HostRuntime) {
+    text_program::run(&rt);
 }

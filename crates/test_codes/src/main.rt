@@ -10,7 +10,7 @@ use columns::questions::lesser;
 use test_numbers::{bits, checksum, mix, show_line, wide};
 
 // Prints the checksum of the first n numbers of a column.
-fn numbers(column: &[u32], n: usize) {
+fn numbers(rt: &impl Print, column: &[u32], n: usize) {
     let m = lesser(n, column.len());
     let mut h: u64 = 1;
     let mut i: usize = 0;
@@ -18,10 +18,10 @@ fn numbers(column: &[u32], n: usize) {
         h = mix(h, wide(column[i]));
         i += 1;
     }
-    show_line(h);
+    show_line(rt, h);
 }
 
-fn floats(column: &[f64], n: usize) {
+fn floats(rt: &impl Print, column: &[f64], n: usize) {
     let m = lesser(n, column.len());
     let mut h: u64 = 1;
     let mut i: usize = 0;
@@ -29,11 +29,12 @@ fn floats(column: &[f64], n: usize) {
         h = mix(h, bits(column[i]));
         i += 1;
     }
-    show_line(h);
+    show_line(rt, h);
 }
 
 // How many vertices and edges a code has, then a digest of each column.
 fn show_code(
+    rt: &impl Print,
     answer: Created,
     ends_a: &[u32],
     ends_b: &[u32],
@@ -48,23 +49,24 @@ fn show_code(
         Created::Code(v, e) => {
             let vertices = v as usize;
             let edges = e as usize;
-            show_line(wide(v));
-            show_line(wide(e));
-            numbers(ends_a, edges);
-            numbers(ends_b, edges);
-            show_line(checksum(boundary, vertices));
-            numbers(list_lengths, vertices);
-            numbers(neighbor_numbers, lesser(edges, 19685) * 2);
-            floats(pos_i, vertices);
-            floats(pos_j, vertices);
-            floats(pos_t, vertices);
+            show_line(rt, wide(v));
+            show_line(rt, wide(e));
+            numbers(rt, ends_a, edges);
+            numbers(rt, ends_b, edges);
+            show_line(rt, checksum(boundary, vertices));
+            numbers(rt, list_lengths, vertices);
+            numbers(rt, neighbor_numbers, lesser(edges, 19685) * 2);
+            floats(rt, pos_i, vertices);
+            floats(rt, pos_j, vertices);
+            floats(rt, pos_t, vertices);
         }
-        Created::Refused(number) => show_line(wide(number)),
+        Created::Refused(number) => show_line(rt, wide(number)),
     }
 }
 
 // A code in the first places of the columns: how many for the edges, for their second ends, for the vertices and for the lists.
 fn code_in(
+    rt: &impl Print,
     kind: u32,
     d: u32,
     rounds: u32,
@@ -107,6 +109,7 @@ fn code_in(
         &mut neighbor_numbers[..entries],
     );
     show_code(
+        rt,
         answer,
         &ends_a,
         &ends_b,
@@ -120,27 +123,27 @@ fn code_in(
 }
 
 // A code in columns for every code that fits.
-fn code(kind: u32, d: u32, rounds: u32) {
-    code_in(kind, d, rounds, 19685, 19685, 4096, 39370);
+fn code(rt: &impl Print, kind: u32, d: u32, rounds: u32) {
+    code_in(rt, kind, d, rounds, 19685, 19685, 4096, 39370);
 }
 
-fn main() {
-    code(1, 3, 0);
-    code(1, 4095, 0);
-    code(2, 3, 0);
-    code(2, 63, 0);
-    code(3, 3, 2);
-    code(3, 5, 40);
-    code(4, 3, 1);
-    code(4, 15, 16);
-    code(5, 3, 0);
-    code(5, 89, 0);
-    code(6, 3, 2);
-    code(6, 7, 100);
-    code(7, 4, 0);
-    code(1, 4, 1);
-    code(5, 3, 1);
-    code(2, 65, 0);
+fn main(rt: HostRuntime) {
+    code(&rt, 1, 3, 0);
+    code(&rt, 1, 4095, 0);
+    code(&rt, 2, 3, 0);
+    code(&rt, 2, 63, 0);
+    code(&rt, 3, 3, 2);
+    code(&rt, 3, 5, 40);
+    code(&rt, 4, 3, 1);
+    code(&rt, 4, 15, 16);
+    code(&rt, 5, 3, 0);
+    code(&rt, 5, 89, 0);
+    code(&rt, 6, 3, 2);
+    code(&rt, 6, 7, 100);
+    code(&rt, 7, 4, 0);
+    code(&rt, 1, 4, 1);
+    code(&rt, 5, 3, 1);
+    code(&rt, 2, 65, 0);
     // Columns with one place too few for the edges.
-    code_in(1, 3, 0, 3, 2, 4, 6);
+    code_in(&rt, 1, 3, 0, 3, 2, 4, 6);
 }

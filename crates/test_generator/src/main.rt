@@ -9,23 +9,23 @@ use sampling_generator::{DeterministicRng, Drawn, draw};
 use test_numbers::{bits, show_line};
 
 // The first n words of SplitMix64 from a seed.
-fn split_mix(seed: u64, n: u32) {
+fn split_mix(rt: &impl Print, seed: u64, n: u32) {
     let mut state = seed;
     let mut i: u32 = 0;
     while i < n {
         state = DeterministicRng::split_mix_next(state);
-        show_line(DeterministicRng::split_mix_word(state));
+        show_line(rt, DeterministicRng::split_mix_word(state));
         i += 1;
     }
 }
 
 // The next n words of a generator.
-fn words(start: DeterministicRng, n: u32) {
+fn words(rt: &impl Print, start: DeterministicRng, n: u32) {
     let mut rng = start;
     let mut i: u32 = 0;
     while i < n {
         let next = rng.next_u64();
-        show_line(next.word);
+        show_line(rt, next.word);
         rng = next.rng;
         i += 1;
     }
@@ -41,37 +41,38 @@ fn draw_lent(rng: DeterministicRng) -> Drawn
 }
 
 // The four state words that a seed gives, and the bits of the next n draws.
-fn draws(seed: u64, n: u32) {
+fn draws(rt: &impl Print, seed: u64, n: u32) {
     let start = DeterministicRng::seed_from_u64(seed);
-    show_line(start.s0);
-    show_line(start.s1);
-    show_line(start.s2);
-    show_line(start.s3);
+    show_line(rt, start.s0);
+    show_line(rt, start.s1);
+    show_line(rt, start.s2);
+    show_line(rt, start.s3);
     let mut rng = start;
     let mut i: u32 = 0;
     while i < n {
         let drawn = rng.next_f64();
-        show_line(bits(drawn.value));
+        show_line(rt, bits(drawn.value));
         rng = drawn.rng;
         i += 1;
     }
 }
 
 // The bits of the next n draws of the generator that a seed gives, lent for each.
-fn draws_lent(seed: u64, n: u32) {
+fn draws_lent(rt: &impl Print, seed: u64, n: u32) {
     let mut rng = DeterministicRng::seed_from_u64(seed);
     let mut i: u32 = 0;
     while i < n {
         let drawn = draw_lent(rng);
-        show_line(bits(drawn.value));
+        show_line(rt, bits(drawn.value));
         rng = drawn.rng;
         i += 1;
     }
 }
 
-fn main() {
-    split_mix(1477776061723855037, 50);
+fn main(rt: HostRuntime) {
+    split_mix(&rt, 1477776061723855037, 50);
     words(
+        &rt,
         DeterministicRng {
             s0: 1,
             s1: 2,
@@ -80,10 +81,10 @@ fn main() {
         },
         10,
     );
-    draws(0, 100);
-    draws(1, 100);
-    draws(0xffff_ffff_ffff_ffff, 100);
-    draws_lent(0, 100);
-    draws_lent(1, 100);
-    draws_lent(0xffff_ffff_ffff_ffff, 100);
+    draws(&rt, 0, 100);
+    draws(&rt, 1, 100);
+    draws(&rt, 0xffff_ffff_ffff_ffff, 100);
+    draws_lent(&rt, 0, 100);
+    draws_lent(&rt, 1, 100);
+    draws_lent(&rt, 0xffff_ffff_ffff_ffff, 100);
 }

@@ -1,10 +1,13 @@
 // What the test programs share: reading numbers, printing, checksums. A place past the end reads as 0 and is not written.
+// A failed read counts as the end of the input, and a failed write is passed over: what a program wrote is compared with its file stdout.
 #![tactic(auto)]
+
+ghost use Rattle.std.specs.Prelude.{◌≤◌, length};
 
 use columns::questions::lesser;
 use columns::{Done, TableWeight};
 use columns_answers::{ListCount, SyndromeCounts};
-use libc::{STDIN_FILENO, STDOUT_FILENO};
+use std::io::Read;
 
 pub fn at(list: &[u64], i: usize) -> u64 {
     if i < list.len() { list[i] } else { 0 }
@@ -87,10 +90,33 @@ fn read_numbers(text: &[u8], list: &mut [u64]) {
     }
 }
 
+// How many bytes one read put: 0 at the end of the input, and where it failed.
+fn read_some(input: &mut impl Read, places: &mut [u8]) -> usize
+    ensures { result ≤ length places.new }
+{
+    input.read(places).unwrap_or(0)
+}
+
+// Reads standard input until it ends, a read fails or the buffer is full, and returns how many bytes it put.
+pub fn read_bytes(rt: &impl Input, buffer: &mut [u8]) -> usize
+    ensures { result ≤ length buffer.new }
+{
+    let mut input = rt.reader();
+    let mut done: usize = 0;
+    while done < buffer.len() {
+        let n = read_some(&mut input, &mut buffer[done..]);
+        if n == 0 {
+            return done;
+        }
+        done += n;
+    }
+    done
+}
+
 // The decimal numbers of standard input.
-pub fn read_input(list: &mut [u64]) {
-    let mut buf = io::large_buffer();
-    let n = io::read_full(STDIN_FILENO, &mut buf);
+pub fn read_input(rt: &impl Input, list: &mut [u64]) {
+    let mut buf = [0u8; 65536];
+    let n = read_bytes(rt, &mut buf);
     read_numbers(&buf[..n], list);
 }
 
@@ -164,93 +190,91 @@ pub fn number_of(answer: Done) -> u32 {
     }
 }
 
-pub fn write(text: &[u8]) {
-    io::write_all(STDOUT_FILENO, text);
+pub fn write(rt: &impl Print, text: &[u8]) {
+    let _ = rt.write_all(text);
 }
 
-pub fn write_number(n: u32) {
-    io::print_decimal(STDOUT_FILENO, n as u64);
+pub fn write_number(rt: &impl Print, n: u32) {
+    let _ = print!(rt; "{n}");
 }
 
-pub fn end_line() {
-    write(b"\n");
+pub fn end_line(rt: &impl Print) {
+    write(rt, b"\n");
 }
 
 // A number and a blank.
-pub fn show(n: u64) {
-    io::print_decimal(STDOUT_FILENO, n);
-    write(b" ");
+pub fn show(rt: &impl Print, n: u64) {
+    let _ = print!(rt; "{n} ");
 }
 
 // A number on a line of its own.
-pub fn show_line(n: u64) {
-    io::print_decimal(STDOUT_FILENO, n);
-    end_line();
+pub fn show_line(rt: &impl Print, n: u64) {
+    let _ = println!(rt; "{n}");
 }
 
-pub fn show_done(answer: Done) {
-    show(wide(number_of(answer)));
-    end_line();
+pub fn show_done(rt: &impl Print, answer: Done) {
+    show(rt, wide(number_of(answer)));
+    end_line(rt);
 }
 
 // How many numbers a call listed, or the number of a refusal plus 100.
-pub fn show_count(answer: ListCount) {
+pub fn show_count(rt: &impl Print, answer: ListCount) {
     match answer {
-        ListCount::Count(n) => show(n as u64),
-        ListCount::Refused(number) => show(number as u64 + 100),
+        ListCount::Count(n) => show(rt, n as u64),
+        ListCount::Refused(number) => show(rt, number as u64 + 100),
     }
-    end_line();
+    end_line(rt);
 }
 
 // 0 and how many defects and erasures a call listed, or the number of a refusal.
-pub fn show_counts(answer: SyndromeCounts) {
+pub fn show_counts(rt: &impl Print, answer: SyndromeCounts) {
     match answer {
         SyndromeCounts::Counts { defects, erasures } => {
-            show(0);
-            show(defects as u64);
-            show(erasures as u64);
+            show(rt, 0);
+            show(rt, defects as u64);
+            show(rt, erasures as u64);
         }
-        SyndromeCounts::Refused(number) => show(number as u64),
+        SyndromeCounts::Refused(number) => show(rt, number as u64),
     }
-    end_line();
+    end_line(rt);
 }
 
 // The first n numbers of a column, or all where there are fewer.
-pub fn show_list(list: &[u32], n: usize) {
+pub fn show_list(rt: &impl Print, list: &[u32], n: usize) {
     let m = lesser(n, list.len());
     let mut i: usize = 0;
     while i < m {
-        show(wide(list[i]));
+        show(rt, wide(list[i]));
         i += 1;
     }
-    end_line();
+    end_line(rt);
 }
 
-pub fn show_bytes(bytes: &[u8], n: usize) {
+pub fn show_bytes(rt: &impl Print, bytes: &[u8], n: usize) {
     let m = lesser(n, bytes.len());
     let mut i: usize = 0;
     while i < m {
-        show(wide_byte(bytes[i]));
+        show(rt, wide_byte(bytes[i]));
         i += 1;
     }
-    end_line();
+    end_line(rt);
 }
 
 // A least weight, or none.
-pub fn show_weight(w: TableWeight) {
+pub fn show_weight(rt: &impl Print, w: TableWeight) {
     if w < 0 {
-        write(b"- ");
+        write(rt, b"- ");
     } else {
-        show(w as u64);
+        show(rt, w as u64);
     }
 }
 
-pub fn show_weights(list: &[TableWeight], n: usize) {
+pub fn show_weights(rt: &impl Print, list: &[TableWeight], n: usize) {
     let m = lesser(n, list.len());
     let mut i: usize = 0;
     while i < m {
-        show_weight(list[i]);
+        show_weight(rt, list[i]);
         i += 1;
     }
-    end_line();
+    end_line(rt);
 }

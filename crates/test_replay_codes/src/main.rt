@@ -53,21 +53,27 @@ fn edges_in(answer: Created) -> u32 {
 }
 
 // The counts and both lists.
-fn show_syndrome(answer: SyndromeCounts, defect_list: &[u32], erasure_list: &[u32]) {
+fn show_syndrome(
+    rt: &impl Print,
+    answer: SyndromeCounts,
+    defect_list: &[u32],
+    erasure_list: &[u32],
+) {
     match answer {
         SyndromeCounts::Counts { defects, erasures } => {
-            show_list(defect_list, defects as usize);
-            show_list(erasure_list, erasures as usize);
+            show_list(rt, defect_list, defects as usize);
+            show_list(rt, erasure_list, erasures as usize);
         }
         SyndromeCounts::Refused(number) => {
-            show(number as u64);
-            end_line();
+            show(rt, number as u64);
+            end_line(rt);
         }
     }
 }
 
 // The errors of a code from a seed.
 fn sampled(
+    rt: &impl Print,
     v: u32,
     e: u32,
     ends_a: &[u32],
@@ -97,11 +103,19 @@ fn sampled(
         &mut defect_list,
         &mut erasure_list,
     );
-    show_syndrome(syndrome, &defect_list, &erasure_list);
+    show_syndrome(rt, syndrome, &defect_list, &erasure_list);
 }
 
 // Errors on the listed edges where every vertex is a defect.
-fn flipped(v: u32, e: u32, ends_a: &[u32], ends_b: &[u32], boundary: &[u8], list: &[u32]) {
+fn flipped(
+    rt: &impl Print,
+    v: u32,
+    e: u32,
+    ends_a: &[u32],
+    ends_b: &[u32],
+    boundary: &[u8],
+    list: &[u32],
+) {
     let mut standing = [1u8; VERTICES];
     let erasure = [0u8; EDGES];
     let mut defect_list = [0u32; VERTICES];
@@ -118,11 +132,19 @@ fn flipped(v: u32, e: u32, ends_a: &[u32], ends_b: &[u32], boundary: &[u8], list
         &mut defect_list,
         &mut erasure_list,
     );
-    show_syndrome(syndrome, &defect_list, &erasure_list);
+    show_syndrome(rt, syndrome, &defect_list, &erasure_list);
 }
 
 // The syndrome of the listed edges.
-fn found(v: u32, e: u32, ends_a: &[u32], ends_b: &[u32], boundary: &[u8], list: &[u32]) {
+fn found(
+    rt: &impl Print,
+    v: u32,
+    e: u32,
+    ends_a: &[u32],
+    ends_b: &[u32],
+    boundary: &[u8],
+    list: &[u32],
+) {
     let mut defect_list = [0u32; VERTICES];
     let syndrome = sampling_calls::syndrome_of(
         v,
@@ -134,16 +156,17 @@ fn found(v: u32, e: u32, ends_a: &[u32], ends_b: &[u32], boundary: &[u8], list: 
         &mut defect_list,
     );
     match syndrome {
-        ListCount::Count(count) => show_list(&defect_list, count as usize),
+        ListCount::Count(count) => show_list(rt, &defect_list, count as usize),
         ListCount::Refused(number) => {
-            show(number as u64);
-            end_line();
+            show(rt, number as u64);
+            end_line(rt);
         }
     }
 }
 
 // The counts, and what is found without a change of the code.
 fn show_errors(
+    rt: &impl Print,
     v: u32,
     e: u32,
     ends_a: &[u32],
@@ -154,10 +177,11 @@ fn show_errors(
     erasure_probability: f64,
     list: &[u32],
 ) {
-    show(v as u64);
-    show(e as u64);
-    end_line();
+    show(rt, v as u64);
+    show(rt, e as u64);
+    end_line(rt);
     sampled(
+        rt,
         v,
         e,
         ends_a,
@@ -167,11 +191,12 @@ fn show_errors(
         probability,
         erasure_probability,
     );
-    flipped(v, e, ends_a, ends_b, boundary, list);
-    found(v, e, ends_a, ends_b, boundary, list);
+    flipped(rt, v, e, ends_a, ends_b, boundary, list);
+    found(rt, v, e, ends_a, ends_b, boundary, list);
 }
 
 fn show_code(
+    rt: &impl Print,
     v: u32,
     e: u32,
     ends_a: &[u32],
@@ -182,15 +207,16 @@ fn show_code(
 ) {
     let n = v as usize;
     let m = e as usize;
-    show_list(ends_a, m);
-    show_list(ends_b, m);
-    show_bytes(boundary, n);
-    show_list(lengths, n);
-    show_list(numbers, after(m, m));
+    show_list(rt, ends_a, m);
+    show_list(rt, ends_b, m);
+    show_bytes(rt, boundary, n);
+    show_list(rt, lengths, n);
+    show_list(rt, numbers, after(m, m));
 }
 
 // A code, its errors, and the code in another order of its vertices; an order of another length is refused.
 fn replay_code(
+    rt: &impl Print,
     kind: u32,
     d: u32,
     rounds: u32,
@@ -235,6 +261,7 @@ fn replay_code(
     let v = vertices_in(answer);
     let e = edges_in(answer);
     show_errors(
+        rt,
         v,
         e,
         &ends_a,
@@ -245,30 +272,34 @@ fn replay_code(
         erasure_probability,
         list,
     );
-    show_done(reorder_calls::reorder_vertices(
-        v,
-        e,
-        order,
-        &mut ends_a,
-        &mut ends_b,
-        &mut boundary,
-        &mut defect,
-        &mut pos_i,
-        &mut pos_j,
-        &mut pos_t,
-        &mut lengths,
-        &mut numbers,
-        &mut scratch,
-    ));
-    show_code(v, e, &ends_a, &ends_b, &boundary, &lengths, &numbers);
+    show_done(
+        rt,
+        reorder_calls::reorder_vertices(
+            v,
+            e,
+            order,
+            &mut ends_a,
+            &mut ends_b,
+            &mut boundary,
+            &mut defect,
+            &mut pos_i,
+            &mut pos_j,
+            &mut pos_t,
+            &mut lengths,
+            &mut numbers,
+            &mut scratch,
+        ),
+    );
+    show_code(rt, v, e, &ends_a, &ends_b, &boundary, &lengths, &numbers);
 }
 
-fn case(numbers: &[u64], from: usize) -> usize {
+fn case(rt: &impl Print, numbers: &[u64], from: usize) -> usize {
     let mut list = [0u32; NAMED];
     let mut order = [0u32; ORDERED];
     copy_u32(numbers, after(from, 6), &mut list, NAMED);
     copy_u32(numbers, after(from, 10), &mut order, ORDERED);
     replay_code(
+        rt,
         narrow_at(numbers, from),
         narrow_at(numbers, after(from, 1)),
         narrow_at(numbers, after(from, 2)),
@@ -281,18 +312,18 @@ fn case(numbers: &[u64], from: usize) -> usize {
     after(from, 34)
 }
 
-fn replay(numbers: &[u64]) {
+fn replay(rt: &impl Print, numbers: &[u64]) {
     let cases = size_at(numbers, 0);
     let mut place: usize = 1;
     let mut left = cases;
     while 0 < left {
-        place = case(numbers, place);
+        place = case(rt, numbers, place);
         left -= 1;
     }
 }
 
-fn main() {
+fn main(rt: HostRuntime) {
     let mut numbers = [0u64; 32768];
-    read_input(&mut numbers);
-    replay(&numbers);
+    read_input(&rt, &mut numbers);
+    replay(&rt, &numbers);
 }

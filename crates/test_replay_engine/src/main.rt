@@ -31,12 +31,12 @@ fn counts_after(c: EngineCounts, answer: EngineAnswer) -> EngineCounts {
     }
 }
 
-fn show_engine(answer: EngineAnswer) {
+fn show_engine(rt: &impl Print, answer: EngineAnswer) {
     match answer {
-        EngineAnswer::Counts(k) => show(0),
-        EngineAnswer::Refused(number) => show(number as u64),
+        EngineAnswer::Counts(k) => show(rt, 0),
+        EngineAnswer::Refused(number) => show(rt, number as u64),
     }
-    end_line();
+    end_line(rt);
 }
 
 // No end, or the end that a query names.
@@ -49,6 +49,7 @@ fn end_of(kind: u64, end: u32) -> End {
 
 // The table of a query, from columns that hold marks before it.
 fn table(
+    rt: &impl Print,
     c: EngineCounts,
     ends_a: &[u32],
     ends_b: &[u32],
@@ -69,46 +70,50 @@ fn table(
     let mut previous = [0u32; VERTICES];
     let mut node = [0u64; VERTICES];
     let mut leaf = [0u64; VERTICES];
-    show_done(query_tables::all_edges_with_terminate(
-        c,
-        ends_a,
-        ends_b,
-        weights,
-        boundary,
-        log_edges,
-        log_weights,
-        VertexIndex(source),
-        end_of(kind, end),
-        &mut out_weight,
-        &mut out_previous,
-        &mut numbers,
-        &mut list_ends,
-        &mut status,
-        &mut weight,
-        &mut previous,
-        &mut node,
-        &mut leaf,
-    ));
-    show_weights(&out_weight, c.vertices as usize);
-    show_list(&out_previous, c.vertices as usize);
+    show_done(
+        rt,
+        query_tables::all_edges_with_terminate(
+            c,
+            ends_a,
+            ends_b,
+            weights,
+            boundary,
+            log_edges,
+            log_weights,
+            VertexIndex(source),
+            end_of(kind, end),
+            &mut out_weight,
+            &mut out_previous,
+            &mut numbers,
+            &mut list_ends,
+            &mut status,
+            &mut weight,
+            &mut previous,
+            &mut node,
+            &mut leaf,
+        ),
+    );
+    show_weights(rt, &out_weight, c.vertices as usize);
+    show_list(rt, &out_previous, c.vertices as usize);
 }
 
 // A refusal's number, or 0 and the crossing weight.
-fn show_crossing(answer: CrossingReply) {
+fn show_crossing(rt: &impl Print, answer: CrossingReply) {
     match answer {
-        CrossingReply::Crossed(weight) => show_two(0, weight),
-        CrossingReply::Refused(number) => show(number as u64),
+        CrossingReply::Crossed(weight) => show_two(rt, 0, weight),
+        CrossingReply::Refused(number) => show(rt, number as u64),
     }
-    end_line();
+    end_line(rt);
 }
 
-fn show_two(x: u32, y: u32) {
-    show(x as u64);
-    show(y as u64);
+fn show_two(rt: &impl Print, x: u32, y: u32) {
+    show(rt, x as u64);
+    show(rt, y as u64);
 }
 
 // The crossing weight and the least weights from the left, from a column that holds marks before it.
 fn cross(
+    rt: &impl Print,
     c: EngineCounts,
     ends_a: &[u32],
     ends_b: &[u32],
@@ -125,37 +130,41 @@ fn cross(
     let mut previous = [0u32; VERTICES];
     let mut node = [0u64; VERTICES];
     let mut leaf = [0u64; VERTICES];
-    show_crossing(query_crossings::crossing(
-        c,
-        ends_a,
-        ends_b,
-        weights,
-        boundary,
-        log_edges,
-        log_weights,
-        &mut out_weight,
-        &mut numbers,
-        &mut list_ends,
-        &mut status,
-        &mut weight,
-        &mut previous,
-        &mut node,
-        &mut leaf,
-    ));
-    show_weights(&out_weight, c.vertices as usize);
+    show_crossing(
+        rt,
+        query_crossings::crossing(
+            c,
+            ends_a,
+            ends_b,
+            weights,
+            boundary,
+            log_edges,
+            log_weights,
+            &mut out_weight,
+            &mut numbers,
+            &mut list_ends,
+            &mut status,
+            &mut weight,
+            &mut previous,
+            &mut node,
+            &mut leaf,
+        ),
+    );
+    show_weights(rt, &out_weight, c.vertices as usize);
 }
 
 // A refusal's number, or the path's length and total.
-fn show_path(answer: PathAnswer) {
+fn show_path(rt: &impl Print, answer: PathAnswer) {
     match answer {
-        PathAnswer::Found(count, total) => show_two(count, total),
-        PathAnswer::Refused(number) => show(number as u64),
+        PathAnswer::Found(count, total) => show_two(rt, count, total),
+        PathAnswer::Refused(number) => show(rt, number as u64),
     }
-    end_line();
+    end_line(rt);
 }
 
 // The path from a to b with its steps, from columns that hold marks before it.
 fn path(
+    rt: &impl Print,
     c: EngineCounts,
     ends_a: &[u32],
     ends_b: &[u32],
@@ -175,32 +184,36 @@ fn path(
     let mut previous = [0u32; VERTICES];
     let mut node = [0u64; VERTICES];
     let mut leaf = [0u64; VERTICES];
-    show_path(query_paths::get_path(
-        c,
-        ends_a,
-        ends_b,
-        weights,
-        boundary,
-        log_edges,
-        log_weights,
-        VertexIndex(a),
-        VertexIndex(b),
-        &mut out_vertices,
-        &mut out_steps,
-        &mut numbers,
-        &mut list_ends,
-        &mut status,
-        &mut weight,
-        &mut previous,
-        &mut node,
-        &mut leaf,
-    ));
-    show_list(&out_vertices, c.vertices as usize);
-    show_list(&out_steps, c.vertices as usize);
+    show_path(
+        rt,
+        query_paths::get_path(
+            c,
+            ends_a,
+            ends_b,
+            weights,
+            boundary,
+            log_edges,
+            log_weights,
+            VertexIndex(a),
+            VertexIndex(b),
+            &mut out_vertices,
+            &mut out_steps,
+            &mut numbers,
+            &mut list_ends,
+            &mut status,
+            &mut weight,
+            &mut previous,
+            &mut node,
+            &mut leaf,
+        ),
+    );
+    show_list(rt, &out_vertices, c.vertices as usize);
+    show_list(rt, &out_steps, c.vertices as usize);
 }
 
 // A query that changes nothing.
 fn ask(
+    rt: &impl Print,
     c: EngineCounts,
     ends_a: &[u32],
     ends_b: &[u32],
@@ -213,9 +226,19 @@ fn ask(
     b: u32,
 ) {
     if kind == 5 {
-        cross(c, ends_a, ends_b, weights, boundary, log_edges, log_weights);
+        cross(
+            rt,
+            c,
+            ends_a,
+            ends_b,
+            weights,
+            boundary,
+            log_edges,
+            log_weights,
+        );
     } else if kind == 6 {
         path(
+            rt,
             c,
             ends_a,
             ends_b,
@@ -228,6 +251,7 @@ fn ask(
         );
     } else {
         table(
+            rt,
             c,
             ends_a,
             ends_b,
@@ -292,6 +316,7 @@ fn is_change(kind: u64) -> bool {
 
 // One query, of three numbers.
 fn query(
+    rt: &impl Print,
     c: EngineCounts,
     ends_a: &[u32],
     ends_b: &[u32],
@@ -307,6 +332,7 @@ fn query(
 ) -> EngineCounts {
     if !is_change(kind) {
         ask(
+            rt,
             c,
             ends_a,
             ends_b,
@@ -332,13 +358,14 @@ fn query(
         values,
         kind,
     );
-    show_engine(answer);
-    show_list(weights, c.edges as usize);
+    show_engine(rt, answer);
+    show_list(rt, weights, c.edges as usize);
     counts_after(c, answer)
 }
 
 // The queries of a case, from a place of the numbers on.
 fn queries(
+    rt: &impl Print,
     numbers: &[u64],
     from: usize,
     count: usize,
@@ -357,6 +384,7 @@ fn queries(
     let mut left = count;
     while 0 < left {
         c = query(
+            rt,
             c,
             ends_a,
             ends_b,
@@ -376,7 +404,7 @@ fn queries(
 }
 
 // One case: opens its graph and goes through its queries.
-fn case(numbers: &[u64], from: usize) -> usize {
+fn case(rt: &impl Print, numbers: &[u64], from: usize) -> usize {
     let vertices = narrow_at(numbers, from);
     let edges = narrow_at(numbers, after(from, 1));
     let v = size_at(numbers, from);
@@ -402,6 +430,7 @@ fn case(numbers: &[u64], from: usize) -> usize {
     copy_u32(numbers, first_named, &mut list, NAMED);
     copy_u32(numbers, first_value, &mut values, NAMED);
     run(
+        rt,
         numbers,
         first_query,
         count,
@@ -419,6 +448,7 @@ fn case(numbers: &[u64], from: usize) -> usize {
 
 // Opens the graph into columns of its own, then the queries.
 fn run(
+    rt: &impl Print,
     numbers: &[u64],
     first_query: usize,
     count: usize,
@@ -449,13 +479,14 @@ fn run(
         &mut weights,
         &mut boundary,
     );
-    show_engine(answer);
+    show_engine(rt, answer);
     let asked = EngineCounts {
         vertices,
         edges,
         entries: 0,
     };
     queries(
+        rt,
         numbers,
         first_query,
         count,
@@ -471,18 +502,18 @@ fn run(
     );
 }
 
-fn replay(numbers: &[u64]) {
+fn replay(rt: &impl Print, numbers: &[u64]) {
     let cases = size_at(numbers, 0);
     let mut place: usize = 1;
     let mut left = cases;
     while 0 < left {
-        place = case(numbers, place);
+        place = case(rt, numbers, place);
         left -= 1;
     }
 }
 
-fn main() {
+fn main(rt: HostRuntime) {
     let mut numbers = [0u64; 32768];
-    read_input(&mut numbers);
-    replay(&numbers);
+    read_input(&rt, &mut numbers);
+    replay(&rt, &numbers);
 }

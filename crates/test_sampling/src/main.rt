@@ -12,21 +12,22 @@ const EDGE_NUM: u32 = 9;
 
 // The counts, the bytes and the lists that a call leaves.
 fn show_syndrome(
+    rt: &impl Print,
     answer: SyndromeCounts,
     defect: [u8; 9],
     erasure: [u8; 10],
     defect_list: [u32; 9],
     erasure_list: [u32; 10],
 ) {
-    show_counts(answer);
-    show_bytes(&defect, 9);
-    show_bytes(&erasure, 10);
-    show_list(&defect_list, 9);
-    show_list(&erasure_list, 10);
+    show_counts(rt, answer);
+    show_bytes(rt, &defect, 9);
+    show_bytes(rt, &erasure, 10);
+    show_list(rt, &defect_list, 9);
+    show_list(rt, &erasure_list, 10);
 }
 
 // One sampling; the columns hold 7 before it, and one place more than they need.
-fn sample(seed: u64) {
+fn sample(rt: &impl Print, seed: u64) {
     let ends_a = [0u32, 0, 1, 2, 3, 3, 4, 4, 5];
     let ends_b = [2u32, 3, 3, 4, 4, 5, 6, 7, 7];
     let boundary = [0u8, 2, 1, 0, 0, 2, 1, 0];
@@ -50,11 +51,11 @@ fn sample(seed: u64) {
         &mut defect_list,
         &mut erasure_list,
     );
-    show_syndrome(answer, defect, erasure, defect_list, erasure_list);
+    show_syndrome(rt, answer, defect, erasure, defect_list, erasure_list);
 }
 
 // Errors over standing defects, an edge named twice; then a number out of range.
-fn errors(list: &[u32]) {
+fn errors(rt: &impl Print, list: &[u32]) {
     let ends_a = [0u32, 0, 1, 2, 3, 3, 4, 4, 5];
     let ends_b = [2u32, 3, 3, 4, 4, 5, 6, 7, 7];
     let boundary = [0u8, 2, 1, 0, 0, 2, 1, 0];
@@ -74,49 +75,55 @@ fn errors(list: &[u32]) {
         &mut defect_list,
         &mut erasure_list,
     );
-    show_syndrome(answer, defect, erasure, defect_list, erasure_list);
+    show_syndrome(rt, answer, defect, erasure, defect_list, erasure_list);
 }
 
-fn syndrome(list: &[u32]) {
+fn syndrome(rt: &impl Print, list: &[u32]) {
     let ends_a = [0u32, 0, 1, 2, 3, 3, 4, 4, 5];
     let ends_b = [2u32, 3, 3, 4, 4, 5, 6, 7, 7];
     let boundary = [0u8, 2, 1, 0, 0, 2, 1, 0];
     let mut defect_list = [7u32; 9];
-    show_count(sampling_calls::syndrome_of(
-        VERTEX_NUM,
-        EDGE_NUM,
-        &ends_a,
-        &ends_b,
-        &boundary,
-        list,
-        &mut defect_list,
-    ));
-    show_list(&defect_list, 9);
+    show_count(
+        rt,
+        sampling_calls::syndrome_of(
+            VERTEX_NUM,
+            EDGE_NUM,
+            &ends_a,
+            &ends_b,
+            &boundary,
+            list,
+            &mut defect_list,
+        ),
+    );
+    show_list(rt, &defect_list, 9);
 }
 
-fn clear() {
+fn clear(rt: &impl Print) {
     let mut defect = [1u8; 9];
     let mut erasure = [0u8; 10];
-    show_done(sampling_calls::clear_errors(VERTEX_NUM, EDGE_NUM, &mut defect, &mut erasure));
-    show_bytes(&defect, 9);
-    show_bytes(&erasure, 10);
+    show_done(
+        rt,
+        sampling_calls::clear_errors(VERTEX_NUM, EDGE_NUM, &mut defect, &mut erasure),
+    );
+    show_bytes(rt, &defect, 9);
+    show_bytes(rt, &erasure, 10);
 }
 
 // The new numbers, and a list translated.
-fn numbers(order: &[u32], list: &[u32]) {
+fn numbers(rt: &impl Print, order: &[u32], list: &[u32]) {
     let mut column = [99u32; 9];
-    show_done(reorder_calls::build_old_to_new(order, &mut column));
-    show_list(&column, 9);
+    show_done(rt, reorder_calls::build_old_to_new(order, &mut column));
+    show_list(rt, &column, 9);
     let mut translated = [99u32; 4];
     match reorder_calls::translated_defect_to_reordered(order, list, &mut translated) {
-        TranslatedAnswer::Count(n) => show(n as u64),
-        TranslatedAnswer::Refused(number) => show(number as u64 + 100),
+        TranslatedAnswer::Count(n) => show(rt, n as u64),
+        TranslatedAnswer::Refused(number) => show(rt, number as u64 + 100),
     }
-    end_line();
-    show_list(&translated, 4);
+    end_line(rt);
+    show_list(rt, &translated, 4);
 }
 
-fn positions_and_lists(order: &[u32]) {
+fn positions_and_lists(rt: &impl Print, order: &[u32]) {
     let mut ends_a = [0u32, 0, 1, 2, 3, 3, 4, 4, 5];
     let mut ends_b = [2u32, 3, 3, 4, 4, 5, 6, 7, 7];
     let mut boundary = [0u8, 2, 1, 0, 0, 2, 1, 0];
@@ -129,55 +136,58 @@ fn positions_and_lists(order: &[u32]) {
         0u32, 1, 2, 0, 3, 1, 2, 4, 5, 3, 4, 6, 7, 5, 8, 6, 7, 8, 7, 7,
     ];
     let mut scratch = [9u32; 20];
-    show_done(reorder_calls::reorder_vertices(
-        VERTEX_NUM,
-        EDGE_NUM,
-        order,
-        &mut ends_a,
-        &mut ends_b,
-        &mut boundary,
-        &mut defect,
-        &mut pos_i,
-        &mut pos_j,
-        &mut pos_t,
-        &mut lengths,
-        &mut lists,
-        &mut scratch,
-    ));
-    show_list(&ends_a, 9);
-    show_list(&ends_b, 9);
-    show_bytes(&boundary, 8);
-    show_bytes(&defect, 8);
-    show_list(&lengths, 8);
-    show_list(&lists, 20);
-    show_list(&scratch, 20);
+    show_done(
+        rt,
+        reorder_calls::reorder_vertices(
+            VERTEX_NUM,
+            EDGE_NUM,
+            order,
+            &mut ends_a,
+            &mut ends_b,
+            &mut boundary,
+            &mut defect,
+            &mut pos_i,
+            &mut pos_j,
+            &mut pos_t,
+            &mut lengths,
+            &mut lists,
+            &mut scratch,
+        ),
+    );
+    show_list(rt, &ends_a, 9);
+    show_list(rt, &ends_b, 9);
+    show_bytes(rt, &boundary, 8);
+    show_bytes(rt, &defect, 8);
+    show_list(rt, &lengths, 8);
+    show_list(rt, &lists, 20);
+    show_list(rt, &scratch, 20);
 }
 
-fn main() {
-    sample(0);
-    sample(1);
-    sample(2);
-    sample(42);
-    sample(123456789);
-    sample(0xffff_ffff_ffff_ffff);
-    sample(1477776061723855037);
-    sample(0x8000_0000_0000_0000);
+fn main(rt: HostRuntime) {
+    sample(&rt, 0);
+    sample(&rt, 1);
+    sample(&rt, 2);
+    sample(&rt, 42);
+    sample(&rt, 123456789);
+    sample(&rt, 0xffff_ffff_ffff_ffff);
+    sample(&rt, 1477776061723855037);
+    sample(&rt, 0x8000_0000_0000_0000);
     let twice = [0u32, 8, 0, 3];
-    errors(&twice);
+    errors(&rt, &twice);
     let far = [0u32, 9];
-    errors(&far);
+    errors(&rt, &far);
     let some = [1u32, 1, 4, 5, 7];
-    syndrome(&some);
-    syndrome(&far);
-    clear();
+    syndrome(&rt, &some);
+    syndrome(&rt, &far);
+    clear(&rt);
     let order = [3u32, 1, 7, 0, 2, 6, 5, 4];
     let list = [7u32, 0, 4];
-    numbers(&order, &list);
+    numbers(&rt, &order, &list);
     let repeated = [0u32, 1, 1];
     let both = [0u32, 5];
-    numbers(&repeated, &both);
+    numbers(&rt, &repeated, &both);
     let range = [0u32, 3, 3];
-    numbers(&range, &both);
-    positions_and_lists(&order);
-    positions_and_lists(&repeated);
+    numbers(&rt, &range, &both);
+    positions_and_lists(&rt, &order);
+    positions_and_lists(&rt, &repeated);
 }

@@ -6,8 +6,7 @@
 ghost use Rattle.std.specs.Prelude.{◌+◌, ◌≤◌, length};
 
 use columns::{Done, of_bits};
-use libc::STDOUT_FILENO;
-use test_numbers::{bits, end_line, number_of, write, write_number};
+use test_numbers::{bits, end_line, number_of, read_bytes, write, write_number};
 use weights_calls::WeightOfP;
 
 // 16 digits, a blank, 16 digits, a blank, 8 digits and the line's end.
@@ -48,82 +47,89 @@ fn number(text: &[u8], at: usize, count: usize) -> u64
     n
 }
 
-fn write_blank() {
-    write(b" ");
+fn write_blank(rt: &impl Print) {
+    write(rt, b" ");
 }
 
-fn write_refusal(number: u32) {
-    write(b"r");
-    write_number(number);
+fn write_refusal(rt: &impl Print, number: u32) {
+    write(rt, b"r");
+    write_number(rt, number);
 }
 
 // A weight by its bits, 16 digits.
-fn write_weight(w: f64) {
+fn write_weight(rt: &impl Print, w: f64) {
     if w != w {
-        write(b"nan");
+        write(rt, b"nan");
     } else {
-        io::print_hex(STDOUT_FILENO, bits(w), 16);
+        let digits = bits(w);
+        let _ = print!(rt; "{digits:016x}");
     }
 }
 
-fn show_weight(p: f64) {
+fn show_weight(rt: &impl Print, p: f64) {
     match weights_calls::weight_of_p(p) {
-        WeightOfP::Weighs(w) => write_weight(w),
-        WeightOfP::Refused(number) => write_refusal(number),
+        WeightOfP::Weighs(w) => write_weight(rt, w),
+        WeightOfP::Refused(number) => write_refusal(rt, number),
     }
 }
 
-fn write_half_weights(column: [u32; 3]) {
-    write_number(column[0]);
-    write_blank();
-    write_number(column[1]);
-    write_blank();
-    write_number(column[2]);
+fn write_half_weights(rt: &impl Print, column: [u32; 3]) {
+    write_number(rt, column[0]);
+    write_blank(rt);
+    write_number(rt, column[1]);
+    write_blank(rt);
+    write_number(rt, column[2]);
 }
 
 // The half weights of two edges; the third place of the column is past the count.
-fn show_half_weights(p: f64, q: f64, max_half_weight: u32) {
+fn show_half_weights(rt: &impl Print, p: f64, q: f64, max_half_weight: u32) {
     let ps = [p, q];
     let mut column = [7u32; 3];
     match weights_calls::compute_weights(2, &ps, &mut column, max_half_weight) {
-        Done::Accepted => write_half_weights(column),
-        Done::Refused(number) => write_refusal(number),
+        Done::Accepted => write_half_weights(rt, column),
+        Done::Refused(number) => write_refusal(rt, number),
     }
 }
 
 // The numbers of the two calls that set each edge's probability.
-fn show_set(p: f64) {
+fn show_set(rt: &impl Print, p: f64) {
     let mut column = [0.0; 3];
-    write_number(number_of(weights_calls::set_probability(2, p, &mut column)));
-    write_blank();
-    write_number(number_of(weights_calls::set_erasure_probability(2, p, &mut column)));
+    write_number(
+        rt,
+        number_of(weights_calls::set_probability(2, p, &mut column)),
+    );
+    write_blank(rt);
+    write_number(
+        rt,
+        number_of(weights_calls::set_erasure_probability(2, p, &mut column)),
+    );
 }
 
 // The line that starts at a place.
-fn show(text: &[u8], at: usize)
+fn show(rt: &impl Print, text: &[u8], at: usize)
     requires { at + 43 ≤ length text.now }
 {
     let p = of_bits(number(text, at, 16));
     let q = of_bits(number(text, at + 17, 16));
     let max_half_weight = (number(text, at + 34, 8) % 0x1_0000_0000) as u32;
-    show_weight(p);
-    write_blank();
-    show_half_weights(p, q, max_half_weight);
-    write_blank();
-    show_set(p);
-    end_line();
+    show_weight(rt, p);
+    write_blank(rt);
+    show_half_weights(rt, p, q, max_half_weight);
+    write_blank(rt);
+    show_set(rt, p);
+    end_line(rt);
 }
 
-fn show_all(text: &[u8]) {
+fn show_all(rt: &impl Print, text: &[u8]) {
     let mut at: usize = 0;
     while LINE <= text.len() - at {
-        show(text, at);
+        show(rt, text, at);
         at += LINE;
     }
 }
 
-fn main() {
-    let mut buf = io::large_buffer();
-    let n = io::read_full(0, &mut buf);
-    show_all(&buf[..n]);
+fn main(rt: HostRuntime) {
+    let mut buf = [0u8; 65536];
+    let n = read_bytes(&rt, &mut buf);
+    show_all(&rt, &buf[..n]);
 }

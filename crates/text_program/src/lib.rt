@@ -1,6 +1,6 @@
 // The program `codelist`, as one call that several programs make.
 // Every byte of standard output goes through `print`, whose caller has to show that it lends the whole text for the input and nothing else. No contract can say
-// what a call of C reads or writes, so this is left to the reader and to the runs of the programs: that `text_reading::read_input` reads standard input to the buffer,
+// what a call of std's reads or writes, so this is left to the reader and to the runs of the programs: that `text_reading::read_input` reads standard input to the buffer,
 // that `run` makes its one call, that `read_and_answer` hands on exactly the bytes read, and that `print` and `report` write. Of an input longer than the
 // buffer a part is read, which is refused as the whole would be (`text_input::long_inputs_alike`).
 #![tactic(auto)]
@@ -8,7 +8,6 @@
 ghost use Rattle.std.specs.Prelude.{◌≡◌, ◌≤◌, length, take};
 ghost use Rattle.text_answer.specs.Answer.{answer_text, text_room};
 
-use libc::{STDERR_FILENO, STDOUT_FILENO};
 use text_answer::{Listed, codelist};
 use text_reading::{InputRead, read_input};
 
@@ -20,11 +19,11 @@ struct Printed {
 }
 
 // Writes the text for an input to standard output.
-fn print(input: &[u8], text: &[u8]) -> Printed
+fn print(rt: &impl Print, input: &[u8], text: &[u8]) -> Printed
     requires { text.now ≡ answer_text input.now }
     ensures { result.bytes ≡ length (answer_text input.now) }
 {
-    let whole = io::write_all(STDOUT_FILENO, text);
+    let whole = rt.write_all(text).is_ok();
     Printed {
         bytes: text.len(),
         whole,
@@ -32,23 +31,23 @@ fn print(input: &[u8], text: &[u8]) -> Printed
 }
 
 // Writes the first n bytes of a text column.
-fn show(input: &[u8], text: &[u8], n: u32) -> Printed
+fn show(rt: &impl Print, input: &[u8], text: &[u8], n: u32) -> Printed
     requires { (n ≤ length text.now) × (take n text.now ≡ answer_text input.now) }
     ensures { result.bytes ≡ length (answer_text input.now) }
 {
     let m = n as usize;
     let bytes = &text[..m];
-    print(input, bytes)
+    print(rt, input, bytes)
 }
 
 // Answers an input.
-fn answer(input: &[u8], text: &mut [u8]) -> Printed
+fn answer(rt: &impl Print, input: &[u8], text: &mut [u8]) -> Printed
     requires { text_room ≤ length text.old }
     ensures { result.bytes ≡ length (answer_text input.now) }
 {
     let listed = codelist(input, text);
     match listed {
-        Listed::Text(n) => show(input, text, n),
+        Listed::Text(n) => show(rt, input, text, n),
         Listed::Refused(number) => Printed {
             bytes: 0,
             whole: false,
@@ -57,34 +56,34 @@ fn answer(input: &[u8], text: &mut [u8]) -> Printed
 }
 
 // One line on standard error.
-fn report(line: &[u8]) {
-    io::write_all(STDERR_FILENO, line);
+fn report(rt: &impl Eprint, line: &str) {
+    let _ = rt.eprintln(line);
 }
 
 // Answers an input, and says so where its text was not written whole.
-fn answer_input(input: &[u8], text: &mut [u8])
+fn answer_input(rt: &(impl Print + Eprint), input: &[u8], text: &mut [u8])
     requires { text_room ≤ length text.old }
 {
-    let printed = answer(input, text);
+    let printed = answer(rt, input, text);
     if !printed.whole {
-        report(b"codelist: the output could not be written\n");
+        report(rt, "codelist: the output could not be written");
     }
 }
 
 // Answers what stands on standard input. An input that could not be read has no answer.
-fn read_and_answer(buffer: &mut [u8], text: &mut [u8])
+fn read_and_answer(rt: &(impl Input + Print + Eprint), buffer: &mut [u8], text: &mut [u8])
     requires { text_room ≤ length text.old }
 {
-    let read = read_input(buffer);
+    let read = read_input(rt, buffer);
     match read {
-        InputRead::Bytes(n) => answer_input(&buffer[..n], text),
-        InputRead::Failed => report(b"codelist: the input could not be read\n"),
+        InputRead::Bytes(n) => answer_input(rt, &buffer[..n], text),
+        InputRead::Failed => report(rt, "codelist: the input could not be read"),
     }
 }
 
 // Reads standard input, and writes its text to standard output.
-pub fn run() {
-    let mut buffer = io::buffer();
+pub fn run(rt: &(impl Input + Print + Eprint)) {
+    let mut buffer = [0u8; 4096];
     let mut text = [0u8; 320000];
-    read_and_answer(&mut buffer, &mut text);
+    read_and_answer(rt, &mut buffer, &mut text);
 }

@@ -4,7 +4,8 @@
 ghost use Rattle.std.specs.Prelude.{◌≡◌, ◌-◌, ◌≤◌, length};
 ghost use Rattle.text_reading.specs.Reading.{read_of, ReadWithin};
 
-use libc::STDIN_FILENO;
+use std::io;
+use std::io::Read;
 
 // How many bytes were read to the buffer, or that a read failed.
 #[derive(Clone, Copy)]
@@ -14,32 +15,33 @@ pub enum InputRead {
 }
 
 // What a read answered that was lent these places.
-fn read_of(got: isize, places: &[u8]) -> InputRead
+fn read_of(got: io::Result<usize>, places: &[u8]) -> InputRead
     ensures { result ≡ read_of got (length places.now) }
 {
-    if got < 0 {
-        return InputRead::Failed;
+    match got {
+        Ok(n) => InputRead::Bytes(n.min(places.len())),
+        Err(_) => InputRead::Failed,
     }
-    InputRead::Bytes(io::count(got, places))
 }
 
-// One read of standard input, to the places from `at` on.
-fn read_from(buffer: &mut [u8], at: usize) -> InputRead
+// One read, to the places from `at` on.
+fn read_from(input: &mut impl Read, buffer: &mut [u8], at: usize) -> InputRead
     requires { at ≤ length buffer.old }
     ensures { ReadWithin (length buffer.old - at) result }
 {
     let places = &mut buffer[at..];
-    let got = libc::read(STDIN_FILENO, places);
+    let got = input.read(places);
     read_of(got, places)
 }
 
 // Reads standard input until it ends or the buffer is full.
-pub fn read_input(buffer: &mut [u8]) -> InputRead
+pub fn read_input(rt: &impl Input, buffer: &mut [u8]) -> InputRead
     ensures { ReadWithin (length buffer.new) result }
 {
+    let mut input = rt.reader();
     let mut done: usize = 0;
     while done < buffer.len() {
-        let read = read_from(buffer, done);
+        let read = read_from(&mut input, buffer, done);
         let InputRead::Bytes(n) = read else {
             return InputRead::Failed;
         };

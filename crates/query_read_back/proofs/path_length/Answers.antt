@@ -15,7 +15,7 @@ pub returns-in_default : goal.returns-in_default
 returns-in_default c =
     let s = c in
     let at = c.loop-j in
-    λ w. let e : entry_of (step_back (state_of s.args.status.now w s.args.previous.now) s.args.a.0 at.v.0) ≡ None = sym (c.step_back.ensures w) ∙ c.enum_told-1.given.1 in
+    λ w. let e : entry_of (step_back (state_of s.args.status.now w s.args.previous.now) s.args.a.0 at.v.0) ≡ None = sym (c.in_default.ensures w) in
     omega (arith, at.invariant.1 w, count_none (state_of s.args.status.now w s.args.previous.now) s.args.a.0 (length s.args.status.now) at.j at.v.0 c.loop-j-test.true (entry_none _ e))
 
 pub loop-j-preserved : goal.loop-j-preserved
@@ -23,7 +23,7 @@ loop-j-preserved c =
     let s = c in
     let at = c.loop-j in (
       omega (arith, c.loop-j-test.true),
-      λ w. let e : entry_of (step_back (state_of s.args.status.now w s.args.previous.now) s.args.a.0 at.v.0) ≡ Previous c.p-1.given.0.0 = sym (c.step_back.ensures w) ∙ c.p-1.given.1 in
+      λ w. let e : entry_of (step_back (state_of s.args.status.now w s.args.previous.now) s.args.a.0 at.v.0) ≡ Previous c.in-Previous.p = sym (c.in-Previous.ensures w) in
           omega (arith, at.invariant.1 w, count-more (state_of s.args.status.now w s.args.previous.now) s.args.a.0 (length s.args.status.now) at.j at.v.0 _ c.loop-j-test.true (entry_some _ _ e)),
     )
 

@@ -24,7 +24,7 @@ returns-in_default c =
     let s = c in
     let at = c.loop-i in
     let e : at.i ≡ suc (at.i - 1) = omega (arith, c.loop-i-test.true) in
-    let none : entry_of (step_back (state_of s.args.status.now s.args.weight.now s.args.previous.now) s.args.a.0 at.v.0) ≡ None = sym (c.step_back.ensures s.args.weight.now) ∙ c.enum_told-1.given.1 in
+    let none : entry_of (step_back (state_of s.args.status.now s.args.weight.now s.args.previous.now) s.args.a.0 at.v.0) ≡ None = sym (c.in_default.ensures s.args.weight.now) in
     absurd (step-there (state_of s.args.status.now s.args.weight.now s.args.previous.now) s.args.a.0 (length s.args.status.now) s.args.b.0 s.args.out_vertices.now s.args.out_steps.now (at.i - 1) at.v.0 at.out_vertices at.out_steps
     (subst (λ k. Written (state_of s.args.status.now s.args.weight.now s.args.previous.now) s.args.a.0 (length s.args.status.now) s.args.b.0 k at.v.0 s.args.out_vertices.now at.out_vertices s.args.out_steps.now at.out_steps) e at.invariant.3) (entry_none _ none))
 
@@ -44,8 +44,8 @@ loop-i-preserved c =
     let at = c.loop-i in
     let i = at.i - 1 in
     let e : at.i ≡ suc i = omega (arith, c.loop-i-test.true) in
-    let there : entry_of (step_back (state_of s.args.status.now s.args.weight.now s.args.previous.now) s.args.a.0 at.v.0) ≡ Previous c.p-1.given.0.0 = sym (c.step_back.ensures s.args.weight.now) ∙ c.p-1.given.1 in
-    let p : c.p-1.given.0.0.0 ≡ get_or s.args.previous.now at.v.0 0 = step_some (state_of s.args.status.now s.args.weight.now s.args.previous.now) s.args.a.0 at.v.0 _ (entry_some _ _ there) in
+    let there : entry_of (step_back (state_of s.args.status.now s.args.weight.now s.args.previous.now) s.args.a.0 at.v.0) ≡ Previous c.in-Previous.p = sym (c.in-Previous.ensures s.args.weight.now) in
+    let p : c.in-Previous.p.0 ≡ get_or s.args.previous.now at.v.0 0 = step_some (state_of s.args.status.now s.args.weight.now s.args.previous.now) s.args.a.0 at.v.0 _ (entry_some _ _ there) in
     let w = written-more (state_of s.args.status.now s.args.weight.now s.args.previous.now) s.args.a.0 (length s.args.status.now) s.args.b.0 s.args.out_vertices.now s.args.out_steps.now i at.v.0 at.out_vertices at.out_steps
     (subst (λ k. Written (state_of s.args.status.now s.args.weight.now s.args.previous.now) s.args.a.0 (length s.args.status.now) s.args.b.0 k at.v.0 s.args.out_vertices.now at.out_vertices s.args.out_steps.now at.out_steps) e at.invariant.3) in
     let step : step_into (state_of s.args.status.now s.args.weight.now s.args.previous.now) at.v.0 ≡ c.step_weight.result = sym (c.step_weight.ensures ∙ ap (λ x. get_or s.args.weight.now at.v.0 0 - get_or s.args.weight.now x 0) p) in (

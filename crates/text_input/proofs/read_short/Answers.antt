@@ -2,7 +2,6 @@
 use mathlib.Core.Path.{◌≡◌, sym, ap, ◌∙◌}
 use mathlib.Core.Bool.{Bool, true, ◌&&◌}
 use native.Mathlib.Omega.{arith}
-use borrow.Author.Tests.{not-false}
 use Rattle.text_input.specs.Line.{well_formed}
 use Rattle.text_input.proofs.Lines.{well, fit1, fit2, fit3, fit4, fit5, line, not_formed, formed}
 use Rattle.text_input.proofs.read_short.Goals as goal
@@ -23,7 +22,7 @@ pub returns-then-not-both : goal.returns-then-not-both
 returns-then-not-both c = not_formed c.args.text.now (sym ((let it : c.both-3.result ≡ well_formed c.args.text.now = let first = c.both-first.ensures ∙ ap (λ (b : Bool). c.decimal_sound-sound1.result && b) c.both.ensures in let last = c.both-last.ensures ∙ ap (λ (b : Bool). c.hex_sound-sound4.result && b) c.both-2.ensures in c.both-3.ensures ∙ (λ k. first k && last k) ∙ well c.args.text.now c.digits_at-n1.result c.digits_at-n2.result c.digits_at-n3.result c.digits_at-n5.result c.digits_at-n1.ensures.0 c.digits_at-n2.ensures.0 c.digits_at-n3.ensures.0 c.digits_at-n5.ensures.0 c.decimal_sound-sound1.ensures c.decimal_sound-sound2.ensures c.decimal_sound-sound3.ensures c.hex_sound-sound4.ensures c.decimal_sound-sound5.ensures c.is-ends.ensures in it)) ∙ c.if-not-both.true)
 
 pub decimal_value-requires : goal.decimal_value-requires
-decimal_value-requires c = fit1 c.args.text.now c.digits_at-n1.result c.digits_at-n2.result c.digits_at-n3.result c.digits_at-n5.result c.digits_at-n1.ensures.0 c.digits_at-n2.ensures.0 c.digits_at-n3.ensures.0 c.digits_at-n5.ensures.0 ((let it : well_formed (c).before.before.before.before.before.before.before.before.before.before.before.before.before.before.before.before.before.args.text.now ≡ true = sym ((let it : (c).both5.result ≡ well_formed (c).before.before.before.before.before.before.before.before.before.before.before.before.before.before.before.before.args.text.now = let first = (c).before.before.before.both2.ensures ∙ ap (λ (b : Bool). (c).before.before.before.before.before.before.before.before.before.before.before.before.before.decimal-sound.result && b) (c).before.before.before.before.both.ensures in let last = (c).before.both4.ensures ∙ ap (λ (b : Bool). (c).before.before.before.before.before.before.before.before.hex-sound.result && b) (c).before.before.both3.ensures in (c).both5.ensures ∙ (λ k. first k && last k) ∙ well (c).before.before.before.before.before.before.before.before.before.before.before.before.before.before.before.before.args.text.now (c).before.before.before.before.before.before.before.before.before.before.before.before.before.before.digits-at.result (c).before.before.before.before.before.before.before.before.before.before.before.before.digits-at2.result (c).before.before.before.before.before.before.before.before.before.before.digits-at3.result (c).before.before.before.before.before.before.before.digits-at4.result (c).before.before.before.before.before.before.before.before.before.before.before.before.before.before.digits-at.ensures.0 (c).before.before.before.before.before.before.before.before.before.before.before.before.digits-at2.ensures.0 (c).before.before.before.before.before.before.before.before.before.before.digits-at3.ensures.0 (c).before.before.before.before.before.before.before.digits-at4.ensures.0 (c).before.before.before.before.before.before.before.before.before.before.before.before.before.decimal-sound.ensures (c).before.before.before.before.before.before.before.before.before.before.before.decimal-sound2.ensures (c).before.before.before.before.before.before.before.before.before.decimal-sound3.ensures (c).before.before.before.before.before.before.before.before.hex-sound.ensures (c).before.before.before.before.before.before.decimal-sound4.ensures (c).before.before.before.before.before.is.ensures in it).before) ∙ not-false _ (c).if1.false in it))
+decimal_value-requires c = fit1 c.args.text.now c.digits_at-n1.result c.digits_at-n2.result c.digits_at-n3.result c.digits_at-n5.result c.digits_at-n1.ensures.0 c.digits_at-n2.ensures.0 c.digits_at-n3.ensures.0 c.digits_at-n5.ensures.0 ((let it : well_formed c.args.text.now ≡ true = sym ((let it : c.both-3.result ≡ well_formed c.args.text.now = let first = c.both-first.ensures ∙ ap (λ (b : Bool). c.decimal_sound-sound1.result && b) c.both.ensures in let last = c.both-last.ensures ∙ ap (λ (b : Bool). c.hex_sound-sound4.result && b) c.both-2.ensures in c.both-3.ensures ∙ (λ k. first k && last k) ∙ well c.args.text.now c.digits_at-n1.result c.digits_at-n2.result c.digits_at-n3.result c.digits_at-n5.result c.digits_at-n1.ensures.0 c.digits_at-n2.ensures.0 c.digits_at-n3.ensures.0 c.digits_at-n5.ensures.0 c.decimal_sound-sound1.ensures c.decimal_sound-sound2.ensures c.decimal_sound-sound3.ensures c.hex_sound-sound4.ensures c.decimal_sound-sound5.ensures c.is-ends.ensures in it)) ∙ c.if-not-both.false in it))
 
 pub decimal_value-requires-2 : goal.decimal_value-requires-2
 decimal_value-requires-2 c = fit2 c.args.text.now c.digits_at-n1.result c.digits_at-n2.result c.digits_at-n3.result c.digits_at-n5.result c.digits_at-n1.ensures.0 c.digits_at-n2.ensures.0 c.digits_at-n3.ensures.0 c.digits_at-n5.ensures.0 ((let it : well_formed c.args.text.now ≡ true = sym ((let it : c.both-3.result ≡ well_formed c.args.text.now = let first = c.both-first.ensures ∙ ap (λ (b : Bool). c.decimal_sound-sound1.result && b) c.both.ensures in let last = c.both-last.ensures ∙ ap (λ (b : Bool). c.hex_sound-sound4.result && b) c.both-2.ensures in c.both-3.ensures ∙ (λ k. first k && last k) ∙ well c.args.text.now c.digits_at-n1.result c.digits_at-n2.result c.digits_at-n3.result c.digits_at-n5.result c.digits_at-n1.ensures.0 c.digits_at-n2.ensures.0 c.digits_at-n3.ensures.0 c.digits_at-n5.ensures.0 c.decimal_sound-sound1.ensures c.decimal_sound-sound2.ensures c.decimal_sound-sound3.ensures c.hex_sound-sound4.ensures c.decimal_sound-sound5.ensures c.is-ends.ensures in it)) ∙ c.if-not-both.false in it))
@@ -32,7 +31,7 @@ pub decimal_value-requires-3 : goal.decimal_value-requires-3
 decimal_value-requires-3 c = fit3 c.args.text.now c.digits_at-n1.result c.digits_at-n2.result c.digits_at-n3.result c.digits_at-n5.result c.digits_at-n1.ensures.0 c.digits_at-n2.ensures.0 c.digits_at-n3.ensures.0 c.digits_at-n5.ensures.0 ((let it : well_formed c.args.text.now ≡ true = sym ((let it : c.both-3.result ≡ well_formed c.args.text.now = let first = c.both-first.ensures ∙ ap (λ (b : Bool). c.decimal_sound-sound1.result && b) c.both.ensures in let last = c.both-last.ensures ∙ ap (λ (b : Bool). c.hex_sound-sound4.result && b) c.both-2.ensures in c.both-3.ensures ∙ (λ k. first k && last k) ∙ well c.args.text.now c.digits_at-n1.result c.digits_at-n2.result c.digits_at-n3.result c.digits_at-n5.result c.digits_at-n1.ensures.0 c.digits_at-n2.ensures.0 c.digits_at-n3.ensures.0 c.digits_at-n5.ensures.0 c.decimal_sound-sound1.ensures c.decimal_sound-sound2.ensures c.decimal_sound-sound3.ensures c.hex_sound-sound4.ensures c.decimal_sound-sound5.ensures c.is-ends.ensures in it)) ∙ c.if-not-both.false in it))
 
 pub hex_value-requires : goal.hex_value-requires
-hex_value-requires c = fit4 c.args.text.now c.digits_at-n1.result c.digits_at-n2.result c.digits_at-n3.result c.digits_at-n5.result c.digits_at-n1.ensures.0 c.digits_at-n2.ensures.0 c.digits_at-n3.ensures.0 c.digits_at-n5.ensures.0 ((let it : well_formed c.args.text.now ≡ true = sym ((let it : c.both-3.result ≡ well_formed c.args.text.now = let first = c.both-first.ensures ∙ ap (λ (b : Bool). c.decimal_sound-sound1.result && b) c.both.ensures in let last = c.both-last.ensures ∙ ap (λ (b : Bool). c.hex_sound-sound4.result && b) c.both-2.ensures in c.both-3.ensures ∙ (λ k. first k && last k) ∙ well c.args.text.now c.digits_at-n1.result c.digits_at-n2.result c.digits_at-n3.result c.digits_at-n5.result c.digits_at-n1.ensures.0 c.digits_at-n2.ensures.0 c.digits_at-n3.ensures.0 c.digits_at-n5.ensures.0 c.decimal_sound-sound1.ensures c.decimal_sound-sound2.ensures c.decimal_sound-sound3.ensures c.hex_sound-sound4.ensures c.decimal_sound-sound5.ensures c.is-ends.ensures in it)) ∙ c.if-not-both.false in it))
+hex_value-requires c = let both = fit4 c.args.text.now c.digits_at-n1.result c.digits_at-n2.result c.digits_at-n3.result c.digits_at-n5.result c.digits_at-n1.ensures.0 c.digits_at-n2.ensures.0 c.digits_at-n3.ensures.0 c.digits_at-n5.ensures.0 ((let it : well_formed c.args.text.now ≡ true = sym ((let it : c.both-3.result ≡ well_formed c.args.text.now = let first = c.both-first.ensures ∙ ap (λ (b : Bool). c.decimal_sound-sound1.result && b) c.both.ensures in let last = c.both-last.ensures ∙ ap (λ (b : Bool). c.hex_sound-sound4.result && b) c.both-2.ensures in c.both-3.ensures ∙ (λ k. first k && last k) ∙ well c.args.text.now c.digits_at-n1.result c.digits_at-n2.result c.digits_at-n3.result c.digits_at-n5.result c.digits_at-n1.ensures.0 c.digits_at-n2.ensures.0 c.digits_at-n3.ensures.0 c.digits_at-n5.ensures.0 c.decimal_sound-sound1.ensures c.decimal_sound-sound2.ensures c.decimal_sound-sound3.ensures c.hex_sound-sound4.ensures c.decimal_sound-sound5.ensures c.is-ends.ensures in it)) ∙ c.if-not-both.false in it)) in record { at_in_bounds = both.0; text_value = both.1 }
 
 pub decimal_value-requires-4 : goal.decimal_value-requires-4
 decimal_value-requires-4 c = fit5 c.args.text.now c.digits_at-n1.result c.digits_at-n2.result c.digits_at-n3.result c.digits_at-n5.result c.digits_at-n1.ensures.0 c.digits_at-n2.ensures.0 c.digits_at-n3.ensures.0 c.digits_at-n5.ensures.0 ((let it : well_formed c.args.text.now ≡ true = sym ((let it : c.both-3.result ≡ well_formed c.args.text.now = let first = c.both-first.ensures ∙ ap (λ (b : Bool). c.decimal_sound-sound1.result && b) c.both.ensures in let last = c.both-last.ensures ∙ ap (λ (b : Bool). c.hex_sound-sound4.result && b) c.both-2.ensures in c.both-3.ensures ∙ (λ k. first k && last k) ∙ well c.args.text.now c.digits_at-n1.result c.digits_at-n2.result c.digits_at-n3.result c.digits_at-n5.result c.digits_at-n1.ensures.0 c.digits_at-n2.ensures.0 c.digits_at-n3.ensures.0 c.digits_at-n5.ensures.0 c.decimal_sound-sound1.ensures c.decimal_sound-sound2.ensures c.decimal_sound-sound3.ensures c.hex_sound-sound4.ensures c.decimal_sound-sound5.ensures c.is-ends.ensures in it)) ∙ c.if-not-both.false in it))

@@ -1,0 +1,9 @@
+-- `i` lines are printed.
+use Rattle.std.proofs.Common.{◌-◌, ◌≤◌}
+use Rattle.test_generator.proofs.split_mix.Given as goal
+
+abbrev pub invariant-loop-i : goal.invariant-loop-i
+invariant-loop-i g l = l.i ≤ l.n
+
+abbrev pub decreases-loop-i : goal.decreases-loop-i
+decreases-loop-i g l = l.n - l.i

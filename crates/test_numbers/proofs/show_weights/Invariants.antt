@@ -1,0 +1,9 @@
+-- `i` numbers are printed.
+use Rattle.std.proofs.Common.{◌-◌, ◌≤◌}
+use Rattle.test_numbers.proofs.show_weights.Given as goal
+
+abbrev pub invariant-loop-i : goal.invariant-loop-i
+invariant-loop-i g l = l.i ≤ l.m
+
+abbrev pub decreases-loop-i : goal.decreases-loop-i
+decreases-loop-i g l = l.m - l.i

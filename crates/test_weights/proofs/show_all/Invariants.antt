@@ -1,0 +1,9 @@
+-- The place is in the text or at its end.
+use Rattle.std.proofs.Common.{length, ◌-◌, ◌≤◌}
+use Rattle.test_weights.proofs.show_all.Given as goal
+
+abbrev pub invariant-loop-at : goal.invariant-loop-at
+invariant-loop-at g l = l.at ≤ length l.text
+
+abbrev pub decreases-loop-at : goal.decreases-loop-at
+decreases-loop-at g l = length l.text - l.at

@@ -1,2 +1,0 @@
--- Shown: the text column starts with the text.
-mod Shown

@@ -1,2 +1,0 @@
--- Signs: what a read answered, by its sign.
-pub mod Signs

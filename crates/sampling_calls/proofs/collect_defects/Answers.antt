@@ -28,4 +28,4 @@ returns c = let s = c in
     let a = s.args in
     let g : CodeGraph = code_graph a.vertex_num a.edge_num a.ends_a.now a.ends_b.now a.boundary.now in
     let e = ap (listed a.vertex_num) c.flip_all.ensures ∙ listed-syndrome g a.list.now a.bytes.now s.requires.fits.long_defect (λ u h. s.requires.by_index.1 u) in
-    record { value = c.List-set_of_Decides.ensures.0 ∙ ap length e; defect_list_after = c.List-set_of_Decides.ensures.1 ∙ ap (λ (l : List ℕ). over l a.defect_list.now) e }
+    record { value = c.list_set.ensures.0 ∙ ap length e; defect_list_after = c.list_set.ensures.1 ∙ ap (λ (l : List ℕ). over l a.defect_list.now) e }

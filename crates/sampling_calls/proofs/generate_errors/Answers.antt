@@ -53,7 +53,7 @@ returns-then-number-eq0 c =
     let z : errors_refusal g a.list.now s ≡ 0 = sym c.errors_refusal-number.ensures ∙ c.if-number-eq0.true in
     let k : ErrorsMet g a.list.now s = errors_met g a.list.now s z in
     let f : Fits a.vertex_num a.edge_num a.ends_a.now a.ends_b.now a.boundary.now a.defect.now = fits_of g a.defect.now k.long k.sound k.lists.long_defect in
-    let x = c.List-set_of_Decides.ensures in
+    let x = c.list_set-defects.ensures in
     let y = c.list_set-erasures.ensures in
     left-accepted (errors_refusal g a.list.now s) a.vertex_num a.edge_num
     (flip_each a.ends_a.now a.ends_b.now a.boundary.now a.list.now (take a.vertex_num a.defect.now)) (take a.edge_num a.erasure.now) s _ z

@@ -56,7 +56,7 @@ returns-then-number-eq0 c =
     let k : SamplingMet g a.p.now a.pe.now s = sampling_met g a.p.now a.pe.now s z in
     let r = seed_from_u64 a.seed in
     let this = sampled_from c.seed_from_u64-rng.ensures c.sample_edges.ensures in
-    let x = c.List-set_of_Decides.ensures in
+    let x = c.list_set-defects.ensures in
     let y = c.list_set-erasures.ensures in
     left-accepted (sampling_refusal g a.p.now a.pe.now s) a.vertex_num a.edge_num
     (sampled_defects r g a.p.now a.pe.now) (sampled_erasures r a.pe.now a.edge_num) s _ z

@@ -2,70 +2,93 @@
 -- arguments as they were passed, the result, and the parameters at exit. The columns lent are any: no call needs to have made them.
 use Rattle.std.specs.Prelude.{ℕ, List}
 use contract.Lifetimes.{Lfts}
-use borrow.Fn.Kinds.{Dens, ended_of}
 use denote.Triple.Clauses.{AtExit}
+use borrow.Fn.World.{ArgsD, ResD}
+use Rattle.learnt.specs.Learnt.{Reading, Learnt, one_fact}
 use Rattle.columns.specs.declared.Done.TheVariants.{Accepted}
 use Rattle.columns_answers.specs.declared.ListCount.{ListCount}
 use Rattle.columns_answers.specs.declared.SyndromeCounts.{SyndromeCounts}
 use Rattle.access_calls.specs.Calls.{Syndrome, syndrome}
-use Rattle.access_calls.proofs.get_defect_vertices.Kinds as get-defects-kinds
-use Rattle.access_calls.proofs.get_defect_vertices.Reads as get-defects-reads
-use Rattle.access_calls.proofs.get_erasures.Kinds as get-erasures-kinds
-use Rattle.access_calls.proofs.get_erasures.Reads as get-erasures-reads
-use Rattle.access_calls.proofs.get_syndrome.Kinds as get-syndrome-kinds
-use Rattle.access_calls.proofs.get_syndrome.Reads as get-syndrome-reads
-use Rattle.access_calls.proofs.get_initializer.Kinds as initializer-kinds
-use Rattle.access_calls.proofs.get_initializer.Reads as initializer-reads
-use Rattle.access_calls.proofs.set_defect_vertices.Kinds as set-defects-kinds
-use Rattle.access_calls.proofs.set_defect_vertices.Reads as set-defects-reads
-use Rattle.access_calls.proofs.set_erasures.Kinds as set-erasures-kinds
-use Rattle.access_calls.proofs.set_erasures.Reads as set-erasures-reads
-use Rattle.access_calls.proofs.set_syndrome.Kinds as set-syndrome-kinds
-use Rattle.access_calls.proofs.set_syndrome.Reads as set-syndrome-reads
+use Rattle.access_calls.specs.contracts.get_defect_vertices as get_defects_contract
+use Rattle.access_calls.specs.contracts.get_erasures as get_erasures_contract
+use Rattle.access_calls.specs.contracts.get_syndrome as get_syndrome_contract
+use Rattle.access_calls.specs.contracts.get_initializer as initializer_contract
+use Rattle.access_calls.specs.contracts.set_defect_vertices as set_defects_contract
+use Rattle.access_calls.specs.contracts.set_erasures as set_erasures_contract
+use Rattle.access_calls.specs.contracts.set_syndrome as set_syndrome_contract
+
+-- What a caller of each function learns of a call.
+abbrev get_defects_reading : (κs : Lfts 2) (a : ArgsD get_defects_contract.signature κs) (r : ResD get_defects_contract.signature κs) (s : AtExit get_defects_contract.ended κs)
+    → Reading (λ w. (get_defects_contract.clauses w.𝓛 w.𝓜.mem w.𝓡.returns κs a).ensures tt r s)
+get_defects_reading κs a r s = one_fact _
+
+abbrev get_erasures_reading : (κs : Lfts 2) (a : ArgsD get_erasures_contract.signature κs) (r : ResD get_erasures_contract.signature κs) (s : AtExit get_erasures_contract.ended κs)
+    → Reading (λ w. (get_erasures_contract.clauses w.𝓛 w.𝓜.mem w.𝓡.returns κs a).ensures tt r s)
+get_erasures_reading κs a r s = one_fact _
+
+abbrev get_syndrome_reading : (κs : Lfts 4) (a : ArgsD get_syndrome_contract.signature κs) (r : ResD get_syndrome_contract.signature κs) (s : AtExit get_syndrome_contract.ended κs)
+    → Reading (λ w. (get_syndrome_contract.clauses w.𝓛 w.𝓜.mem w.𝓡.returns κs a).ensures tt r s)
+get_syndrome_reading κs a r s = one_fact _
+
+abbrev initializer_reading : (κs : Lfts 8) (a : ArgsD initializer_contract.signature κs) (r : ResD initializer_contract.signature κs) (s : AtExit initializer_contract.ended κs)
+    → Reading (λ w. (initializer_contract.clauses w.𝓛 w.𝓜.mem w.𝓡.returns κs a).ensures tt r s)
+initializer_reading κs a r s = one_fact _
+
+abbrev set_defects_reading : (κs : Lfts 2) (a : ArgsD set_defects_contract.signature κs) (r : ResD set_defects_contract.signature κs) (s : AtExit set_defects_contract.ended κs)
+    → Reading (λ w. (set_defects_contract.clauses w.𝓛 w.𝓜.mem w.𝓡.returns κs a).ensures tt r s)
+set_defects_reading κs a r s = one_fact _
+
+abbrev set_erasures_reading : (κs : Lfts 2) (a : ArgsD set_erasures_contract.signature κs) (r : ResD set_erasures_contract.signature κs) (s : AtExit set_erasures_contract.ended κs)
+    → Reading (λ w. (set_erasures_contract.clauses w.𝓛 w.𝓜.mem w.𝓡.returns κs a).ensures tt r s)
+set_erasures_reading κs a r s = one_fact _
+
+abbrev set_syndrome_reading : (κs : Lfts 4) (a : ArgsD set_syndrome_contract.signature κs) (r : ResD set_syndrome_contract.signature κs) (s : AtExit set_syndrome_contract.ended κs)
+    → Reading (λ w. (set_syndrome_contract.clauses w.𝓛 w.𝓜.mem w.𝓡.returns κs a).ensures tt r s)
+set_syndrome_reading κs a r s = one_fact _
 
 -- ---- getters: the counts, the bytes lent, the list's column before and after, and the answer
 
 -- Taken over, the trait `ExampleCode`: a call of `get_defect_vertices`.
 pub data DefectsGot : (v : ℕ) (defect list₀ list : List ℕ) (answer : ListCount) → Type 0 where
-  defects_got : (κs : Lfts 2) (a : Dens κs get-defects-kinds.ps) (r : ListCount) (s : AtExit (ended_of 2 get-defects-kinds.ps get-defects-kinds.r) κs)
-      → get-defects-reads.Learnt κs a r s
+  defects_got : (κs : Lfts 2) (a : ArgsD get_defects_contract.signature κs) (r : ListCount) (s : AtExit get_defects_contract.ended κs)
+      → Learnt (get_defects_reading κs a r s)
       → DefectsGot a.0 a.1.0.now a.1.1.0.now s.1.1.0.now r
 
 -- Taken over, the trait `ExampleCode`: a call of `get_erasures`.
 pub data ErasuresGot : (e : ℕ) (erasure list₀ list : List ℕ) (answer : ListCount) → Type 0 where
-  erasures_got : (κs : Lfts 2) (a : Dens κs get-erasures-kinds.ps) (r : ListCount) (s : AtExit (ended_of 2 get-erasures-kinds.ps get-erasures-kinds.r) κs)
-      → get-erasures-reads.Learnt κs a r s
+  erasures_got : (κs : Lfts 2) (a : ArgsD get_erasures_contract.signature κs) (r : ListCount) (s : AtExit get_erasures_contract.ended κs)
+      → Learnt (get_erasures_reading κs a r s)
       → ErasuresGot a.0 a.1.0.now a.1.1.0.now s.1.1.0.now r
 
 -- Taken over, the trait `ExampleCode`: a call of `get_syndrome`.
 pub data SyndromeGot : (v e : ℕ) (column lists₀ lists : Syndrome) (answer : SyndromeCounts) → Type 0 where
-  syndrome_got : (κs : Lfts 4) (a : Dens κs get-syndrome-kinds.ps) (r : SyndromeCounts) (s : AtExit (ended_of 4 get-syndrome-kinds.ps get-syndrome-kinds.r) κs)
-      → get-syndrome-reads.Learnt κs a r s
+  syndrome_got : (κs : Lfts 4) (a : ArgsD get_syndrome_contract.signature κs) (r : SyndromeCounts) (s : AtExit get_syndrome_contract.ended κs)
+      → Learnt (get_syndrome_reading κs a r s)
       → SyndromeGot a.0 a.1.0 (syndrome a.1.1.0.now a.1.1.1.0.now)
       (syndrome a.1.1.1.1.0.now a.1.1.1.1.1.0.now) (syndrome s.1.1.1.1.0.now s.1.1.1.1.1.0.now) r
 
 -- Weights, get_initializer: a call of `get_initializer`: the boundary bytes lent, and the list of virtual vertices.
 pub data InitializerGot : (v : ℕ) (boundary list₀ list : List ℕ) (answer : ListCount) → Type 0 where
-  initializer_got : (κs : Lfts 8) (a : Dens κs initializer-kinds.ps) (r : ListCount) (s : AtExit (ended_of 8 initializer-kinds.ps initializer-kinds.r) κs)
-      → initializer-reads.Learnt κs a r s
+  initializer_got : (κs : Lfts 8) (a : ArgsD initializer_contract.signature κs) (r : ListCount) (s : AtExit initializer_contract.ended κs)
+      → Learnt (initializer_reading κs a r s)
       → InitializerGot a.0 a.1.1.1.1.1.0.now a.1.1.1.1.1.1.1.1.1.0.now s.1.1.1.1.1.1.1.1.1.0.now r
 
 -- ---- setters: the counts, the lists handed over, and the bytes as the call left them
 
 -- Taken over, the trait `ExampleCode`: an accepted `set_defect_vertices`.
 pub data DefectsSet : (v : ℕ) (list defect : List ℕ) → Type 0 where
-  defects_set : (κs : Lfts 2) (a : Dens κs set-defects-kinds.ps) (s : AtExit (ended_of 2 set-defects-kinds.ps set-defects-kinds.r) κs)
-      → set-defects-reads.Learnt κs a Accepted s
+  defects_set : (κs : Lfts 2) (a : ArgsD set_defects_contract.signature κs) (s : AtExit set_defects_contract.ended κs)
+      → Learnt (set_defects_reading κs a Accepted s)
       → DefectsSet a.0 a.1.0.now s.1.1.0.now
 
 -- Taken over, the trait `ExampleCode`: an accepted `set_erasures`.
 pub data ErasuresSet : (e : ℕ) (list erasure : List ℕ) → Type 0 where
-  erasures_set : (κs : Lfts 2) (a : Dens κs set-erasures-kinds.ps) (s : AtExit (ended_of 2 set-erasures-kinds.ps set-erasures-kinds.r) κs)
-      → set-erasures-reads.Learnt κs a Accepted s
+  erasures_set : (κs : Lfts 2) (a : ArgsD set_erasures_contract.signature κs) (s : AtExit set_erasures_contract.ended κs)
+      → Learnt (set_erasures_reading κs a Accepted s)
       → ErasuresSet a.0 a.1.0.now s.1.1.0.now
 
 -- Taken over, the trait `ExampleCode`: an accepted `set_syndrome`.
 pub data SyndromeSet : (v e : ℕ) (lists column : Syndrome) → Type 0 where
-  syndrome_set : (κs : Lfts 4) (a : Dens κs set-syndrome-kinds.ps) (s : AtExit (ended_of 4 set-syndrome-kinds.ps set-syndrome-kinds.r) κs)
-      → set-syndrome-reads.Learnt κs a Accepted s
+  syndrome_set : (κs : Lfts 4) (a : ArgsD set_syndrome_contract.signature κs) (s : AtExit set_syndrome_contract.ended κs)
+      → Learnt (set_syndrome_reading κs a Accepted s)
       → SyndromeSet a.0 a.1.0 (syndrome a.1.1.0.now a.1.1.1.0.now) (syndrome s.1.1.1.1.0.now s.1.1.1.1.1.0.now)

@@ -2,22 +2,33 @@
 -- the arguments as they were passed, the result, and the parameters at exit. The columns lent are any.
 use Rattle.std.specs.Prelude.{ℕ, List, Float}
 use contract.Lifetimes.{Lfts}
-use borrow.Fn.Kinds.{Dens, ended_of}
 use denote.Triple.Clauses.{AtExit}
+use borrow.Fn.World.{ArgsD, ResD}
+use Rattle.learnt.specs.Learnt.{Reading, Learnt, one_fact}
 use Rattle.weights_diagonal.specs.declared.DiagonalProbability.{DiagonalProbability}
 use Rattle.codes_calls.specs.declared.Created.{Created}
 use Rattle.codes_calls.specs.declared.Created.TheVariants.{Code}
 use Rattle.codes_calls.specs.Columns.{CodeColumns, code_in}
-use Rattle.codes_calls.proofs.create.create_code.Kinds as create-kinds
-use Rattle.codes_calls.proofs.create.create_code.Reads as create-reads
-use Rattle.codes_calls.proofs.weighted.new.Kinds as new-kinds
-use Rattle.codes_calls.proofs.weighted.new.Reads as new-reads
-use Rattle.codes_calls.proofs.weighted.new_diagonal.Kinds as diagonal-kinds
-use Rattle.codes_calls.proofs.weighted.new_diagonal.Reads as diagonal-reads
+use Rattle.codes_calls.specs.contracts.create.create_code as create_contract
+use Rattle.codes_calls.specs.contracts.weighted.new as new_contract
+use Rattle.codes_calls.specs.contracts.weighted.new_diagonal as diagonal_contract
+
+-- What a caller of each function learns of a call.
+abbrev create_reading : (κs : Lfts 13) (a : ArgsD create_contract.signature κs) (r : ResD create_contract.signature κs) (s : AtExit create_contract.ended κs)
+    → Reading (λ w. (create_contract.clauses w.𝓛 w.𝓜.mem w.𝓡.returns κs a).ensures tt r s)
+create_reading κs a r s = one_fact _
+
+abbrev new_reading : (κs : Lfts 13) (a : ArgsD new_contract.signature κs) (r : ResD new_contract.signature κs) (s : AtExit new_contract.ended κs)
+    → Reading (λ w. (new_contract.clauses w.𝓛 w.𝓜.mem w.𝓡.returns κs a).ensures tt r s)
+new_reading κs a r s = one_fact _
+
+abbrev diagonal_reading : (κs : Lfts 13) (a : ArgsD diagonal_contract.signature κs) (r : ResD diagonal_contract.signature κs) (s : AtExit diagonal_contract.ended κs)
+    → Reading (λ w. (diagonal_contract.clauses w.𝓛 w.𝓜.mem w.𝓡.returns κs a).ensures tt r s)
+diagonal_reading κs a r s = one_fact _
 
 -- Six builders: a `create_code` that returned: kind, d, rounds, the columns before and after, and the answer.
 pub data CreateReturned : (kind d rounds : ℕ) (c₀ c : CodeColumns) → Created → Type 0 where
-  create_returned : (κs : Lfts 13) (a : Dens κs create-kinds.ps) (r : Created) (s : AtExit (ended_of 13 create-kinds.ps create-kinds.r) κs) → create-reads.Learnt κs a r s
+  create_returned : (κs : Lfts 13) (a : ArgsD create_contract.signature κs) (r : Created) (s : AtExit create_contract.ended κs) → Learnt (create_reading κs a r s)
       → CreateReturned a.0 a.1.0 a.1.1.0
       (code_in a.1.1.1.0.now a.1.1.1.1.0.now a.1.1.1.1.1.0.now a.1.1.1.1.1.1.0.now a.1.1.1.1.1.1.1.0.now a.1.1.1.1.1.1.1.1.0.now a.1.1.1.1.1.1.1.1.1.0.now a.1.1.1.1.1.1.1.1.1.1.0.now a.1.1.1.1.1.1.1.1.1.1.1.0.now a.1.1.1.1.1.1.1.1.1.1.1.1.0.now a.1.1.1.1.1.1.1.1.1.1.1.1.1.0.now a.1.1.1.1.1.1.1.1.1.1.1.1.1.1.0.now a.1.1.1.1.1.1.1.1.1.1.1.1.1.1.1.0.now)
       (code_in s.1.1.1.0.now s.1.1.1.1.0.now s.1.1.1.1.1.0.now s.1.1.1.1.1.1.0.now s.1.1.1.1.1.1.1.0.now s.1.1.1.1.1.1.1.1.0.now s.1.1.1.1.1.1.1.1.1.0.now s.1.1.1.1.1.1.1.1.1.1.0.now s.1.1.1.1.1.1.1.1.1.1.1.0.now s.1.1.1.1.1.1.1.1.1.1.1.1.0.now s.1.1.1.1.1.1.1.1.1.1.1.1.1.0.now s.1.1.1.1.1.1.1.1.1.1.1.1.1.1.0.now s.1.1.1.1.1.1.1.1.1.1.1.1.1.1.1.0.now)
@@ -25,7 +36,7 @@ pub data CreateReturned : (kind d rounds : ℕ) (c₀ c : CodeColumns) → Creat
 
 -- Weights, on the diagonal probability, sentence 2: a `new` that returned: kind, d, rounds, p, M, the columns before and after, and the answer.
 pub data NewReturned : (kind d rounds : ℕ) (p : Float) (max : ℕ) (c₀ c : CodeColumns) → Created → Type 0 where
-  new_returned : (κs : Lfts 13) (a : Dens κs new-kinds.ps) (r : Created) (s : AtExit (ended_of 13 new-kinds.ps new-kinds.r) κs) → new-reads.Learnt κs a r s
+  new_returned : (κs : Lfts 13) (a : ArgsD new_contract.signature κs) (r : Created) (s : AtExit new_contract.ended κs) → Learnt (new_reading κs a r s)
       → NewReturned a.0 a.1.0 a.1.1.0 a.1.1.1.0 a.1.1.1.1.0
       (code_in a.1.1.1.1.1.0.now a.1.1.1.1.1.1.0.now a.1.1.1.1.1.1.1.0.now a.1.1.1.1.1.1.1.1.0.now a.1.1.1.1.1.1.1.1.1.0.now a.1.1.1.1.1.1.1.1.1.1.0.now a.1.1.1.1.1.1.1.1.1.1.1.0.now a.1.1.1.1.1.1.1.1.1.1.1.1.0.now a.1.1.1.1.1.1.1.1.1.1.1.1.1.0.now a.1.1.1.1.1.1.1.1.1.1.1.1.1.1.0.now a.1.1.1.1.1.1.1.1.1.1.1.1.1.1.1.0.now a.1.1.1.1.1.1.1.1.1.1.1.1.1.1.1.1.0.now a.1.1.1.1.1.1.1.1.1.1.1.1.1.1.1.1.1.0.now)
       (code_in s.1.1.1.1.1.0.now s.1.1.1.1.1.1.0.now s.1.1.1.1.1.1.1.0.now s.1.1.1.1.1.1.1.1.0.now s.1.1.1.1.1.1.1.1.1.0.now s.1.1.1.1.1.1.1.1.1.1.0.now s.1.1.1.1.1.1.1.1.1.1.1.0.now s.1.1.1.1.1.1.1.1.1.1.1.1.0.now s.1.1.1.1.1.1.1.1.1.1.1.1.1.0.now s.1.1.1.1.1.1.1.1.1.1.1.1.1.1.0.now s.1.1.1.1.1.1.1.1.1.1.1.1.1.1.1.0.now s.1.1.1.1.1.1.1.1.1.1.1.1.1.1.1.1.0.now s.1.1.1.1.1.1.1.1.1.1.1.1.1.1.1.1.1.0.now)
@@ -33,7 +44,7 @@ pub data NewReturned : (kind d rounds : ℕ) (p : Float) (max : ℕ) (c₀ c : C
 
 -- Weights, on the diagonal probability, sentence 1: a `new_diagonal` that returned: d, rounds, p, the diagonal probability, M, the columns before and after, and the answer.
 pub data NewDiagonalReturned : (d rounds : ℕ) (p : Float) (diagonal : DiagonalProbability) (max : ℕ) (c₀ c : CodeColumns) → Created → Type 0 where
-  new_diagonal_returned : (κs : Lfts 13) (a : Dens κs diagonal-kinds.ps) (r : Created) (s : AtExit (ended_of 13 diagonal-kinds.ps diagonal-kinds.r) κs) → diagonal-reads.Learnt κs a r s
+  new_diagonal_returned : (κs : Lfts 13) (a : ArgsD diagonal_contract.signature κs) (r : Created) (s : AtExit diagonal_contract.ended κs) → Learnt (diagonal_reading κs a r s)
       → NewDiagonalReturned a.0 a.1.0 a.1.1.0 a.1.1.1.1.0 a.1.1.1.0
       (code_in a.1.1.1.1.1.0.now a.1.1.1.1.1.1.0.now a.1.1.1.1.1.1.1.0.now a.1.1.1.1.1.1.1.1.0.now a.1.1.1.1.1.1.1.1.1.0.now a.1.1.1.1.1.1.1.1.1.1.0.now a.1.1.1.1.1.1.1.1.1.1.1.0.now a.1.1.1.1.1.1.1.1.1.1.1.1.0.now a.1.1.1.1.1.1.1.1.1.1.1.1.1.0.now a.1.1.1.1.1.1.1.1.1.1.1.1.1.1.0.now a.1.1.1.1.1.1.1.1.1.1.1.1.1.1.1.0.now a.1.1.1.1.1.1.1.1.1.1.1.1.1.1.1.1.0.now a.1.1.1.1.1.1.1.1.1.1.1.1.1.1.1.1.1.0.now)
       (code_in s.1.1.1.1.1.0.now s.1.1.1.1.1.1.0.now s.1.1.1.1.1.1.1.0.now s.1.1.1.1.1.1.1.1.0.now s.1.1.1.1.1.1.1.1.1.0.now s.1.1.1.1.1.1.1.1.1.1.0.now s.1.1.1.1.1.1.1.1.1.1.1.0.now s.1.1.1.1.1.1.1.1.1.1.1.1.0.now s.1.1.1.1.1.1.1.1.1.1.1.1.1.0.now s.1.1.1.1.1.1.1.1.1.1.1.1.1.1.0.now s.1.1.1.1.1.1.1.1.1.1.1.1.1.1.1.0.now s.1.1.1.1.1.1.1.1.1.1.1.1.1.1.1.1.0.now s.1.1.1.1.1.1.1.1.1.1.1.1.1.1.1.1.1.0.now)

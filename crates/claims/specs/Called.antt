@@ -2,8 +2,9 @@
 -- as they were passed, the result, and the parameters at exit. A parameter that is only read is at exit as it was passed.
 use Rattle.std.specs.Prelude.{ℕ, List, [], ◌∷◌, ℤ}
 use contract.Lifetimes.{Lfts}
-use borrow.Fn.Kinds.{Dens, ended_of}
 use denote.Triple.Clauses.{AtExit}
+use borrow.Fn.World.{ArgsD, ResD}
+use Rattle.learnt.specs.Learnt.{Reading, Learnt, one_fact}
 use Rattle.engine_columns.specs.declared.EngineCounts.{EngineCounts}
 use Rattle.engine_columns.specs.declared.EngineAnswer.{EngineAnswer}
 use Rattle.engine_columns.specs.declared.EngineAnswer.TheVariants.{Counts}
@@ -15,19 +16,32 @@ use Rattle.query_crossing_answer.specs.declared.CrossingReply.{CrossingReply}
 use Rattle.query_crossing_answer.specs.Crossing.{reply_number}
 use Rattle.claims.specs.Listed.{OwnLengths, own_lengths, ListedCall, modifies, crosses}
 use Rattle.claims.specs.QueriesCalled.{CrossingReturned}
-use Rattle.engine_calls.proofs.open.Kinds as open-kinds
-use Rattle.engine_calls.proofs.open.Reads as open-reads
-use Rattle.engine_calls.proofs.load_erasures.Kinds as erasures-kinds
-use Rattle.engine_calls.proofs.load_erasures.Reads as erasures-reads
-use Rattle.engine_calls.proofs.load_dynamic_weights.Kinds as weights-kinds
-use Rattle.engine_calls.proofs.load_dynamic_weights.Reads as weights-reads
-use Rattle.engine_calls.proofs.reset.Kinds as reset-kinds
-use Rattle.engine_calls.proofs.reset.Reads as reset-reads
+use Rattle.engine_calls.specs.contracts.open as open_contract
+use Rattle.engine_calls.specs.contracts.load_erasures as erasures_contract
+use Rattle.engine_calls.specs.contracts.load_dynamic_weights as weights_contract
+use Rattle.engine_calls.specs.contracts.reset as reset_contract
 use Rattle.query_questions.specs.Scratch.{ScratchColumns}
+
+-- What a caller of each function learns of a call.
+abbrev open_reading : (κs : Lfts 8) (a : ArgsD open_contract.signature κs) (r : ResD open_contract.signature κs) (s : AtExit open_contract.ended κs)
+    → Reading (λ w. (open_contract.clauses w.𝓛 w.𝓜.mem w.𝓡.returns κs a).ensures tt r s)
+open_reading κs a r s = one_fact _
+
+abbrev erasures_reading : (κs : Lfts 7) (a : ArgsD erasures_contract.signature κs) (r : ResD erasures_contract.signature κs) (s : AtExit erasures_contract.ended κs)
+    → Reading (λ w. (erasures_contract.clauses w.𝓛 w.𝓜.mem w.𝓡.returns κs a).ensures tt r s)
+erasures_reading κs a r s = one_fact _
+
+abbrev weights_reading : (κs : Lfts 8) (a : ArgsD weights_contract.signature κs) (r : ResD weights_contract.signature κs) (s : AtExit weights_contract.ended κs)
+    → Reading (λ w. (weights_contract.clauses w.𝓛 w.𝓜.mem w.𝓡.returns κs a).ensures tt r s)
+weights_reading κs a r s = one_fact _
+
+abbrev reset_reading : (κs : Lfts 6) (a : ArgsD reset_contract.signature κs) (r : ResD reset_contract.signature κs) (s : AtExit reset_contract.ended κs)
+    → Reading (λ w. (reset_contract.clauses w.𝓛 w.𝓜.mem w.𝓡.returns κs a).ensures tt r s)
+reset_reading κs a r s = one_fact _
 
 -- Engine, Open: an open that returned: the counts, what it was handed, the answer, and the engine's columns before and after.
 pub data OpenReturned : (vertices edges : ℕ) (handed lent₀ : GraphColumns) → EngineAnswer → (lent : GraphColumns) → Type 0 where
-  open_returned : (κs : Lfts 8) (a : Dens κs open-kinds.ps) (r : EngineAnswer) (s : AtExit (ended_of 8 open-kinds.ps open-kinds.r) κs) → open-reads.Learnt κs a r s
+  open_returned : (κs : Lfts 8) (a : ArgsD open_contract.signature κs) (r : EngineAnswer) (s : AtExit open_contract.ended κs) → Learnt (open_reading κs a r s)
       → OpenReturned a.0 a.1.0
       (graph_columns a.1.1.0.now a.1.1.1.0.now a.1.1.1.1.0.now a.1.1.1.1.1.0.now)
       (graph_columns a.1.1.1.1.1.1.0.now a.1.1.1.1.1.1.1.0.now a.1.1.1.1.1.1.1.1.0.now a.1.1.1.1.1.1.1.1.1.0.now)
@@ -42,17 +56,17 @@ pub data OpenCalled : (vertices edges : ℕ) → GraphColumns → Engine → Typ
 
 -- Engine, Load and Reset: a load or a reset that returned: the columns lent, the answer, and the columns as the call left them.
 pub data Called : Call → Engine → EngineAnswer → Engine → Type 0 where
-  load_erasures_called : (κs : Lfts 7) (a : Dens κs erasures-kinds.ps) (r : EngineAnswer) (s : AtExit (ended_of 7 erasures-kinds.ps erasures-kinds.r) κs) → erasures-reads.Learnt κs a r s
+  load_erasures_called : (κs : Lfts 7) (a : ArgsD erasures_contract.signature κs) (r : EngineAnswer) (s : AtExit erasures_contract.ended κs) → Learnt (erasures_reading κs a r s)
       → Called (load_erasures a.1.1.1.1.1.1.1.0.now)
       (engine_in a.0 a.1.0.now a.1.1.0.now a.1.1.1.0.now a.1.1.1.1.0.now a.1.1.1.1.1.0.now a.1.1.1.1.1.1.0.now)
       r
       (engine_in (kept a.0 r) a.1.0.now a.1.1.0.now s.1.1.1.0.now a.1.1.1.1.0.now s.1.1.1.1.1.0.now s.1.1.1.1.1.1.0.now)
-  load_weights_called : (κs : Lfts 8) (a : Dens κs weights-kinds.ps) (r : EngineAnswer) (s : AtExit (ended_of 8 weights-kinds.ps weights-kinds.r) κs) → weights-reads.Learnt κs a r s
+  load_weights_called : (κs : Lfts 8) (a : ArgsD weights_contract.signature κs) (r : EngineAnswer) (s : AtExit weights_contract.ended κs) → Learnt (weights_reading κs a r s)
       → Called (load_weights a.1.1.1.1.1.1.1.0.now a.1.1.1.1.1.1.1.1.0.now)
       (engine_in a.0 a.1.0.now a.1.1.0.now a.1.1.1.0.now a.1.1.1.1.0.now a.1.1.1.1.1.0.now a.1.1.1.1.1.1.0.now)
       r
       (engine_in (kept a.0 r) a.1.0.now a.1.1.0.now s.1.1.1.0.now a.1.1.1.1.0.now s.1.1.1.1.1.0.now s.1.1.1.1.1.1.0.now)
-  reset_called : (κs : Lfts 6) (a : Dens κs reset-kinds.ps) (r : EngineAnswer) (s : AtExit (ended_of 6 reset-kinds.ps reset-kinds.r) κs) → reset-reads.Learnt κs a r s
+  reset_called : (κs : Lfts 6) (a : ArgsD reset_contract.signature κs) (r : EngineAnswer) (s : AtExit reset_contract.ended κs) → Learnt (reset_reading κs a r s)
       → Called reset
       (engine_in a.0 a.1.0.now a.1.1.0.now a.1.1.1.0.now a.1.1.1.1.0.now a.1.1.1.1.1.0.now a.1.1.1.1.1.1.0.now)
       r

@@ -3,14 +3,19 @@ use Rattle.std.specs.Prelude.{ℕ, ◌≤◌, ◌≡◌, List, [], ◌∷◌, le
 use Prim.Native.Char.{code}
 use Prim.Native.String as Text
 use contract.Lifetimes.{Lfts}
-use borrow.Fn.Kinds.{Dens, ended_of}
 use denote.Triple.Clauses.{AtExit}
+use borrow.Fn.World.{ArgsD, ResD}
+use Rattle.learnt.specs.Learnt.{Reading, Learnt, one_fact}
 use Rattle.columns.specs.Lists.{over}
 use Rattle.columns_answers.specs.Said.{accepts}
 use Rattle.text_answer.specs.declared.Listed.{Listed}
 use Rattle.text_answer.specs.Answer.{answer_text, text_room, text_said}
-use Rattle.text_answer.proofs.codelist.Kinds as codelist-kinds
-use Rattle.text_answer.proofs.codelist.Reads as codelist-reads
+use Rattle.text_answer.specs.contracts.codelist as codelist_contract
+
+-- What a caller learns of a call.
+abbrev codelist_reading : (κs : Lfts 2) (a : ArgsD codelist_contract.signature κs) (r : ResD codelist_contract.signature κs) (s : AtExit codelist_contract.ended κs)
+    → Reading (λ w. (codelist_contract.clauses w.𝓛 w.𝓜.mem w.𝓡.returns κs a).ensures tt r s)
+codelist_reading κs a r s = one_fact _
 
 -- The program codelist: a text in bytes; each character here is one byte.
 abbrev pub bytes_of : Text.String → List ℕ
@@ -27,7 +32,7 @@ example_listing = "g,1,3,0,4,3\nv,0,0\nv,1,0\nv,2,2\nv,3,1\ne,0,0,1,1000\ne,1,1,
 
 -- The program codelist: a call that returned: the input, the text column before and after, and the answer. `Learnt` is what a caller of the function learns.
 pub data CodelistReturned : (input text₀ text : List ℕ) → Listed → Type 0 where
-  codelist_returned : (κs : Lfts 2) (a : Dens κs codelist-kinds.ps) (r : Listed) (s : AtExit (ended_of 2 codelist-kinds.ps codelist-kinds.r) κs) → codelist-reads.Learnt κs a r s
+  codelist_returned : (κs : Lfts 2) (a : ArgsD codelist_contract.signature κs) (r : Listed) (s : AtExit codelist_contract.ended κs) → Learnt (codelist_reading κs a r s)
       → CodelistReturned a.0.now a.1.0.now s.1.0.now r
 
 -- The program codelist, "Input `1,3,0,3fc0000000000000,500` prints:": of every call with this input and a text column that is long enough.

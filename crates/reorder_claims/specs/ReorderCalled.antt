@@ -2,16 +2,21 @@
 -- arguments as they were passed, the result, and the parameters at exit. The columns lent are any: no call needs to have made them.
 use Rattle.std.specs.Prelude.{ℕ, List}
 use contract.Lifetimes.{Lfts}
-use borrow.Fn.Kinds.{Dens, ended_of}
 use denote.Triple.Clauses.{AtExit}
+use borrow.Fn.World.{ArgsD, ResD}
+use Rattle.learnt.specs.Learnt.{Reading, Learnt, one_fact}
 use Rattle.columns.specs.declared.Done.TheVariants.{Accepted}
 use Rattle.reorder_calls.specs.Columns.{ReorderColumns, reorder_in}
-use Rattle.reorder_calls.proofs.reorder_vertices.Kinds as reorder-kinds
-use Rattle.reorder_calls.proofs.reorder_vertices.Reads as reorder-reads
+use Rattle.reorder_calls.specs.contracts.reorder_vertices as reorder_contract
+
+-- What a caller learns of a call.
+abbrev reorder_reading : (κs : Lfts 11) (a : ArgsD reorder_contract.signature κs) (r : ResD reorder_contract.signature κs) (s : AtExit reorder_contract.ended κs)
+    → Reading (λ w. (reorder_contract.clauses w.𝓛 w.𝓜.mem w.𝓡.returns κs a).ensures tt r s)
+reorder_reading κs a r s = one_fact _
 
 -- Sampling, syndromes, reordering, paragraph 2, sentence 5: an accepted `reorder_vertices`: the counts, the order list, and the columns before and after.
 pub data VerticesReordered : (v e : ℕ) (order : List ℕ) (c₀ c : ReorderColumns) → Type 0 where
-  vertices_reordered : (κs : Lfts 11) (a : Dens κs reorder-kinds.ps) (s : AtExit (ended_of 11 reorder-kinds.ps reorder-kinds.r) κs) → reorder-reads.Learnt κs a Accepted s
+  vertices_reordered : (κs : Lfts 11) (a : ArgsD reorder_contract.signature κs) (s : AtExit reorder_contract.ended κs) → Learnt (reorder_reading κs a Accepted s)
       → VerticesReordered a.0 a.1.0 a.1.1.0.now
       (reorder_in a.1.1.1.0.now a.1.1.1.1.0.now a.1.1.1.1.1.0.now a.1.1.1.1.1.1.0.now a.1.1.1.1.1.1.1.0.now a.1.1.1.1.1.1.1.1.0.now a.1.1.1.1.1.1.1.1.1.0.now a.1.1.1.1.1.1.1.1.1.1.0.now a.1.1.1.1.1.1.1.1.1.1.1.0.now a.1.1.1.1.1.1.1.1.1.1.1.1.0.now)
       (reorder_in s.1.1.1.0.now s.1.1.1.1.0.now s.1.1.1.1.1.0.now s.1.1.1.1.1.1.0.now s.1.1.1.1.1.1.1.0.now s.1.1.1.1.1.1.1.1.0.now s.1.1.1.1.1.1.1.1.1.0.now s.1.1.1.1.1.1.1.1.1.1.0.now s.1.1.1.1.1.1.1.1.1.1.1.0.now s.1.1.1.1.1.1.1.1.1.1.1.1.0.now)

@@ -2,22 +2,30 @@
 -- as they were passed, the result, and the parameters at exit.
 use Rattle.std.specs.Prelude.{ℕ, List, Float}
 use contract.Lifetimes.{Lfts}
-use borrow.Fn.Kinds.{Dens, ended_of}
 use denote.Triple.Clauses.{AtExit}
+use borrow.Fn.World.{ArgsD, ResD}
+use Rattle.learnt.specs.Learnt.{Reading, Learnt, one_fact}
 use Rattle.columns.specs.declared.Done.{Done}
 use Rattle.weights_calls.specs.declared.WeightOfP.{WeightOfP}
-use Rattle.weights_calls.proofs.weight_of_p.Kinds as weight-kinds
-use Rattle.weights_calls.proofs.weight_of_p.Reads as weight-reads
-use Rattle.weights_calls.proofs.compute_weights.Kinds as compute-kinds
-use Rattle.weights_calls.proofs.compute_weights.Reads as compute-reads
+use Rattle.weights_calls.specs.contracts.weight_of_p as weight_contract
+use Rattle.weights_calls.specs.contracts.compute_weights as compute_contract
+
+-- What a caller of each function learns of a call.
+abbrev weight_reading : (κs : Lfts 0) (a : ArgsD weight_contract.signature κs) (r : ResD weight_contract.signature κs) (s : AtExit weight_contract.ended κs)
+    → Reading (λ w. (weight_contract.clauses w.𝓛 w.𝓜.mem w.𝓡.returns κs a).ensures tt r s)
+weight_reading κs a r s = one_fact _
+
+abbrev compute_reading : (κs : Lfts 2) (a : ArgsD compute_contract.signature κs) (r : ResD compute_contract.signature κs) (s : AtExit compute_contract.ended κs)
+    → Reading (λ w. (compute_contract.clauses w.𝓛 w.𝓜.mem w.𝓡.returns κs a).ensures tt r s)
+compute_reading κs a r s = one_fact _
 
 -- Weights, on the logarithm: a `weight_of_p` that returned: p and the answer.
 pub data WeightReturned : (p : Float) → WeightOfP → Type 0 where
-  weight_returned : (κs : Lfts 0) (a : Dens κs weight-kinds.ps) (r : WeightOfP) (s : AtExit (ended_of 0 weight-kinds.ps weight-kinds.r) κs) → weight-reads.Learnt κs a r s
+  weight_returned : (κs : Lfts 0) (a : ArgsD weight_contract.signature κs) (r : WeightOfP) (s : AtExit weight_contract.ended κs) → Learnt (weight_reading κs a r s)
       → WeightReturned a.0 r
 
 -- Weights, on half weights: a `compute_weights` that returned: how many edges, p, the column of half weights as it was lent, M, the answer, and the column as the
 -- call left it.
 pub data WeightsReturned : (edges : ℕ) (p : List Float) (column₀ : List ℕ) (max : ℕ) → Done → (column : List ℕ) → Type 0 where
-  weights_returned : (κs : Lfts 2) (a : Dens κs compute-kinds.ps) (r : Done) (s : AtExit (ended_of 2 compute-kinds.ps compute-kinds.r) κs) → compute-reads.Learnt κs a r s
+  weights_returned : (κs : Lfts 2) (a : ArgsD compute_contract.signature κs) (r : Done) (s : AtExit compute_contract.ended κs) → Learnt (compute_reading κs a r s)
       → WeightsReturned a.0 a.1.0.now a.1.1.0.now a.1.1.1.0 r s.1.1.0.now

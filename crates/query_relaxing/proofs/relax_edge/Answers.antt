@@ -43,8 +43,11 @@ shape_of-leaf c = c.leaf-1.given
 
 pub returns : goal.returns
 returns c = let s = c in
-    let o = c.offer_to.ensures in record { by_index = λ n m.
+    let o = c.offer_to.ensures in record {
+      by_index = λ n m.
           let g = graph_of n s.args.ends_a.now s.args.ends_b.now m in
           let w = weighs s.args.weights.now in
           o.previous_after ∙ ap (λ u. offer s.args.a.0 s.args.q.0 u (s.args.w + w s.args.e.0) (state_of s.args.status.now s.args.weight.now s.args.previous.now)) c.other_end-u.ensures
-          ∙ sym (edge_by g w s.args.a.0 s.args.q.0 s.args.w s.args.e.0 (state_of s.args.status.now s.args.weight.now s.args.previous.now) s.requires.fact); ready_2 = o.ready_2 }
+          ∙ sym (edge_by g w s.args.a.0 s.args.q.0 s.args.w s.args.e.0 (state_of s.args.status.now s.args.weight.now s.args.previous.now) s.requires.fact);
+      ready_2 = o.ready_2;
+    }

@@ -60,8 +60,11 @@ pub returns-then-not-turn : goal.returns-then-not-turn
 returns-then-not-turn c = let s = c in
     let at = c.loop-t in
     let o = c.turn.ensures in
-    let none-waits = ap (λ k. to_take k (state_of at.status at.weight at.previous)) (sym at.invariant.1) ∙ o.previous_value c.if-not-turn.true in record { by_index = (λ m. o.by_index m ∙ ap (take_chosen (graph_of (length at.status) s.args.ends_a.now s.args.ends_b.now m) (weighs s.args.weights.now) (state_of at.status at.weight at.previous)) (o.previous_value c.if-not-turn.true)
-          ∙ ends-none (length s.args.status.now) s.args.ends_a.now s.args.ends_b.now s.args.weights.now s.args.status.now s.args.weight.now s.args.previous.now s.args.stop.0 refl s.requires.begun at.t _ at.invariant.3 m none-waits at.invariant.0); ready_2 = ready_as at.invariant.1 o.ready_2 }
+    let none-waits = ap (λ k. to_take k (state_of at.status at.weight at.previous)) (sym at.invariant.1) ∙ o.previous_value c.if-not-turn.true in record {
+      by_index = (λ m. o.by_index m ∙ ap (take_chosen (graph_of (length at.status) s.args.ends_a.now s.args.ends_b.now m) (weighs s.args.weights.now) (state_of at.status at.weight at.previous)) (o.previous_value c.if-not-turn.true)
+          ∙ ends-none (length s.args.status.now) s.args.ends_a.now s.args.ends_b.now s.args.weights.now s.args.status.now s.args.weight.now s.args.previous.now s.args.stop.0 refl s.requires.begun at.t _ at.invariant.3 m none-waits at.invariant.0);
+      ready_2 = ready_as at.invariant.1 o.ready_2;
+    }
 
 pub loop-t-preserved : goal.loop-t-preserved
 loop-t-preserved c =

@@ -29,5 +29,8 @@ returns c = let s = c in
     let a = s.args in
     let e = c.list_starts-sum.ensures.0 in
     let long : c.list_starts-sum.result ≤ length a.numbers.now = omega (arith, e, s.requires.lengths_in_bounds.0) in
-    let room : c.list_starts-sum.result ≤ length a.scratch.now = omega (arith, e, s.requires.lengths_in_bounds.1) in record { numbers_after = c.gather_lists.ensures ∙ ap (λ (l : List ℕ). over l a.numbers.now) (lists_copy a.order.now a.lengths.now a.numbers.now a.scratch.now s.requires.order.0 e long room c.copy_u32.ensures); scratch_after = c.copy_u32.ensures ∙ sets_over a.scratch.now (take c.list_starts-sum.result a.numbers.now) (omega (arith, length-take c.list_starts-sum.result a.numbers.now))
-          ∙ ap (λ (n : ℕ). over (take n a.numbers.now) a.scratch.now) e }
+    let room : c.list_starts-sum.result ≤ length a.scratch.now = omega (arith, e, s.requires.lengths_in_bounds.1) in record {
+      numbers_after = c.gather_lists.ensures ∙ ap (λ (l : List ℕ). over l a.numbers.now) (lists_copy a.order.now a.lengths.now a.numbers.now a.scratch.now s.requires.order.0 e long room c.copy_u32.ensures);
+      scratch_after = c.copy_u32.ensures ∙ sets_over a.scratch.now (take c.list_starts-sum.result a.numbers.now) (omega (arith, length-take c.list_starts-sum.result a.numbers.now))
+          ∙ ap (λ (n : ℕ). over (take n a.numbers.now) a.scratch.now) e;
+    }

@@ -12,14 +12,10 @@ pub write_listing-requires : goal.write_listing-requires
 write_listing-requires c = let s = c in
     record { vertices_bound = search rules; edges_bound = search rules; crossing_in_bounds = crossed-reply-fits _ _ _ _ _ _ _ _ _ s.args.reply _ (let t = c.in-Crossed.is in cc) s.requires.reply_in_bounds }
 
-
-
 pub returns-in-Refused : goal.returns-in-Refused
 returns-in-Refused c =
     let s = c.args in
     refused-reply _ _ _ _ _ _ _ _ _ s.reply _ c.write_refusal.ensures (let t = c.in-Refused.is in cc)
-
-
 
 pub returns-in-Crossed : goal.returns-in-Crossed
 returns-in-Crossed c =

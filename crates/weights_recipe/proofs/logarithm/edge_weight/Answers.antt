@@ -21,8 +21,8 @@ returns c =
     let k = at-loop.loop-k.k in
     let q = at-loop.loop-k.q in
     let is : ended k q ≡ from k q =
-        elim c.loop-k-test.branch [
-          | else-loop-k-test w ↦ sym (spent (64 - k) (lt q two) q k (omega arith))
-          | then-loop-k-test+then-q w ↦ sym (stops (64 - k) q k w.if-q.true)
-        ] in
+    elim c.loop-k-test.branch [
+      | else-loop-k-test w ↦ sym (spent (64 - k) (lt q two) q k (omega arith))
+      | then-loop-k-test+then-q w ↦ sym (stops (64 - k) q k w.if-q.true)
+    ] in
     last_line k q c.sum_series-h.result c.sum_series-h.ensures ∙ past_zero at-loop.args.p (ended k q) at-loop.if-p.false (is ∙ at-loop.loop-k.invariant.1)

@@ -426,11 +426,28 @@ class Function:
                     binders, result = parts_of(ty[1])
                     args_, at = [], 0
                     for _ in params:
-                        k = re.match(r"\s*(\((?:[^()]|\((?:[^()]|\((?:[^()]|\([^()]*\))*\))*\))*\)(?:\.[\w'-]+)*|" + W + r"(?:\." + W + r")*)", rest[at:])
-                        if not k or k[1].startswith("="):
+                        b = at
+                        while b < len(rest) and rest[b].isspace():
+                            b += 1
+                        if b >= len(rest) or rest[b] in "=)":
                             break
-                        args_.append(re.sub(r"^\((" + W + r"(?:\." + W + r")*)\)$", r"\1", k[1]))
-                        at += k.end()
+                        e_ = b
+                        if rest[b] == "(":
+                            d_ = 0
+                            while True:
+                                d_ += {"(": 1, ")": -1}.get(rest[e_], 0)
+                                e_ += 1
+                                if d_ == 0:
+                                    break
+                            k = re.match(r"(?:\.[\w'-]+)*", rest[e_:])
+                            e_ += k.end()
+                        else:
+                            k = re.match(W + r"(?:\." + W + r")*", rest[b:])
+                            if not k:
+                                break
+                            e_ = b + k.end()
+                        args_.append(re.sub(r"^\((" + W + r"(?:\." + W + r")*)\)$", r"\1", rest[b:e_]))
+                        at = e_
                     if len(args_) != len(params) or len(binders) < len(params):
                         self.look("cannot write out " + name)
                         return text

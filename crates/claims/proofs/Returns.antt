@@ -13,7 +13,7 @@ use lib.IntN.{ℤ}
 use contract.Lifetimes.{Lfts}
 use borrow.Fn.Kinds.{Dens, ended_of}
 use denote.Triple.Clauses.{AtExit}
-use denote.Ref.{Bor}
+use denote.Ref.{Bor, MutBor}
 use Rattle.columns.specs.Lists.{each, over, after}
 use Rattle.columns.specs.Questions.{all, every}
 use Rattle.columns_pairs.specs.Pairs.{ends_differ, pairs_apart}
@@ -52,9 +52,12 @@ use Rattle.claims.specs.Called.{OpenReturned, open_returned, Called, load_erasur
 use Rattle.claims.proofs.LeastKeys.{nodes, nodes-length, nodes-tree}
 use Rattle.claims.proofs.Runs.{step_of, opened_of}
 
--- columns lent, with no lifetime to speak of
+-- columns lent, with no lifetime to speak of: to be read, and to be written
 abbrev pub ref : {A : Type 0} → A → Bor A
 ref xs = record { ref_ptr = (0, 0); now = xs }
+
+abbrev pub ref_mut : {A : Type 0} → A → MutBor A
+ref_mut xs = record { ref_ptr = (0, 0); ghost_name = 0; now = xs }
 
 abbrev six : Lfts 6
 six = ([], ([], ([], ([], ([], ([], tt))))))
@@ -79,8 +82,8 @@ says q c = either (eqb q 0) refl
 pub open_returns : (vertices edges : ℕ) (handed lent₀ : GraphColumns) → (r : EngineAnswer) × (lent : GraphColumns) × OpenReturned vertices edges handed lent₀ r lent
 open_returns v e h l =
     let q = open_refusal v e h l in
-    let a : Dens eight open-kinds.ps = (v, (e, (ref h.ends_a, (ref h.ends_b, (ref h.weights, (ref h.boundary, (ref l.ends_a, (ref l.ends_b, (ref l.weights, (ref l.boundary, tt)))))))))) in
-    let s : AtExit (ended_of 8 open-kinds.ps open-kinds.r) eight = (v, (e, (ref h.ends_a, (ref h.ends_b, (ref h.weights, (ref h.boundary, (ref (after q (take e h.ends_a) l.ends_a), (ref (after q (take e h.ends_b) l.ends_b), (ref (after q (take e h.weights) l.weights), (ref (after q (take v h.boundary) l.boundary), tt)))))))))) in
+    let a : Dens eight open-kinds.ps = (v, (e, (ref h.ends_a, (ref h.ends_b, (ref h.weights, (ref h.boundary, (ref_mut l.ends_a, (ref_mut l.ends_b, (ref_mut l.weights, (ref_mut l.boundary, tt)))))))))) in
+    let s : AtExit (ended_of 8 open-kinds.ps open-kinds.r) eight = (v, (e, (ref h.ends_a, (ref h.ends_b, (ref h.weights, (ref h.boundary, (ref_mut (after q (take e h.ends_a) l.ends_a), (ref_mut (after q (take e h.ends_b) l.ends_b), (ref_mut (after q (take e h.weights) l.weights), (ref_mut (after q (take v h.boundary) l.boundary), tt)))))))))) in
     (_, _, open_returned eight a (answer_by (eqb q 0) q (counts v e 0)) s (record { answers = says q (counts v e 0); ends_a_after = refl; ends_b_after = refl; weights_after = refl; boundary_after = refl }))
 
 -- a graph of two vertices, left and right, and one edge
@@ -90,7 +93,7 @@ one_edge = graph_columns (0 ∷ []) (1 ∷ []) (5 ∷ []) (1 ∷ 2 ∷ [])
 pub one_edge_opened : OpenReturned 2 1 one_edge one_edge (Counts (counts 2 1 0)) one_edge
 unfolding all every ends_differ pairs_apart ends_in_range graph_sound three_long columns_long columns_sound
 one_edge_opened =
-    let a : Dens eight open-kinds.ps = (2, (1, (ref (0 ∷ []), (ref (1 ∷ []), (ref (5 ∷ []), (ref (1 ∷ 2 ∷ []), (ref (0 ∷ []), (ref (1 ∷ []), (ref (5 ∷ []), (ref (1 ∷ 2 ∷ []), tt)))))))))) in
+    let a : Dens eight open-kinds.ps = (2, (1, (ref (0 ∷ []), (ref (1 ∷ []), (ref (5 ∷ []), (ref (1 ∷ 2 ∷ []), (ref_mut (0 ∷ []), (ref_mut (1 ∷ []), (ref_mut (5 ∷ []), (ref_mut (1 ∷ 2 ∷ []), tt)))))))))) in
     let s : AtExit (ended_of 8 open-kinds.ps open-kinds.r) eight = a in
     open_returned eight a (Counts (counts 2 1 0)) s (record { answers = accepts-of refl; ends_a_after = refl; ends_b_after = refl; weights_after = refl; boundary_after = refl })
 
@@ -122,20 +125,20 @@ modifying_returns (load_erasures es) e =
     let κs : Lfts 7 = ([], six) in
     let q = engine_refusal (load_erasures es) e in
     let x = cond (eqb q 0) (loaded_by es erased e) e in
-    let a : Dens κs erasures-kinds.ps = (e.counts, (ref e.ends_a, (ref e.ends_b, (ref e.weights, (ref e.boundary, (ref e.log_edges, (ref e.log_weights, (ref es, tt)))))))) in
-    let s : AtExit (ended_of 7 erasures-kinds.ps erasures-kinds.r) κs = (e.counts, (ref e.ends_a, (ref e.ends_b, (ref x.weights, (ref e.boundary, (ref x.log_edges, (ref x.log_weights, (ref es, tt)))))))) in
+    let a : Dens κs erasures-kinds.ps = (e.counts, (ref e.ends_a, (ref e.ends_b, (ref_mut e.weights, (ref e.boundary, (ref_mut e.log_edges, (ref_mut e.log_weights, (ref es, tt)))))))) in
+    let s : AtExit (ended_of 7 erasures-kinds.ps erasures-kinds.r) κs = (e.counts, (ref e.ends_a, (ref e.ends_b, (ref_mut x.weights, (ref e.boundary, (ref_mut x.log_edges, (ref_mut x.log_weights, (ref es, tt)))))))) in
     (_, _, load_erasures_called κs a (answer_by (eqb q 0) q (loaded_by es erased e).counts) s (record { answers = says q _; engine_after = load_after (eqb q 0) q es erased e }))
 modifying_returns (load_weights es xs) e =
     let q = engine_refusal (load_weights es xs) e in
     let x = cond (eqb q 0) (loaded_by es (given xs) e) e in
-    let a : Dens eight weights-kinds.ps = (e.counts, (ref e.ends_a, (ref e.ends_b, (ref e.weights, (ref e.boundary, (ref e.log_edges, (ref e.log_weights, (ref es, (ref xs, tt))))))))) in
-    let s : AtExit (ended_of 8 weights-kinds.ps weights-kinds.r) eight = (e.counts, (ref e.ends_a, (ref e.ends_b, (ref x.weights, (ref e.boundary, (ref x.log_edges, (ref x.log_weights, (ref es, (ref xs, tt))))))))) in
+    let a : Dens eight weights-kinds.ps = (e.counts, (ref e.ends_a, (ref e.ends_b, (ref_mut e.weights, (ref e.boundary, (ref_mut e.log_edges, (ref_mut e.log_weights, (ref es, (ref xs, tt))))))))) in
+    let s : AtExit (ended_of 8 weights-kinds.ps weights-kinds.r) eight = (e.counts, (ref e.ends_a, (ref e.ends_b, (ref_mut x.weights, (ref e.boundary, (ref_mut x.log_edges, (ref_mut x.log_weights, (ref es, (ref xs, tt))))))))) in
     (_, _, load_weights_called eight a (answer_by (eqb q 0) q (loaded_by es (given xs) e).counts) s (record { answers = says q _; engine_after = load_after (eqb q 0) q es (given xs) e }))
 modifying_returns reset e =
     let q = engine_refusal reset e in
     let x = cond (eqb q 0) (changed reset e) e in
-    let a : Dens six reset-kinds.ps = (e.counts, (ref e.ends_a, (ref e.ends_b, (ref e.weights, (ref e.boundary, (ref e.log_edges, (ref e.log_weights, tt))))))) in
-    let s : AtExit (ended_of 6 reset-kinds.ps reset-kinds.r) six = (e.counts, (ref e.ends_a, (ref e.ends_b, (ref x.weights, (ref e.boundary, (ref e.log_edges, (ref e.log_weights, tt))))))) in
+    let a : Dens six reset-kinds.ps = (e.counts, (ref e.ends_a, (ref e.ends_b, (ref_mut e.weights, (ref e.boundary, (ref e.log_edges, (ref e.log_weights, tt))))))) in
+    let s : AtExit (ended_of 6 reset-kinds.ps reset-kinds.r) six = (e.counts, (ref e.ends_a, (ref e.ends_b, (ref_mut x.weights, (ref e.boundary, (ref e.log_edges, (ref e.log_weights, tt))))))) in
     (_, _, reset_called six a (answer_by (eqb q 0) q (changed reset e).counts) s (record { answers = says q _; engine_after = reset_after (eqb q 0) q e }))
 
 -- no load and no reset changes a length
@@ -228,8 +231,8 @@ crossing_returns e weights₀ scratch₀ =
                 (
                   ref e.log_weights,
                   (
-                    ref weights₀,
-                    (ref scratch₀.neighbor_numbers, (ref scratch₀.list_ends, (ref scratch₀.status, (ref scratch₀.weight, (ref scratch₀.previous, (ref scratch₀.node, (ref scratch₀.leaf, tt))))))),
+                    ref_mut weights₀,
+                    (ref_mut scratch₀.neighbor_numbers, (ref_mut scratch₀.list_ends, (ref_mut scratch₀.status, (ref_mut scratch₀.weight, (ref_mut scratch₀.previous, (ref_mut scratch₀.node, (ref_mut scratch₀.leaf, tt))))))),
                   ),
                 ),
               ),
@@ -253,8 +256,8 @@ crossing_returns e weights₀ scratch₀ =
                 (
                   ref e.log_weights,
                   (
-                    ref weights,
-                    (ref c.neighbor_numbers, (ref c.list_ends, (ref c.status, (ref c.weight, (ref c.previous, (ref c.node, (ref c.leaf, tt))))))),
+                    ref_mut weights,
+                    (ref_mut c.neighbor_numbers, (ref_mut c.list_ends, (ref_mut c.status, (ref_mut c.weight, (ref_mut c.previous, (ref_mut c.node, (ref_mut c.leaf, tt))))))),
                   ),
                 ),
               ),

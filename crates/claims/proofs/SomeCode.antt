@@ -21,7 +21,7 @@ use Rattle.codes_calls.specs.Columns.{CodeColumns, shortest, vertex_room, edge_r
 use Rattle.codes_calls.specs.CreateCode.{create_refusal, refusal_in, new_columns}
 use Rattle.codes_calls.proofs.create.create_code.Kinds as create-kinds
 use Rattle.claims.specs.BuildersCalled.{CreateReturned, create_returned, CodeBuilt, create_called}
-use Rattle.claims.proofs.Returns.{ref, eight}
+use Rattle.claims.proofs.Returns.{ref_mut, eight}
 
 shortest_same : (n : ℕ) → shortest n n n n n n ≡ n
 shortest_same n = let m : min n n ≡ n = min-eq_left (le_refl n) in ap (min n) (ap (min n) (ap (min n) (ap (min n) m ∙ m) ∙ m) ∙ m) ∙ m
@@ -93,8 +93,8 @@ module _ (kind d rounds : ℕ) (ok : Buildable kind d rounds) where
 
   created : CreateReturned kind d rounds lent left (Code v e)
   created =
-      let a : Dens thirteen create-kinds.ps = (kind, (d, (rounds, (ref lent.ends_a, (ref lent.ends_b, (ref lent.p, (ref lent.pe, (ref lent.half_weight, (ref lent.erasure, (ref lent.pos_i, (ref lent.pos_j, (ref lent.pos_t, (ref lent.boundary, (ref lent.defect, (ref lent.list_lengths, (ref lent.neighbor_numbers, tt)))))))))))))))) in
-      let s : AtExit (ended_of 13 create-kinds.ps create-kinds.r) thirteen = (kind, (d, (rounds, (ref left.ends_a, (ref left.ends_b, (ref left.p, (ref left.pe, (ref left.half_weight, (ref left.erasure, (ref left.pos_i, (ref left.pos_j, (ref left.pos_t, (ref left.boundary, (ref left.defect, (ref left.list_lengths, (ref left.neighbor_numbers, tt)))))))))))))))) in
+      let a : Dens thirteen create-kinds.ps = (kind, (d, (rounds, (ref_mut lent.ends_a, (ref_mut lent.ends_b, (ref_mut lent.p, (ref_mut lent.pe, (ref_mut lent.half_weight, (ref_mut lent.erasure, (ref_mut lent.pos_i, (ref_mut lent.pos_j, (ref_mut lent.pos_t, (ref_mut lent.boundary, (ref_mut lent.defect, (ref_mut lent.list_lengths, (ref_mut lent.neighbor_numbers, tt)))))))))))))))) in
+      let s : AtExit (ended_of 13 create-kinds.ps create-kinds.r) thirteen = (kind, (d, (rounds, (ref_mut left.ends_a, (ref_mut left.ends_b, (ref_mut left.p, (ref_mut left.pe, (ref_mut left.half_weight, (ref_mut left.erasure, (ref_mut left.pos_i, (ref_mut left.pos_j, (ref_mut left.pos_t, (ref_mut left.boundary, (ref_mut left.defect, (ref_mut left.list_lengths, (ref_mut left.neighbor_numbers, tt)))))))))))))))) in
       create_returned thirteen a (Code v e) s (record {
         answers = accepts-of accepted;
         columns_after = record {

@@ -5,25 +5,19 @@ use Rattle.text_answer.proofs.write_answer.Goals as goal
 pub write_refusal-requires : goal.write_refusal-requires
 write_refusal-requires c =
     let s = c in
-    damaged-fits s.args.line (let t = c.enum_told-1.given in cc) s.requires
+    damaged-fits s.args.line (let t = c.in-NotWellFormed.is in cc) s.requires
 
 pub write_code-requires : goal.write_code-requires
 write_code-requires c =
     let s = c in
-    sound-fits s.args.line _ _ c.of_bits.ensures (let t = c.line-1.given in let u = c.known_told-1.given in cc) s.requires
-
-pub shape_of-text-in-NotWellFormed : goal.shape_of-text-in-NotWellFormed
-shape_of-text-in-NotWellFormed c = c.text-1.given
+    sound-fits s.args.line _ _ c.of_bits.ensures (let t = c.in-WellFormed.is in cc) s.requires
 
 pub returns-in-NotWellFormed : goal.returns-in-NotWellFormed
 returns-in-NotWellFormed c =
     let s = c.args in
-    damaged-line s.line c.write_refusal.ensures (let t = c.enum_told-1.given in cc)
-
-pub shape_of-text-in-WellFormed : goal.shape_of-text-in-WellFormed
-shape_of-text-in-WellFormed c = c.text-in-WellFormed-1.given
+    damaged-line s.line c.write_refusal.ensures (let t = c.in-NotWellFormed.is in cc)
 
 pub returns-in-WellFormed : goal.returns-in-WellFormed
 returns-in-WellFormed c =
     let s = c.args in
-    sound-line s.line _ _ c.write_code.ensures c.of_bits.ensures (let t = c.line-1.given in let u = c.known_told-1.given in cc)
+    sound-line s.line _ _ c.write_code.ensures c.of_bits.ensures (let t = c.in-WellFormed.is in cc)

@@ -8,6 +8,7 @@ use super::nearest::nearest_place;
 use columns::TableWeight;
 
 // The nearest virtual vertex of v in its table; the column's length stands for none.
+#[tactic(auto, using(crate::proofs::Places::at_virtual, crate::proofs::Places::at_inner))]
 fn boundary_place(boundary: &[u8], least: &[TableWeight], v: usize) -> usize
     requires { (length boundary.now ≡ length least.now) × (v < length boundary.now) }
     ensures { result ≡ found_or (length least.now) (boundary_in boundary.now least.now (length least.now) v) }

@@ -2,11 +2,6 @@
 use Rattle.text_answer.proofs.Texts.{damaged-line, sound-line, damaged-fits, sound-fits}
 use Rattle.text_answer.proofs.write_answer.Goals as goal
 
-pub write_refusal-requires : goal.write_refusal-requires
-write_refusal-requires c =
-    let s = c in
-    damaged-fits s.args.line (let t = c.in-NotWellFormed.is in cc) s.requires
-
 pub write_code-requires : goal.write_code-requires
 write_code-requires c =
     let s = c in

@@ -1,6 +1,6 @@
 -- Every open, load, reset and crossing has an answer and columns with what its callers learn, and every list of them answers and an engine at its end: the relations that
 -- the contracts cite are equations for the answer and for each column, and what a search leaves in scratch is built from the state it settles in. Assumes nothing.
-use mathlib.Core.Path.{◌≡◌, refl, sym, ap, ◌∙◌, subst}
+use mathlib.Core.Path.{◌≡◌, refl, ap, ◌∙◌, subst}
 use mathlib.Core.Bool.{Bool, true, false, cond}
 use mathlib.Core.List.{List, [], ◌∷◌, ◌++◌}
 use Prim.Native.Nat.{ℕ, ◌+◌}

@@ -2,7 +2,7 @@
 use mathlib.Core.Path.{◌≡◌, refl, sym, ap, ◌∙◌, subst}
 use mathlib.Core.Bool.{cond}
 use mathlib.Core.List.{List}
-use Prim.Native.Nat.{ℕ, ◌≤◌, ◌<◌}
+use Prim.Native.Nat.{ℕ}
 use native.Mathlib.Omega.{arith}
 use lib.ListN.{length, get_or}
 use lib.Dec.{eqb}
@@ -15,7 +15,7 @@ use Rattle.engine_columns.specs.declared.EngineCounts.{EngineCounts}
 use Rattle.engine_columns.specs.declared.EngineAnswer.TheVariants.{Counts}
 use Rattle.engine_columns.specs.Records.{Engine, counts}
 use Rattle.engine_columns.specs.Calls.{Call, load_erasures, load_weights, reset, engine_refusal, changed, loaded_by, Modified}
-use Rattle.engine_columns.proofs.Refusals.{Loads, loads_of, named_of, Weighed, weighed_of_lem, reset-long, reset-named}
+use Rattle.engine_columns.proofs.Refusals.{Loads, loads_of, named_of, weighed_of_lem, reset-long, reset-named}
 use Rattle.engine_claims.specs.LogCalled.{LoadAccepted, erasures_accepted, weights_accepted, ResetAccepted, reset_accepted}
 use Rattle.engine_claims.specs.Log.{LastWins, LoadLeaves, ResetLeaves, LoadsAndResets}
 use Rattle.engine_claims.proofs.Places.{last-wins, named_past, earlier_past, first-wins, load_past, back_past}

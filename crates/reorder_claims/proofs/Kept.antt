@@ -1,6 +1,6 @@
 -- What reordering keeps: the graph up to the new numbers, question 7, and walks with their weights. Assumes nothing.
 use mathlib.Core.Path.{◌≡◌, sym, ap, ◌∙◌, subst}
-use mathlib.Core.Logic.{⊎_elim, ◌⊎◌, inl, inr, ◌↔◌}
+use mathlib.Core.Logic.{⊎_elim, inl, inr, ◌↔◌}
 use mathlib.Core.Bool.{true}
 use mathlib.Core.List.{List, map}
 use Prim.Native.Nat.{ℕ, ◌≤◌, ◌<◌}

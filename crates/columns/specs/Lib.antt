@@ -6,3 +6,4 @@ pub mod Lists
 pub mod Questions
 pub mod Answers
 pub mod Places
+pub mod Refusals

@@ -3,6 +3,7 @@
 #![tactic(auto)]
 
 pub mod questions;
+pub mod refusal;
 pub mod stores;
 
 ghost use Rattle.std.specs.Prelude.{◌≡◌, ◌<◌, set};

@@ -2,8 +2,34 @@
 use Prim.Native.Nat.{ℕ}
 use mathlib.Core.Path.{◌≡◌, sym, ap, ◌∙◌}
 use mathlib.Core.Bool.{Bool, false≢true, cond}
+use native.Mathlib.Omega.{arith}
 use borrow.Author.Tests.{eq-eqb, ne_eqb}
-use Rattle.columns_answers.specs.Said.{Said, accepts, refuses, Answered}
+use Rattle.std.specs.Prelude.{Result, Ok, Err}
+use Rattle.columns.specs.declared.refusal.Refusal.{Refusal}
+use Rattle.columns.specs.declared.refusal.Refusal.TheVariants as refusal
+use Rattle.columns.specs.Refusals.{number, question_of}
+use Rattle.columns_answers.specs.Said.{Said, accepts, refuses, said, Answered}
+
+-- no question has the number 0
+pub no_zero : (r : Refusal) → number r ≡ 0 → ⊥
+no_zero refusal.IllFormedLine e = absurd (omega arith)
+no_zero refusal.UnknownKind e = absurd (omega arith)
+no_zero refusal.BadDistance e = absurd (omega arith)
+no_zero refusal.BadRounds e = absurd (omega arith)
+no_zero refusal.TooManyVertices e = absurd (omega arith)
+no_zero refusal.ShortColumn e = absurd (omega arith)
+no_zero refusal.UnsoundColumns e = absurd (omega arith)
+no_zero refusal.BadHalfWeight e = absurd (omega arith)
+no_zero refusal.BadProbability e = absurd (omega arith)
+no_zero refusal.NoWeight e = absurd (omega arith)
+no_zero refusal.OrderLength e = absurd (omega arith)
+no_zero refusal.LogNotEmpty e = absurd (omega arith)
+no_zero refusal.NumberOutOfRange e = absurd (omega arith)
+no_zero refusal.RepeatedVertex e = absurd (omega arith)
+no_zero refusal.BadWeight e = absurd (omega arith)
+no_zero refusal.SameVertex e = absurd (omega arith)
+no_zero refusal.Unreached e = absurd (omega arith)
+no_zero refusal.NoCrossing e = absurd (omega arith)
 
 module _ {Values : Type 0} where
   -- the call was accepted, or a number refused it
@@ -28,3 +54,20 @@ module _ {Values : Type 0} where
 
   pub refused-of : {n q : ℕ} {w v z : Values} → Answered (refuses n w) q v z → q ≡ 0 → ⊥
   refused-of {n} {q} {w} {v} {z} a e = false≢true (a.accepted_is ∙ eq-eqb q 0 e)
+
+  -- a call's answer, accepted or refused by a question
+  pub accepted-of : {q : ℕ} {v z : Values} → q ≡ 0 → Answered (said z (Ok v)) q v z
+  accepted-of e = accepts-of e
+
+  pub refusal-of : (r : Refusal) {q : ℕ} {v z : Values} → number r ≡ q → Answered (said z (Err r)) q v z
+  refusal-of r e = refuses-of e (no_zero r)
+
+-- a call without values answers what its questions say
+pub answer_of : (r : Result (Unit {0}) Refusal) {q : ℕ} → question_of r ≡ q → Answered (said tt r) q tt tt
+answer_of (Ok _) e = accepts-of (sym e)
+answer_of (Err r) e = refusal-of r e
+
+-- and what it says is what its questions say
+pub question-of : {Values : Type 0} (r : Result Values Refusal) {q : ℕ} {v z : Values} → Answered (said z r) q v z → question_of r ≡ q
+question-of (Ok _) a = a.number_is
+question-of (Err r) a = a.number_is

@@ -14,3 +14,10 @@ pub enum SyndromeCounts {
     Counts { defects: u32, erasures: u32 },
     Refused(u32),
 }
+
+// How many defects and how many erasures a syndrome has.
+#[derive(Clone, Copy, Debug, PartialEq, Eq)]
+pub struct SyndromeLengths {
+    pub defects: u32,
+    pub erasures: u32,
+}

@@ -5,8 +5,9 @@
 ghost use Rattle.std.specs.Prelude.{◌≤◌, length};
 
 use columns::questions::lesser;
+use columns::refusal::Refusal;
 use columns::{Done, TableWeight};
-use columns_answers::{ListCount, SyndromeCounts};
+use columns_answers::{ListCount, SyndromeCounts, SyndromeLengths};
 use std::io::Read;
 
 pub fn at(list: &[u64], i: usize) -> u64 {
@@ -235,6 +236,41 @@ pub fn show_counts(rt: &impl Print, answer: SyndromeCounts) {
             show(rt, erasures as u64);
         }
         SyndromeCounts::Refused(number) => show(rt, number as u64),
+    }
+    end_line(rt);
+}
+
+// The number of the question that refused a call, 0 where none did.
+pub fn refusal_number(answer: Result<(), Refusal>) -> u32 {
+    match answer {
+        Ok(()) => 0,
+        Err(refusal) => u32::from(refusal),
+    }
+}
+
+pub fn show_answer(rt: &impl Print, answer: Result<(), Refusal>) {
+    show(rt, wide(refusal_number(answer)));
+    end_line(rt);
+}
+
+// How many numbers a call listed, or the number of a refusal plus 100.
+pub fn show_length(rt: &impl Print, answer: Result<u32, Refusal>) {
+    match answer {
+        Ok(n) => show(rt, wide(n)),
+        Err(refusal) => show(rt, u32::from(refusal) as u64 + 100),
+    }
+    end_line(rt);
+}
+
+// 0 and how many defects and erasures a call listed, or the number of a refusal.
+pub fn show_lengths(rt: &impl Print, answer: Result<SyndromeLengths, Refusal>) {
+    match answer {
+        Ok(lengths) => {
+            show(rt, 0);
+            show(rt, wide(lengths.defects));
+            show(rt, wide(lengths.erasures));
+        }
+        Err(refusal) => show(rt, u32::from(refusal) as u64),
     }
     end_line(rt);
 }

@@ -1,11 +1,10 @@
 -- Calls of the three functions that build a code. `Learnt` is what a caller of a function learns of a call, made from the function's own contract: lifetimes,
 -- the arguments as they were passed, the result, and the parameters at exit. The columns lent are any.
-use Rattle.std.specs.Prelude.{ℕ, List, Float}
+use Rattle.std.specs.Prelude.{ℕ, List, Float, Option}
 use contract.Lifetimes.{Lfts}
 use denote.Triple.Clauses.{AtExit}
 use borrow.Fn.World.{ArgsD, ResD}
 use Rattle.learnt.specs.Learnt.{Reading, Learnt, one_fact}
-use Rattle.weights_diagonal.specs.declared.DiagonalProbability.{DiagonalProbability}
 use Rattle.codes_calls.specs.declared.Created.{Created}
 use Rattle.codes_calls.specs.declared.Created.TheVariants.{Code}
 use Rattle.codes_calls.specs.Columns.{CodeColumns, code_in}
@@ -43,7 +42,7 @@ pub data NewReturned : (kind d rounds : ℕ) (p : Float) (max : ℕ) (c₀ c : C
       r
 
 -- Weights, on the diagonal probability, sentence 1: a `new_diagonal` that returned: d, rounds, p, the diagonal probability, M, the columns before and after, and the answer.
-pub data NewDiagonalReturned : (d rounds : ℕ) (p : Float) (diagonal : DiagonalProbability) (max : ℕ) (c₀ c : CodeColumns) → Created → Type 0 where
+pub data NewDiagonalReturned : (d rounds : ℕ) (p : Float) (diagonal : Option Float) (max : ℕ) (c₀ c : CodeColumns) → Created → Type 0 where
   new_diagonal_returned : (κs : Lfts 13) (a : ArgsD diagonal_contract.signature κs) (r : Created) (s : AtExit diagonal_contract.ended κs) → Learnt (diagonal_reading κs a r s)
       → NewDiagonalReturned a.0 a.1.0 a.1.1.0 a.1.1.1.1.0 a.1.1.1.0
       (code_in a.1.1.1.1.1.0.now a.1.1.1.1.1.1.0.now a.1.1.1.1.1.1.1.0.now a.1.1.1.1.1.1.1.1.0.now a.1.1.1.1.1.1.1.1.1.0.now a.1.1.1.1.1.1.1.1.1.1.0.now a.1.1.1.1.1.1.1.1.1.1.1.0.now a.1.1.1.1.1.1.1.1.1.1.1.1.0.now a.1.1.1.1.1.1.1.1.1.1.1.1.1.0.now a.1.1.1.1.1.1.1.1.1.1.1.1.1.1.0.now a.1.1.1.1.1.1.1.1.1.1.1.1.1.1.1.0.now a.1.1.1.1.1.1.1.1.1.1.1.1.1.1.1.1.0.now a.1.1.1.1.1.1.1.1.1.1.1.1.1.1.1.1.1.0.now)
@@ -57,5 +56,5 @@ pub data CodeBuilt : (kind d rounds vertices edges : ℕ) (ends_a ends_b boundar
       → CodeBuilt kind d rounds vertices edges c.ends_a c.ends_b c.boundary
   new_called : {kind d rounds : ℕ} {p : Float} {max : ℕ} {c₀ c : CodeColumns} (vertices edges : ℕ) → NewReturned kind d rounds p max c₀ c (Code vertices edges)
       → CodeBuilt kind d rounds vertices edges c.ends_a c.ends_b c.boundary
-  new_diagonal_called : {d rounds : ℕ} {p : Float} {diagonal : DiagonalProbability} {max : ℕ} {c₀ c : CodeColumns} (vertices edges : ℕ)
+  new_diagonal_called : {d rounds : ℕ} {p : Float} {diagonal : Option Float} {max : ℕ} {c₀ c : CodeColumns} (vertices edges : ℕ)
       → NewDiagonalReturned d rounds p diagonal max c₀ c (Code vertices edges) → CodeBuilt 4 d rounds vertices edges c.ends_a c.ends_b c.boundary

@@ -1,4 +1,5 @@
 -- Builders that refuse, half weights of every p 0, and the listing's graph from `new`, the logarithm computed. Assumes nothing.
+use Rattle.std.specs.Prelude.{Option}
 use mathlib.Core.Path.{◌≡◌, refl, sym, ap, ◌∙◌}
 use mathlib.Core.Logic.{◌≢◌}
 use mathlib.Core.Bool.{true}
@@ -31,7 +32,6 @@ use Rattle.codes_calls.specs.Probabilities.{probabilities, diagonal_of}
 use Rattle.access_vertices.specs.Weights.{weights as doubled}
 use Rattle.engine_columns.specs.Open.{graph_columns}
 use Rattle.weights_claims.specs.Called.{WeightsReturned, weights_returned}
-use Rattle.weights_diagonal.specs.declared.DiagonalProbability.{DiagonalProbability}
 use Rattle.claims.specs.BuildersCalled.{CreateReturned, create_returned, NewReturned, new_returned, NewDiagonalReturned, new_diagonal_returned, CodeBuilt}
 use Rattle.claims.proofs.Built.{built_of}
 use Rattle.claims_examples.specs.Starred.{RefusedBy, BuildersRefuse, CreateGives, KindFive, listing_p, graph_of_code, listing_graph}
@@ -65,7 +65,7 @@ created_of kind d rounds c₀ c r (create_returned κs a q s h) = h
 new_of : (kind d rounds : ℕ) (p : Float) (max : ℕ) (c₀ c : CodeColumns) (r : Created) → NewReturned kind d rounds p max c₀ c r → NewCode kind d rounds p max c₀ c r
 new_of kind d rounds p max c₀ c r (new_returned κs a q s h) = h
 
-diagonal_of_lem : (d rounds : ℕ) (p : Float) (diagonal : DiagonalProbability) (max : ℕ) (c₀ c : CodeColumns) (r : Created) → NewDiagonalReturned d rounds p diagonal max c₀ c r
+diagonal_of_lem : (d rounds : ℕ) (p : Float) (diagonal : Option Float) (max : ℕ) (c₀ c : CodeColumns) (r : Created) → NewDiagonalReturned d rounds p diagonal max c₀ c r
     → NewDiagonal d rounds p diagonal max c₀ c r
 diagonal_of_lem d rounds p diagonal max c₀ c r (new_diagonal_returned κs a q s h) = h
 

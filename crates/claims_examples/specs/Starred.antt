@@ -1,5 +1,5 @@
 -- Document 01's "Checked examples", those with a star, about the definitions that the contracts cite and about calls of the real functions.
-use Rattle.std.specs.Prelude.{◌≡◌, true, List, [], ◌∷◌, ℕ, ◌≤◌, length, take, replicate, Float}
+use Rattle.std.specs.Prelude.{◌≡◌, true, List, [], ◌∷◌, ℕ, ◌≤◌, length, take, replicate, Float, Option}
 use Rattle.std.proofs.Math.Option.{Option, some}
 use Rattle.std.specs.Float.{binary64}
 use Rattle.std.specs.Float.Ieee.{of_bits}
@@ -33,7 +33,6 @@ use Rattle.query_crossing_answer.specs.declared.CrossingReply.TheVariants.{Cross
 use Rattle.query_paths.specs.declared.PathAnswer.{PathAnswer}
 use Rattle.query_paths.specs.GetPath.{found_said, path_asked, path_refusal}
 use Rattle.weights_claims.specs.Called.{WeightsReturned}
-use Rattle.weights_diagonal.specs.declared.DiagonalProbability.{DiagonalProbability}
 use Rattle.claims.specs.BuildersCalled.{CreateReturned, NewReturned, NewDiagonalReturned, CodeBuilt}
 use Rattle.claims_examples.specs.Called.{InitializerReturned}
 use Rattle.claims.specs.Listed.{CallArguments, modify_by, listed_calls, tally_graph, tally_weights}
@@ -76,7 +75,7 @@ RefusedBy q c₀ c r = (created_said r ≡ refuses q (0, 0)) × (c ≡ c₀)
 pub record BuildersRefuse (kind d rounds q : ℕ) : Type 0 where
   pub create : (c₀ c : CodeColumns) (r : Created) → CreateReturned kind d rounds c₀ c r → RefusedBy q c₀ c r
   pub new : (p : Float) (max : ℕ) (c₀ c : CodeColumns) (r : Created) → NewReturned kind d rounds p max c₀ c r → RefusedBy q c₀ c r
-  pub new_diagonal_holds : kind ≡ 4 → (p : Float) (diagonal : DiagonalProbability) (max : ℕ) (c₀ c : CodeColumns) (r : Created)
+  pub new_diagonal_holds : kind ≡ 4 → (p : Float) (diagonal : Option Float) (max : ℕ) (c₀ c : CodeColumns) (r : Created)
       → NewDiagonalReturned d rounds p diagonal max c₀ c r → RefusedBy q c₀ c r
 
 -- Six builders: wherever the columns lent are long enough, `create_code` answers with v vertices and e edges.

@@ -11,7 +11,7 @@ use Rattle.columns.specs.Questions.{ask}
 use Rattle.columns.proofs.Columns.{sets_over}
 use Rattle.codes_layers.specs.Counts.{vertex_num, edge_num}
 use Rattle.codes_layers.specs.Accepts.{code_refusal}
-use Rattle.codes_questions.proofs.Clamped.{next_same}
+use Rattle.codes_questions.proofs.Later.{next_same}
 use Rattle.codes_calls.specs.Columns.{long_enough}
 use Rattle.codes_calls.specs.CreateCode.{create_refusal}
 

@@ -1,4 +1,5 @@
 -- The number, the columns and the answer of `new`, accepted and refused. Assumes nothing.
+use Rattle.std.specs.Prelude.{Option, None}
 use mathlib.Core.Path.{◌≡◌, refl, sym, ap, ◌∙◌, subst}
 use mathlib.Core.Logic.{inl, inr}
 use mathlib.Core.Bool.{Bool, true, false, ◌&&◌, cond}
@@ -31,8 +32,6 @@ use Rattle.weights_recipe.specs.Rounding.{half_weight}
 use Rattle.weights_recipe.specs.Probabilities.{is_probability}
 use Rattle.weights_diagonal.specs.Diagonal.{is_diagonal, replaced, new_diagonal, is_diagonal_probability}
 use Rattle.weights_calls.specs.Calls.{largest_weight, edge_weights, some_above, is_largest_half_weight, half_weights}
-use Rattle.weights_diagonal.specs.declared.DiagonalProbability.{DiagonalProbability}
-use Rattle.weights_diagonal.specs.declared.DiagonalProbability.TheVariants.{None}
 use Rattle.weights_calls.proofs.Largest.{some_above_lem}
 use Rattle.codes_calls.specs.declared.Created.{Created}
 use Rattle.codes_calls.specs.declared.Created.TheVariants.{Refused}
@@ -65,7 +64,7 @@ later : (kind d rounds : ℕ) (six : Bool) (x y : ℕ) → (code_refusal kind d 
 unfolding code_refusal
 later kind d rounds six x y f = chain (kind_known kind) (distance_sound d) (rounds_sound kind rounds) (leb (vertex_num kind d rounds) vertex_limit) six x y f
 
-pub number_is : (kind d rounds : ℕ) (p : Float) (diagonal : DiagonalProbability) (max vr er nl q : ℕ) (l : Float) → DiagonalKind kind diagonal → l ≡ largest_of rounds p diagonal
+pub number_is : (kind d rounds : ℕ) (p : Float) (diagonal : Option Float) (max vr er nl q : ℕ) (l : Float) → DiagonalKind kind diagonal → l ≡ largest_of rounds p diagonal
     → q ≡ weights_refusal (create_refusal kind d rounds vr er nl) (is_largest_half_weight max) (is_probability p && is_diagonal_probability diagonal) (lt zero_float l)
     → q ≡ new_refusal kind d rounds p diagonal max vr er nl
 unfolding weights_refusal create_refusal new_refusal
@@ -77,7 +76,7 @@ number_is kind d rounds p diagonal max vr er nl q l k e f =
     ap (λ (b : Bool). ask (is_largest_half_weight max) 8 (ask (is_probability p && is_diagonal_probability diagonal) 9 (ask b 10 0))) ten)
 
 -- the same by the columns' lengths
-pub new_number_lem : (kind d rounds : ℕ) (p : Float) (diagonal : DiagonalProbability) (max q vr er nl vr' er' nl' : ℕ) → q ≡ new_refusal kind d rounds p diagonal max vr er nl → vr ≡ vr' → er ≡ er' → nl ≡ nl'
+pub new_number_lem : (kind d rounds : ℕ) (p : Float) (diagonal : Option Float) (max q vr er nl vr' er' nl' : ℕ) → q ≡ new_refusal kind d rounds p diagonal max vr er nl → vr ≡ vr' → er ≡ er' → nl ≡ nl'
     → q ≡ new_refusal kind d rounds p diagonal max vr' er' nl'
 new_number_lem kind d rounds p diagonal max q vr er nl vr' er' nl' a b c e = a ∙ λ i. new_refusal kind d rounds p diagonal max (b i) (c i) (e i)
 
@@ -92,7 +91,7 @@ created_too kind d rounds vr er nl vr' er' nl' q e n t f z a b c = sym (λ i. cr
 
 -- ---- refused
 
-pub refused : (kind d rounds : ℕ) (p : Float) (diagonal : DiagonalProbability) (max q n : ℕ) (lent : CodeColumns) → n ≡ q → (n ≡ 0 → ⊥) → Weighted kind d rounds p diagonal max q lent lent (Refused n)
+pub refused : (kind d rounds : ℕ) (p : Float) (diagonal : Option Float) (max q n : ℕ) (lent : CodeColumns) → n ≡ q → (n ≡ 0 → ⊥) → Weighted kind d rounds p diagonal max q lent lent (Refused n)
 refused kind d rounds p diagonal max q n lent e f = record {
   answers = refuses-of e f;
   columns_after = kept_back q (weighted_columns kind d rounds p diagonal max) lent (λ z. f (e ∙ z));
@@ -161,7 +160,7 @@ module _ (kind d rounds : ℕ) (ok : Accepted kind d rounds) (a b : List ℕ) (i
       ∙ (λ n. is_diagonal (position-over kind d rounds ok i j t (get_or es k (0, 0)).0 first n) (position-over kind d rounds ok i j t (get_or es k (0, 0)).1 second n))
 
   -- the p of each edge
-  pub probabilities-are : (p : Float) (diagonal : DiagonalProbability) → each (edge_num kind d rounds) (λ k. cond (byColumns k) (diagonal_p p diagonal) p) ≡ probabilities kind d rounds p diagonal
+  pub probabilities-are : (p : Float) (diagonal : Option Float) → each (edge_num kind d rounds) (λ k. cond (byColumns k) (diagonal_p p diagonal) p) ≡ probabilities kind d rounds p diagonal
   unfolding probabilities
   probabilities-are p diagonal =
       let count = edges-counted kind d ok.distance.three rounds in
@@ -171,7 +170,7 @@ module _ (kind d rounds : ℕ) (ok : Accepted kind d rounds) (a b : List ℕ) (i
       ∙ ap (map f) (ap (λ (n : ℕ). each n (λ k. get_or es k (0, 0))) (sym count) ∙ each-getD es (0, 0))
 
   -- the half weight of each edge
-  pub halves_are : (p : Float) (diagonal : DiagonalProbability) (max : ℕ) (l : Float) → l ≡ largest_weight (probabilities kind d rounds p diagonal)
+  pub halves_are : (p : Float) (diagonal : Option Float) (max : ℕ) (l : Float) → l ≡ largest_weight (probabilities kind d rounds p diagonal)
       → each (edge_num kind d rounds) (λ k. cond (byColumns k) (half_weight max (edge_weight (diagonal_p p diagonal)) l) (half_weight max (edge_weight p) l)) ≡ half_weights max (probabilities kind d rounds p diagonal)
   halves_are p diagonal max l e =
       let g : Float → ℕ = λ q. half_weight max (edge_weight q) l in
@@ -184,7 +183,7 @@ module _ (kind d rounds : ℕ) (ok : Accepted kind d rounds) (a b : List ℕ) (i
       go g true = refl
       go g false = refl
 
-pub sized : (kind d rounds : ℕ) (p : Float) (diagonal : DiagonalProbability) → Accepted kind d rounds → length (probabilities kind d rounds p diagonal) ≡ edge_num kind d rounds
+pub sized : (kind d rounds : ℕ) (p : Float) (diagonal : Option Float) → Accepted kind d rounds → length (probabilities kind d rounds p diagonal) ≡ edge_num kind d rounds
 unfolding probabilities
 sized kind d rounds p diagonal ok = length-map (edges_of kind d rounds) (λ (e : Ends). replaced diagonal p (diagonal_edge kind d rounds e)) ∙ edges-counted kind d ok.distance.three rounds
 
@@ -206,7 +205,7 @@ with_weights mid p h = record {
   neighbor_numbers = mid.neighbor_numbers;
 }
 
-module _ (kind d rounds : ℕ) (p : Float) (diagonal : DiagonalProbability) (max q q₀ n : ℕ) (lent mid : CodeColumns) (r : Created) (l : Float) (straight other : Weighed) (p' : List Float) (h' : List ℕ)
+module _ (kind d rounds : ℕ) (p : Float) (diagonal : Option Float) (max q q₀ n : ℕ) (lent mid : CodeColumns) (r : Created) (l : Float) (straight other : Weighed) (p' : List Float) (h' : List ℕ)
     (o : Open kind d rounds lent) (k : DiagonalKind kind diagonal) (z : q ≡ 0) (z₀ : q₀ ≡ 0) where
   pub built : CodeCreated kind d rounds q₀ lent mid r → n ≡ edge_num kind d rounds → l ≡ largest_of rounds p diagonal → straight ≡ weighed_of p max l → other ≡ weighed_of (diagonal_p p diagonal) max l
       → EdgesWeighed n (diagonal_at mid.ends_a mid.ends_b mid.pos_i mid.pos_j mid.pos_t) straight other mid.p mid.half_weight p' h'
@@ -257,6 +256,6 @@ diagonal_kind kind p = elim (native.Mathlib.Decide.ℕ_discrete kind 4) [
   | no f ↦ inr (ap (λ (b : Bool). cond b (new_diagonal p) None) (ne_eqb kind 4 f))
 ]
 
-pub with_diagonal : {kind d rounds : ℕ} {p : Float} {max : ℕ} {lent back : CodeColumns} {r : Created} (x y : DiagonalProbability) → x ≡ y
+pub with_diagonal : {kind d rounds : ℕ} {p : Float} {max : ℕ} {lent back : CodeColumns} {r : Created} (x y : Option Float) → x ≡ y
     → WeightedCode kind d rounds p x max lent back r → WeightedCode kind d rounds p y max lent back r
-with_diagonal {kind} {d} {rounds} {p} {max} {lent} {back} {r} x y e w = subst (λ (z : DiagonalProbability). WeightedCode kind d rounds p z max lent back r) e w
+with_diagonal {kind} {d} {rounds} {p} {max} {lent} {back} {r} x y e w = subst (λ (z : Option Float). WeightedCode kind d rounds p z max lent back r) e w

@@ -19,16 +19,16 @@ use super::create::{create_code, refusal_of, shortest_of};
 use codes_weights::questions::{largest_weight, weights_refusal};
 use codes_weights::weigh::{diagonal_p, weigh_edges, weighed};
 use columns::Weight;
-use weights_diagonal::{DiagonalProbability, new_diagonal_probability};
+use weights_diagonal::new_diagonal_probability;
 
 // The diagonal probability that `new` gives.
-fn diagonal_of(kind: u32, p: f64) -> DiagonalProbability
+fn diagonal_of(kind: u32, p: f64) -> Option<f64>
     ensures { result ≡ diagonal_of kind p }
 {
     if kind == 4 {
         new_diagonal_probability(p)
     } else {
-        DiagonalProbability::None
+        None
     }
 }
 
@@ -54,7 +54,7 @@ fn new_refusal(
     d: u32,
     rounds: u32,
     p: f64,
-    diagonal: DiagonalProbability,
+    diagonal: Option<f64>,
     max_half_weight: Weight,
     largest: f64,
     room: CodeRoom,
@@ -71,7 +71,7 @@ fn build(
     d: u32,
     rounds: u32,
     probability: f64,
-    diagonal: DiagonalProbability,
+    diagonal: Option<f64>,
     max_half_weight: Weight,
     ends_a: &mut [u32],
     ends_b: &mut [u32],
@@ -218,7 +218,7 @@ pub fn new_diagonal(
     rounds: u32,
     probability: f64,
     max_half_weight: Weight,
-    diagonal: DiagonalProbability,
+    diagonal: Option<f64>,
     ends_a: &mut [u32],
     ends_b: &mut [u32],
     p: &mut [f64],

@@ -1,4 +1,5 @@
 -- The columns of a built code get verdict 0. Assumes nothing.
+use Rattle.std.specs.Prelude.{Option}
 use mathlib.Core.Path.{◌≡◌, refl, sym, ap, ◌∙◌}
 use mathlib.Core.Logic.{◌⊎◌, inl, inr}
 use mathlib.Core.List.{List}
@@ -27,7 +28,6 @@ use Rattle.codes_calls.specs.declared.Created.TheVariants.{Code}
 use Rattle.codes_calls.specs.CreateCode.{create_refusal, refusal_in, new_columns, CreateCode}
 use Rattle.codes_calls.proofs.Cases.{code_case}
 use Rattle.codes_calls.proofs.Outcome.{degrees-same, lists-same}
-use Rattle.weights_diagonal.specs.declared.DiagonalProbability.{DiagonalProbability}
 use Rattle.codes_calls.specs.NewCode.{new_refusal, new_refusal_in, WeightedCode}
 use Rattle.sanity_claims.specs.BuiltAndChecked.{ColumnsBuilt, create_built, new_built, new_diagonal_built, SanityCalled, sanity_called}
 use Rattle.sanity_claims.specs.SoundCodes.{BuiltCodesAreSound}
@@ -112,7 +112,7 @@ created_zero kind d rounds c₀ c v e w =
     let h = w.columns_after in
     written-zero kind d rounds (refusal_in kind d rounds c₀) c₀ c x.0 v e x.1 x.2 (accepted kind d rounds _ x.0).0 h.ends_a_after h.ends_b_after h.list_lengths_after h.neighbor_numbers_after
 
-weighted_zero : (kind d rounds : ℕ) (p : Float) (diagonal : DiagonalProbability) (max : ℕ) (c₀ c : CodeColumns) (v e : ℕ) → WeightedCode kind d rounds p diagonal max c₀ c (Code v e)
+weighted_zero : (kind d rounds : ℕ) (p : Float) (diagonal : Option Float) (max : ℕ) (c₀ c : CodeColumns) (v e : ℕ) → WeightedCode kind d rounds p diagonal max c₀ c (Code v e)
     → sanityAnswer v e c.ends_a c.ends_b c.list_lengths c.neighbor_numbers ≡ Sound
 unfolding new_refusal
 weighted_zero kind d rounds p diagonal max c₀ c v e w =

@@ -1,9 +1,9 @@
 -- `codes_calls::weighted::diagonal_of` meets its contract: each arm returns what `cond` picks where kind = 4 is as the arm's test found it. Assumes nothing.
+use Rattle.std.specs.Prelude.{None}
 use mathlib.Core.Path.{sym, ap, ◌∙◌}
 use mathlib.Core.Bool.{Bool, cond}
 use borrow.Author.Tests.{eq-eqb, ne_eqb}
 use Rattle.weights_diagonal.specs.Diagonal.{new_diagonal}
-use Rattle.weights_diagonal.specs.declared.DiagonalProbability.TheVariants.{None}
 use Rattle.codes_calls.proofs.weighted.diagonal_of.Goals as goal
 
 pub returns-then-kind-eq4 : goal.returns-then-kind-eq4

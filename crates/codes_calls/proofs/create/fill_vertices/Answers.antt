@@ -17,21 +17,6 @@ code_vertices-n-requires c = let s = c.args in
     let l = c.requires.vertex_columns_long in
     record { vertex_room = record { room_m = omega (arith, l.long_m); room_i = omega (arith, l.long_i); room_j = omega (arith, l.long_j); room_t = omega (arith, l.long_t) }; le_d = omega (arith, ok.distance.three, ok.distance.few, ok.few_rounds) }
 
-pub shape_of-pos_i : goal.shape_of-pos_i
-shape_of-pos_i c = c.pos_i-1.given
-
-pub shape_of-pos_j : goal.shape_of-pos_j
-shape_of-pos_j c = c.pos_j-1.given
-
-pub shape_of-pos_t : goal.shape_of-pos_t
-shape_of-pos_t c = c.pos_t-1.given
-
-pub shape_of-boundary : goal.shape_of-boundary
-shape_of-boundary c = c.boundary-1.given
-
-pub shape_of-defect : goal.shape_of-defect
-shape_of-defect c = c.defect-1.given
-
 pub returns : goal.returns
 returns c =
     let s = c.args in

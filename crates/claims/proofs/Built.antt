@@ -1,5 +1,5 @@
 -- A built code that was opened is a graph of `codes_graphs`. Assumes nothing.
-use Rattle.std.specs.Prelude.{Option}
+use Rattle.std.specs.Prelude.{Option, Ok}
 use mathlib.Core.Path.{◌≡◌, sym, ap, ◌∙◌, subst}
 use mathlib.Core.Bool.{true}
 use mathlib.Core.List.{List, ◌++◌}
@@ -28,9 +28,8 @@ use Rattle.codes_graphs.specs.Graphs.{built_graph}
 use Rattle.codes_graphs.specs.Claims.{BuiltCode}
 use Rattle.codes_graphs.proofs.Sound.{codes_are_sound}
 use Rattle.codes_graphs.proofs.Distance.{codes_have_distance}
-use Rattle.codes_calls.specs.declared.Created.TheVariants.{Code}
 use Rattle.codes_calls.specs.Columns.{CodeColumns}
-use Rattle.codes_calls.specs.CreateCode.{create_refusal, refusal_in, CreateCode}
+use Rattle.codes_calls.specs.CreateCode.{code_counts, create_refusal, refusal_in, CreateCode}
 use Rattle.codes_calls.proofs.Cases.{code_case}
 use Rattle.codes_calls.specs.NewCode.{new_refusal, new_refusal_in, WeightedCode}
 use Rattle.claims.specs.Listed.{tally_graph}
@@ -76,7 +75,7 @@ columns_say kind d rounds q v e a₀ b₀ m₀ a b m ok (z, p, r) in_a in_b in_m
       boundary_are = ap (take v) (in_m ∙ after-accepted q (boundaries vs) m₀ z) ∙ take-over (boundaries vs) m₀ v (boundaries-long kind d rounds ok ∙ sym p);
     }
 
-create_says : (kind d rounds : ℕ) (lent back : CodeColumns) (v e : ℕ) → CreateCode kind d rounds lent back (Code v e)
+create_says : (kind d rounds : ℕ) (lent back : CodeColumns) (v e : ℕ) → CreateCode kind d rounds lent back (Ok (code_counts v e))
     → BuiltGraph kind d rounds v e back.ends_a back.ends_b back.boundary
 create_says kind d rounds lent back v e h =
     let k = code_case h.answers in
@@ -87,7 +86,7 @@ unfolding new_refusal
 accepted_new kind d rounds p diagonal max c z = buildable kind d rounds _ z
 
 weighted_says : (kind d rounds : ℕ) (p : Float) (diagonal : Option Float) (max : ℕ) (lent back : CodeColumns) (v e : ℕ)
-    → WeightedCode kind d rounds p diagonal max lent back (Code v e) → BuiltGraph kind d rounds v e back.ends_a back.ends_b back.boundary
+    → WeightedCode kind d rounds p diagonal max lent back (Ok (code_counts v e)) → BuiltGraph kind d rounds v e back.ends_a back.ends_b back.boundary
 weighted_says kind d rounds p diagonal max lent back v e h =
     let q = new_refusal_in kind d rounds p diagonal max lent in
     let k = code_case h.answers in

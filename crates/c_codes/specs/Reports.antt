@@ -1,5 +1,7 @@
 -- What is handed to C for each kind of answer.
-use Rattle.std.specs.Prelude.{◌≡◌}
+use Rattle.std.specs.Prelude.{◌≡◌, Bool, false, Result}
+use Rattle.columns.specs.declared.refusal.Refusal.{Refusal}
+use Rattle.columns_answers.specs.Said.{said}
 use Rattle.codes_calls.specs.declared.Created.{Created}
 use Rattle.codes_calls.specs.CreateCode as created
 use Rattle.codes_questions.specs.declared.Count.{Count}
@@ -8,8 +10,6 @@ use Rattle.weights_calls.specs.declared.WeightOfP.{WeightOfP}
 use Rattle.weights_calls.specs.Answers.{weight_said}
 use Rattle.sanity_verdicts.specs.declared.Verdict.{Verdict}
 use Rattle.sanity_verdicts.specs.Sanity as sanity
-use Rattle.access_vertices.specs.declared.Truth.{Truth}
-use Rattle.access_vertices.specs.Marked as marked
 use Rattle.c_reports.specs.declared.OneCount.{OneCount}
 use Rattle.c_reports.specs.declared.TwoCounts.{TwoCounts}
 use Rattle.c_codes.specs.declared.reports.WeighedReport.{WeighedReport}
@@ -39,7 +39,7 @@ pub record ReportsVerdict (a : Verdict) (r : VerdictReport) : Type 0 where
   pub first : r.first ≡ (sanity.verdict_said a).values.1
   pub second : r.second ≡ (sanity.verdict_said a).values.2
 
--- Expected forms by place, last paragraph: the struct holds the number and the values of a `Truth`.
-pub record ReportsTruth (a : Truth) (r : TruthReport) : Type 0 where
-  pub number : r.number ≡ (marked.truth_said a).number
-  pub value : r.value ≡ (marked.truth_said a).values
+-- Expected forms by place, last paragraph: the struct holds the number of an answer that is a truth value, and the value.
+pub record ReportsTruth (a : Result Bool Refusal) (r : TruthReport) : Type 0 where
+  pub number : r.number ≡ (said false a).number
+  pub value : r.value ≡ (said false a).values

@@ -1,5 +1,5 @@
 -- What an accepted call says of its columns. Assumes nothing.
-use mathlib.Core.Path.{◌≡◌, subst}
+use mathlib.Core.Path.{◌≡◌}
 use mathlib.Core.Bool.{Bool, ◌&&◌}
 use mathlib.Core.List.{List}
 use Prim.Native.Nat.{ℕ, ◌≤◌, ◌<◌}
@@ -13,9 +13,7 @@ use Rattle.columns_room.specs.Graph.{code_graph, code_sound}
 use Rattle.columns_room.specs.Room.{two_long, three_long}
 use Rattle.columns.proofs.Refusals.{met, goes_on}
 use Rattle.columns_room.proofs.Refusals.{both_long, two_long_lem, three_long_lem}
-use Rattle.access_calls.specs.Calls.{Code, Initializer, initializer_long, initializer_sound, initializer_refusal, Syndrome, set_syndrome_refusal, counts_sound, get_syndrome_refusal, set_marks_refusal, SetMarks, get_marks_refusal, GotMarks}
-use Rattle.columns.specs.declared.Done.{Done}
-use Rattle.columns_answers.specs.declared.ListCount.{ListCount}
+use Rattle.access_calls.specs.Calls.{Code, Initializer, initializer_long, initializer_sound, initializer_refusal, Syndrome, set_syndrome_refusal, counts_sound, get_syndrome_refusal, set_marks_refusal, get_marks_refusal}
 
 -- ---- get_initializer
 
@@ -60,10 +58,6 @@ set_met sound n list column z =
     let z₁₃ = goes_on sound 6 _ (goes_on (leb n (length column)) 5 _ z) in
     (leb-true n (length column) (met (leb n (length column)) 5 _ z), below_at n list (met (all_below n list) 12 0 z₁₃))
 
--- question 7 by its test
-pub set_tested : {a b : Bool} {n : ℕ} {list before column : List ℕ} {answer : Done} → a ≡ b → SetMarks a n list before column answer → SetMarks b n list before column answer
-set_tested {a} {b} {n} {list} {before} {column} {answer} e s = subst (λ (t : Bool). SetMarks t n list before column answer) e s
-
 -- ---- set_syndrome
 
 pub set-syndrome_met : (v e : ℕ) (lists column : Syndrome) → set_syndrome_refusal v e lists column ≡ 0
@@ -80,9 +74,6 @@ set-syndrome_met v e lists column z =
 
 pub get_met : (sound : Bool) (n : ℕ) (column list : List ℕ) → get_marks_refusal sound n column list ≡ 0 → (n ≤ length column) × (n ≤ length list)
 get_met sound n column list z = two_long_lem n _ _ (met (two_long n (length column) (length list)) 5 _ z)
-
-pub get_tested : {a b : Bool} {n : ℕ} {column before list : List ℕ} {answer : ListCount} → a ≡ b → GotMarks a n column before list answer → GotMarks b n column before list answer
-get_tested {a} {b} {n} {column} {before} {list} {answer} e s = subst (λ (t : Bool). GotMarks t n column before list answer) e s
 
 -- ---- get_syndrome
 

@@ -1,17 +1,15 @@
 -- The calls: which question refuses (0 for none), the answer, and the lent columns afterwards.
-use Rattle.std.specs.Prelude.{ℕ, ◌≡◌, Bool, ◌&&◌, List, leb, length, take}
+use Rattle.std.specs.Prelude.{ℕ, ◌≡◌, Bool, ◌&&◌, List, leb, length, take, Result}
 use Rattle.columns.specs.Lists.{after}
 use Rattle.columns.specs.Questions.{ask, all_below, vertex_count_sound, edge_count_sound, marks_sound, half_weights_sound}
-use Rattle.columns_answers.specs.Said.{Answered}
-use Rattle.columns_answers.specs.Done.{done_said}
-use Rattle.columns.specs.declared.Done.{Done}
+use Rattle.columns_answers.specs.Said.{said, Answered}
+use Rattle.columns.specs.declared.refusal.Refusal.{Refusal}
 use Rattle.columns_room.specs.Graph.{code_graph, code_sound}
 use Rattle.columns_room.specs.Room.{two_long, three_long}
 use Rattle.columns_marks.specs.Marks.{listed, marks}
 use Rattle.access_vertices.specs.Weights.{weights}
-use Rattle.columns_answers.specs.declared.ListCount.{ListCount}
-use Rattle.columns_answers.specs.declared.SyndromeCounts.{SyndromeCounts}
-use Rattle.columns_answers.specs.Counts.{list_said, syndrome_said}
+use Rattle.columns_answers.specs.declared.SyndromeLengths.{SyndromeLengths}
+use Rattle.columns_answers.specs.Counts.{syndrome_lengths, no_lengths}
 
 -- ---- get_initializer
 
@@ -53,8 +51,8 @@ abbrev pub initializer_refusal : (v e : ℕ) → Code → Initializer → ℕ
 initializer_refusal v e c to = ask (initializer_long v e c to) 6 (ask (initializer_sound v e c) 7 0)
 
 -- Weights, get_initializer: weight is twice the half weight, virtual vertices ascend; the answer is how many virtual vertices there are.
-pub record GotInitializer (v e : ℕ) (c : Code) (to₀ to : Initializer) (answer : ListCount) : Type 0 where
-  pub answers : Answered (list_said answer) (initializer_refusal v e c to₀) (length (listed v c.boundary)) 0
+pub record GotInitializer (v e : ℕ) (c : Code) (to₀ to : Initializer) (answer : Result ℕ Refusal) : Type 0 where
+  pub answers : Answered (said 0 answer) (initializer_refusal v e c to₀) (length (listed v c.boundary)) 0
   pub ends_a_after : to.ends_a ≡ after (initializer_refusal v e c to₀) (take e c.ends_a) to₀.ends_a
   pub ends_b_after : to.ends_b ≡ after (initializer_refusal v e c to₀) (take e c.ends_b) to₀.ends_b
   pub weight_after : to.weight ≡ after (initializer_refusal v e c to₀) (weights e c.half_weight) to₀.weight
@@ -67,8 +65,8 @@ abbrev pub set_marks_refusal : (sound : Bool) (n : ℕ) (list column : List ℕ)
 set_marks_refusal sound n list column = ask (leb n (length column)) 6 (ask sound 7 (ask (all_below n list) 13 0))
 
 -- Taken over, the trait `ExampleCode`: the bytes that the list names are 1, the others 0; the answer, and the column afterwards.
-pub record SetMarks (sound : Bool) (n : ℕ) (list column₀ column : List ℕ) (answer : Done) : Type 0 where
-  pub answers : Answered (done_said answer) (set_marks_refusal sound n list column₀) tt tt
+pub record SetMarks (sound : Bool) (n : ℕ) (list column₀ column : List ℕ) (answer : Result (Unit {0}) Refusal) : Type 0 where
+  pub answers : Answered (said tt answer) (set_marks_refusal sound n list column₀) tt tt
   pub column_after : column ≡ after (set_marks_refusal sound n list column₀) (marks n list) column₀
 
 -- ---- set_syndrome: both, each question of both before the next
@@ -94,8 +92,8 @@ set_syndrome_refusal v e lists column =
     (ask (all_below v lists.defects && all_below e lists.erasures) 13 0))
 
 -- Taken over, the trait `ExampleCode`: the bytes that the lists name are 1, the others 0; the answer, and both columns afterwards.
-pub record SetSyndrome (v e : ℕ) (lists column₀ column : Syndrome) (answer : Done) : Type 0 where
-  pub answers : Answered (done_said answer) (set_syndrome_refusal v e lists column₀) tt tt
+pub record SetSyndrome (v e : ℕ) (lists column₀ column : Syndrome) (answer : Result (Unit {0}) Refusal) : Type 0 where
+  pub answers : Answered (said tt answer) (set_syndrome_refusal v e lists column₀) tt tt
   pub defects_after : column.defects ≡ after (set_syndrome_refusal v e lists column₀) (marks v lists.defects) column₀.defects
   pub erasures_after : column.erasures ≡ after (set_syndrome_refusal v e lists column₀) (marks e lists.erasures) column₀.erasures
 
@@ -106,8 +104,8 @@ abbrev pub get_marks_refusal : (sound : Bool) (n : ℕ) (column list : List ℕ)
 get_marks_refusal sound n column list = ask (two_long n (length column) (length list)) 6 (ask (sound && marks_sound n column) 7 0)
 
 -- Sampling, syndromes, reordering, paragraph 2, sentence 4: the list of defects or erasures ascends; the answer is how many there are.
-pub record GotMarks (sound : Bool) (n : ℕ) (column list₀ list : List ℕ) (answer : ListCount) : Type 0 where
-  pub answers : Answered (list_said answer) (get_marks_refusal sound n column list₀) (length (listed n column)) 0
+pub record GotMarks (sound : Bool) (n : ℕ) (column list₀ list : List ℕ) (answer : Result ℕ Refusal) : Type 0 where
+  pub answers : Answered (said 0 answer) (get_marks_refusal sound n column list₀) (length (listed n column)) 0
   pub list_after : list ≡ after (get_marks_refusal sound n column list₀) (listed n column) list₀
 
 -- ---- get_syndrome: both, each question of both before the next
@@ -119,7 +117,7 @@ get_syndrome_refusal v e column lists =
     (ask (counts_sound v e && (marks_sound v column.defects && marks_sound e column.erasures)) 7 0)
 
 -- Sampling, syndromes, reordering, paragraph 2, sentence 4: both lists ascend; the answer is how many defects and how many erasures there are.
-pub record GotSyndrome (v e : ℕ) (column lists₀ lists : Syndrome) (answer : SyndromeCounts) : Type 0 where
-  pub answers : Answered (syndrome_said answer) (get_syndrome_refusal v e column lists₀) (length (listed v column.defects), length (listed e column.erasures)) (0, 0)
+pub record GotSyndrome (v e : ℕ) (column lists₀ lists : Syndrome) (answer : Result SyndromeLengths Refusal) : Type 0 where
+  pub answers : Answered (said no_lengths answer) (get_syndrome_refusal v e column lists₀) (syndrome_lengths (length (listed v column.defects)) (length (listed e column.erasures))) no_lengths
   pub defects_after : lists.defects ≡ after (get_syndrome_refusal v e column lists₀) (listed v column.defects) lists₀.defects
   pub erasures_after : lists.erasures ≡ after (get_syndrome_refusal v e column lists₀) (listed e column.erasures) lists₀.erasures

@@ -1,11 +1,10 @@
 -- What fill_vertices asks and leaves.
-use Rattle.std.specs.Prelude.{ℕ, ◌≡◌, Bool, ◌&&◌, List, length, replicate, Float}
+use Rattle.std.specs.Prelude.{ℕ, ◌≡◌, Bool, ◌&&◌, List, length, replicate, Float, Result}
 use Rattle.columns.specs.Lists.{after}
 use Rattle.columns.specs.Questions.{ask}
-use Rattle.columns_answers.specs.Said.{Answered}
-use Rattle.columns_answers.specs.Done.{done_said}
+use Rattle.columns_answers.specs.Said.{said, Answered}
 use Rattle.columns.specs.Places.{zero_float}
-use Rattle.columns.specs.declared.Done.{Done}
+use Rattle.columns.specs.declared.refusal.Refusal.{Refusal}
 use Rattle.columns_room.specs.Room.{three_long, edge_columns_long}
 use Rattle.columns_neighbors.specs.Lists.{lists, degrees}
 use Rattle.columns_neighbors.specs.Sound.{graph_sound}
@@ -40,8 +39,8 @@ fill_refusal v e a b c = ask (vertex_columns_long v c && edge_columns_long e a b
 
 -- Taken over, the trait `ExampleCode`; Six builders, on new edges:
 -- new vertices at position 0, inner, without defect, and their neighbour lists; the answer, and each column afterwards.
-pub record FilledVertices (v e : ℕ) (a b : List ℕ) (c₀ c : Vertices) (answer : Done) : Type 0 where
-  pub answers : Answered (done_said answer) (fill_refusal v e a b c₀) tt tt
+pub record FilledVertices (v e : ℕ) (a b : List ℕ) (c₀ c : Vertices) (answer : Result (Unit {0}) Refusal) : Type 0 where
+  pub answers : Answered (said tt answer) (fill_refusal v e a b c₀) tt tt
   pub pos_i_after : c.pos_i ≡ after (fill_refusal v e a b c₀) (replicate v zero_float) c₀.pos_i
   pub pos_j_after : c.pos_j ≡ after (fill_refusal v e a b c₀) (replicate v zero_float) c₀.pos_j
   pub pos_t_after : c.pos_t ≡ after (fill_refusal v e a b c₀) (replicate v zero_float) c₀.pos_t

@@ -1,5 +1,6 @@
 // Vertices from edges.
 ghost use Rattle.std.specs.Prelude.{◌≡◌, ◌*◌, ◌≤◌, length, replicate};
+ghost use Rattle.columns.specs.Refusals.{question_of};
 ghost use Rattle.std.proofs.lemmas.List.Edits.{sets};
 ghost use Rattle.columns.specs.Lists.{over};
 ghost use Rattle.columns.specs.Places.{zero_float};
@@ -7,14 +8,15 @@ ghost use Rattle.columns_neighbors.specs.Lists.{lists, degrees};
 ghost use Rattle.columns_neighbors.specs.Steps.{InRange};
 ghost use Rattle.access_calls.specs.Fill.{vertex_columns_long, fill_refusal, FilledVertices, vertices_in};
 
-use columns::questions::{asked, both};
-use columns::{Done, VisualizePosition, done_of};
+use columns::VisualizePosition;
+use columns::refusal::{Refusal, require};
 use columns_neighbors::lists::fill_lists;
 use columns_neighbors::sound::graph_sound;
 use columns_room::{edge_columns_long, three_long};
 use columns_stores::fill_u8;
 
 // Question 6 of the vertex columns.
+#[tactic(auto, unfolding(crate::specs::Fill::vertex_columns_long))]
 fn vertex_columns_long(
     vertex_num: u32,
     pos_i: &[f64],
@@ -30,11 +32,11 @@ fn vertex_columns_long(
     let n = vertex_num as usize;
     let positions = three_long(n, pos_i.len(), pos_j.len(), pos_t.len());
     let others = three_long(n, boundary.len(), defect.len(), list_lengths.len());
-    both(positions, others)
+    positions && others
 }
 
-// The first question of fill_vertices that is not met, or 0.
-fn fill_refusal(
+// Questions 6 and 7 of fill_vertices.
+fn fill_questions(
     vertex_num: u32,
     edge_num: u32,
     ends_a: &[u32],
@@ -46,8 +48,8 @@ fn fill_refusal(
     defect: &[u8],
     list_lengths: &[u32],
     neighbor_numbers: &[u32],
-) -> u32
-    ensures { result ≡ fill_refusal vertex_num edge_num ends_a.now ends_b.now (vertices_in pos_i.now pos_j.now pos_t.now boundary.now defect.now list_lengths.now neighbor_numbers.now) }
+) -> Result<(), Refusal>
+    ensures { question_of result ≡ fill_refusal vertex_num edge_num ends_a.now ends_b.now (vertices_in pos_i.now pos_j.now pos_t.now boundary.now defect.now list_lengths.now neighbor_numbers.now) }
 {
     let vertices = vertex_columns_long(
         vertex_num,
@@ -60,8 +62,9 @@ fn fill_refusal(
         neighbor_numbers,
     );
     let edges = edge_columns_long(edge_num, ends_a, ends_b, neighbor_numbers);
+    require(vertices && edges, Refusal::ShortColumn)?;
     let sound = graph_sound(vertex_num, edge_num, ends_a, ends_b);
-    asked(both(vertices, edges), 6, asked(sound, 7, 0))
+    require(sound, Refusal::UnsoundColumns)
 }
 
 // The neighbour lists of n vertices from the ends of e edges.
@@ -95,11 +98,9 @@ fn fill_positions(pos_i: &mut [f64], pos_j: &mut [f64], pos_t: &mut [f64], n: us
     ensures pos_j_after { pos_j.new ≡ sets pos_j.old 0 (replicate n zero_float) }
     ensures pos_t_after { pos_t.new ≡ sets pos_t.old 0 (replicate n zero_float) }
 {
-    let mut v: usize = 0;
-    while v < n {
+    for v in 0..n {
         let position = VisualizePosition::new(0.0, 0.0, 0.0);
         position.store(pos_i, pos_j, pos_t, v);
-        v += 1;
     }
 }
 
@@ -116,13 +117,13 @@ pub fn fill_vertices(
     defect: &mut [u8],
     list_lengths: &mut [u32],
     neighbor_numbers: &mut [u32],
-) -> Done
+) -> Result<(), Refusal>
     ensures { FilledVertices vertex_num edge_num ends_a.now ends_b.now
         (vertices_in pos_i.old pos_j.old pos_t.old boundary.old defect.old list_lengths.old neighbor_numbers.old)
         (vertices_in pos_i.new pos_j.new pos_t.new boundary.new defect.new list_lengths.new neighbor_numbers.new)
         result }
 {
-    let number = fill_refusal(
+    fill_questions(
         vertex_num,
         edge_num,
         ends_a,
@@ -134,21 +135,18 @@ pub fn fill_vertices(
         defect,
         list_lengths,
         neighbor_numbers,
+    )?;
+    let n = vertex_num as usize;
+    fill_positions(pos_i, pos_j, pos_t, n);
+    fill_u8(boundary, n, 0);
+    fill_u8(defect, n, 0);
+    write_lists(
+        ends_a,
+        ends_b,
+        edge_num as usize,
+        list_lengths,
+        neighbor_numbers,
+        n,
     );
-    if number == 0 {
-        let n = vertex_num as usize;
-        fill_positions(pos_i, pos_j, pos_t, n);
-        fill_u8(boundary, n, 0);
-        fill_u8(defect, n, 0);
-        write_lists(
-            ends_a,
-            ends_b,
-            edge_num as usize,
-            list_lengths,
-            neighbor_numbers,
-            n,
-        );
-        return Done::Accepted;
-    }
-    done_of(number)
+    Ok(())
 }

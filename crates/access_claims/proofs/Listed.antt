@@ -11,15 +11,14 @@ use lib.Dec.{eqb, leb}
 use borrow.Author.Tests.{eq-eqb, ne_eqb, le-leb}
 use Rattle.columns.specs.Lists.{each, over}
 use Rattle.columns.specs.Questions.{ask, vertex_count_sound, edge_count_sound, marks_sound}
-use Rattle.columns.specs.declared.Done.TheVariants.{Accepted}
+use Rattle.columns.specs.declared.refusal.Refusal.{Refusal}
 use Rattle.columns.proofs.Columns.{over-in, length_over, after-accepted}
 use Rattle.columns.proofs.Counting.{length-each, getD-each}
 use Rattle.columns.proofs.Refusals.{met, goes_on, asks, ands}
 use Rattle.columns.proofs.Tests.{both_and, at_within}
-use Rattle.columns_answers.specs.declared.ListCount.{ListCount}
-use Rattle.columns_answers.specs.declared.SyndromeCounts.{SyndromeCounts}
-use Rattle.columns_answers.specs.declared.ListCount.TheVariants.{Count}
-use Rattle.columns_answers.specs.declared.SyndromeCounts.TheVariants.{Counts}
+use Rattle.std.specs.Prelude.{Result, Ok}
+use Rattle.columns_answers.specs.declared.SyndromeLengths.{SyndromeLengths}
+use Rattle.columns_answers.specs.Counts.{syndrome_lengths}
 use Rattle.columns_answers.proofs.Said.{zero_of, values_of}
 use Rattle.columns_room.specs.Room.{two_long}
 use Rattle.columns_marks.specs.Marks.{is_set, listed, names, marks}
@@ -66,7 +65,7 @@ module _ (n : ℕ) (bytes list₀ list : List ℕ) (count : ℕ) (g : Got n byte
   }
 
 -- from what the calls promise
-got_marks : {sound : Bool} {n : ℕ} {bytes list₀ list : List ℕ} {count : ℕ} → GotMarks sound n bytes list₀ list (Count count) → Got n bytes list₀ list count
+got_marks : {sound : Bool} {n : ℕ} {bytes list₀ list : List ℕ} {count : ℕ} → GotMarks sound n bytes list₀ list (Ok count) → Got n bytes list₀ list count
 got_marks {sound} {n} {bytes} {list₀} {list} {count} g =
     let z = zero_of g.answers in
     record {
@@ -75,27 +74,27 @@ got_marks {sound} {n} {bytes} {list₀} {list} {count} g =
       list_is = g.list_after ∙ after-accepted (get_marks_refusal sound n bytes list₀) (listed n bytes) list₀ z;
     }
 
-got_defects : {v e : ℕ} {column lists₀ lists : Syndrome} {defects erasures : ℕ} → GotSyndrome v e column lists₀ lists (Counts defects erasures)
+got_defects : {v e : ℕ} {column lists₀ lists : Syndrome} {defects erasures : ℕ} → GotSyndrome v e column lists₀ lists (Ok (syndrome_lengths defects erasures))
     → Got v column.defects lists₀.defects lists.defects defects
 got_defects {v} {e} {column} {lists₀} {lists} {defects} {erasures} g =
     let z = zero_of g.answers in
     record {
       room = (get_syndrome_met v e column lists₀ z).0.1;
-      count_is = ap (λ (c : ℕ × ℕ). c.0) (values_of g.answers z);
+      count_is = ap (λ (c : SyndromeLengths). c.defects) (values_of g.answers z);
       list_is = g.defects_after ∙ after-accepted (get_syndrome_refusal v e column lists₀) (listed v column.defects) lists₀.defects z;
     }
 
-got_erasures : {v e : ℕ} {column lists₀ lists : Syndrome} {defects erasures : ℕ} → GotSyndrome v e column lists₀ lists (Counts defects erasures)
+got_erasures : {v e : ℕ} {column lists₀ lists : Syndrome} {defects erasures : ℕ} → GotSyndrome v e column lists₀ lists (Ok (syndrome_lengths defects erasures))
     → Got e column.erasures lists₀.erasures lists.erasures erasures
 got_erasures {v} {e} {column} {lists₀} {lists} {defects} {erasures} g =
     let z = zero_of g.answers in
     record {
       room = (get_syndrome_met v e column lists₀ z).1.1;
-      count_is = ap (λ (c : ℕ × ℕ). c.1) (values_of g.answers z);
+      count_is = ap (λ (c : SyndromeLengths). c.erasures) (values_of g.answers z);
       list_is = g.erasures_after ∙ after-accepted (get_syndrome_refusal v e column lists₀) (listed e column.erasures) lists₀.erasures z;
     }
 
-got_virtual : {v e : ℕ} {c : Code} {to₀ to : Initializer} {count : ℕ} → GotInitializer v e c to₀ to (Count count) → Got v c.boundary to₀.virtual to.virtual count
+got_virtual : {v e : ℕ} {c : Code} {to₀ to : Initializer} {count : ℕ} → GotInitializer v e c to₀ to (Ok count) → Got v c.boundary to₀.virtual to.virtual count
 got_virtual {v} {e} {c} {to₀} {to} {count} g =
     let z = zero_of g.answers in
     record {
@@ -105,16 +104,16 @@ got_virtual {v} {e} {c} {to₀} {to} {count} g =
     }
 
 -- from what their callers learn
-defects_read : {v : ℕ} {defect list₀ list : List ℕ} {r : ListCount} → DefectsGot v defect list₀ list r → GotMarks (vertex_count_sound v) v defect list₀ list r
+defects_read : {v : ℕ} {defect list₀ list : List ℕ} {r : Result ℕ Refusal} → DefectsGot v defect list₀ list r → GotMarks (vertex_count_sound v) v defect list₀ list r
 defects_read (defects_got κs a r s h) = h
 
-erasures_read : {e : ℕ} {erasure list₀ list : List ℕ} {r : ListCount} → ErasuresGot e erasure list₀ list r → GotMarks (edge_count_sound e) e erasure list₀ list r
+erasures_read : {e : ℕ} {erasure list₀ list : List ℕ} {r : Result ℕ Refusal} → ErasuresGot e erasure list₀ list r → GotMarks (edge_count_sound e) e erasure list₀ list r
 erasures_read (erasures_got κs a r s h) = h
 
-syndrome_read : {v e : ℕ} {column lists₀ lists : Syndrome} {r : SyndromeCounts} → SyndromeGot v e column lists₀ lists r → GotSyndrome v e column lists₀ lists r
+syndrome_read : {v e : ℕ} {column lists₀ lists : Syndrome} {r : Result SyndromeLengths Refusal} → SyndromeGot v e column lists₀ lists r → GotSyndrome v e column lists₀ lists r
 syndrome_read (syndrome_got κs a r s h) = h
 
-virtual_read : {v : ℕ} {boundary list₀ list : List ℕ} {r : ListCount} → InitializerGot v boundary list₀ list r → (count : ℕ) → r ≡ Count count → Got v boundary list₀ list count
+virtual_read : {v : ℕ} {boundary list₀ list : List ℕ} {r : Result ℕ Refusal} → InitializerGot v boundary list₀ list r → (count : ℕ) → r ≡ Ok count → Got v boundary list₀ list count
 virtual_read (initializer_got κs a r s h) count p = got_virtual (subst (GotInitializer _ _ _ _ _) p h)
 
 pub getter_lists : GetterLists
@@ -199,7 +198,7 @@ number-left : (sound : Bool) (n : ℕ) (handed bytes list₀ : List ℕ) → sou
 number-left sound n handed bytes list₀ p s = asks 6 (room_left n handed bytes s (length list₀)) (asks 7 (both_and p (bytes_sound n handed bytes s)) refl)
 
 -- from what the calls promise
-set-marks : {sound : Bool} {n : ℕ} {handed bytes₀ bytes : List ℕ} → SetMarks sound n handed bytes₀ bytes Accepted → Set n handed bytes × (sound ≡ true)
+set-marks : {sound : Bool} {n : ℕ} {handed bytes₀ bytes : List ℕ} → SetMarks sound n handed bytes₀ bytes (Ok tt) → Set n handed bytes × (sound ≡ true)
 set-marks {sound} {n} {handed} {bytes₀} {bytes} s =
     let z = zero_of s.answers in
     let is = s.column_after ∙ after-accepted (set_marks_refusal sound n handed bytes₀) (marks n handed) bytes₀ z in
@@ -213,7 +212,7 @@ record SyndromeIs (v e : ℕ) (handed column : Syndrome) : Type 0 where
   pub erasures : Set e handed.erasures column.erasures
   pub sound : counts_sound v e ≡ true
 
-set-syndrome : {v e : ℕ} {handed column₀ column : Syndrome} → SetSyndrome v e handed column₀ column Accepted → SyndromeIs v e handed column
+set-syndrome : {v e : ℕ} {handed column₀ column : Syndrome} → SetSyndrome v e handed column₀ column (Ok tt) → SyndromeIs v e handed column
 set-syndrome {v} {e} {handed} {column₀} {column} s =
     let q = set_syndrome_refusal v e handed column₀ in
     let z = zero_of s.answers in

@@ -1,7 +1,6 @@
 -- What a getter hands back: "A list of defects, erasures or virtual vertices handed back ascends; .. places past the count are unchanged."
-use Rattle.std.specs.Prelude.{ℕ, ◌<◌, ◌≡◌, ◌↔◌, List, get_or}
-use Rattle.columns_answers.specs.declared.ListCount.TheVariants.{Count}
-use Rattle.columns_answers.specs.declared.SyndromeCounts.TheVariants.{Counts}
+use Rattle.std.specs.Prelude.{ℕ, ◌<◌, ◌≡◌, ◌↔◌, List, get_or, Ok}
+use Rattle.columns_answers.specs.Counts.{syndrome_lengths}
 use Rattle.columns_marks.specs.Marks.{AscendingList}
 use Rattle.access_calls.specs.Calls.{Syndrome}
 use Rattle.access_claims.specs.AccessCalled.{DefectsGot, ErasuresGot, SyndromeGot, InitializerGot}
@@ -23,11 +22,11 @@ pub record ListsBytes (n : ℕ) (bytes list₀ list : List ℕ) (count : ℕ) : 
 
 -- Sampling, syndromes, reordering, paragraph 2, sentence 4: of every accepted getter that hands back such a list.
 pub record GetterLists : Type 0 where
-  pub defect_vertices : (v : ℕ) (defect list₀ list : List ℕ) (count : ℕ) → DefectsGot v defect list₀ list (Count count) → ListsBytes v defect list₀ list count
-  pub erasures : (e : ℕ) (erasure list₀ list : List ℕ) (count : ℕ) → ErasuresGot e erasure list₀ list (Count count) → ListsBytes e erasure list₀ list count
-  pub syndrome_defects : (v e : ℕ) (column lists₀ lists : Syndrome) (defects erasures : ℕ) → SyndromeGot v e column lists₀ lists (Counts defects erasures)
+  pub defect_vertices : (v : ℕ) (defect list₀ list : List ℕ) (count : ℕ) → DefectsGot v defect list₀ list (Ok count) → ListsBytes v defect list₀ list count
+  pub erasures : (e : ℕ) (erasure list₀ list : List ℕ) (count : ℕ) → ErasuresGot e erasure list₀ list (Ok count) → ListsBytes e erasure list₀ list count
+  pub syndrome_defects : (v e : ℕ) (column lists₀ lists : Syndrome) (defects erasures : ℕ) → SyndromeGot v e column lists₀ lists (Ok (syndrome_lengths defects erasures))
       → ListsBytes v column.defects lists₀.defects lists.defects defects
-  pub syndrome_erasures : (v e : ℕ) (column lists₀ lists : Syndrome) (defects erasures : ℕ) → SyndromeGot v e column lists₀ lists (Counts defects erasures)
+  pub syndrome_erasures : (v e : ℕ) (column lists₀ lists : Syndrome) (defects erasures : ℕ) → SyndromeGot v e column lists₀ lists (Ok (syndrome_lengths defects erasures))
       → ListsBytes e column.erasures lists₀.erasures lists.erasures erasures
   -- Weights, get_initializer: "virtual vertices ascend."
-  pub virtual_vertices : (v : ℕ) (boundary list₀ list : List ℕ) (count : ℕ) → InitializerGot v boundary list₀ list (Count count) → ListsBytes v boundary list₀ list count
+  pub virtual_vertices : (v : ℕ) (boundary list₀ list : List ℕ) (count : ℕ) → InitializerGot v boundary list₀ list (Ok count) → ListsBytes v boundary list₀ list count

@@ -1,10 +1,9 @@
 -- get_positions: which question refuses (0 for none), the answer, and the lent columns afterwards.
-use Rattle.std.specs.Prelude.{ℕ, ◌≡◌, Bool, ◌&&◌, List, length, take, Float}
+use Rattle.std.specs.Prelude.{ℕ, Result, ◌≡◌, Bool, ◌&&◌, List, length, take, Float}
 use Rattle.columns.specs.Lists.{after}
 use Rattle.columns.specs.Questions.{ask, vertex_count_sound}
-use Rattle.columns_answers.specs.Said.{Answered}
-use Rattle.columns_answers.specs.Done.{done_said}
-use Rattle.columns.specs.declared.Done.{Done}
+use Rattle.columns_answers.specs.Said.{said, Answered}
+use Rattle.columns.specs.declared.refusal.Refusal.{Refusal}
 use Rattle.columns_room.specs.Room.{three_long}
 
 -- Records, on vertices: the three columns of positions.
@@ -26,8 +25,8 @@ abbrev pub positions_refusal : ℕ → Positions → Positions → ℕ
 positions_refusal v from to = ask (positions_long v from && positions_long v to) 6 (ask (vertex_count_sound v) 7 0)
 
 -- Taken over, the trait `ExampleCode`: the position of every vertex is copied; the answer, and the columns that it copies into afterwards.
-pub record GotPositions (v : ℕ) (from to₀ to : Positions) (answer : Done) : Type 0 where
-  pub answers : Answered (done_said answer) (positions_refusal v from to₀) tt tt
+pub record GotPositions (v : ℕ) (from to₀ to : Positions) (answer : Result (Unit {0}) Refusal) : Type 0 where
+  pub answers : Answered (said tt answer) (positions_refusal v from to₀) tt tt
   pub pos_i_after : to.pos_i ≡ after (positions_refusal v from to₀) (take v from.pos_i) to₀.pos_i
   pub pos_j_after : to.pos_j ≡ after (positions_refusal v from to₀) (take v from.pos_j) to₀.pos_j
   pub pos_t_after : to.pos_t ≡ after (positions_refusal v from to₀) (take v from.pos_t) to₀.pos_t

@@ -12,9 +12,7 @@ pub fn store_weights(half_weight: &[Weight], n: usize, weight: &mut [Weight])
     requires by_index { (k : ℕ) → k < n → get_or half_weight.now k 0 ≤ half_weight_limit }
     ensures { weight.new ≡ over (weights n half_weight.now) weight.old }
 {
-    let mut k: usize = 0;
-    while k < n {
+    for k in 0..n {
         weight[k] = 2 * half_weight[k];
-        k += 1;
     }
 }

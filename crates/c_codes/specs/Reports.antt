@@ -1,14 +1,13 @@
 -- What is handed to C for each kind of answer.
-use Rattle.std.specs.Prelude.{◌≡◌, Result, Float}
+use Rattle.std.specs.Prelude.{◌≡◌, Result, Float, Bool, false}
 use Rattle.columns.specs.declared.refusal.Refusal.{Refusal}
 use Rattle.columns.specs.Places.{zero_float}
 use Rattle.columns_answers.specs.Said.{said}
 use Rattle.codes_calls.specs.declared.CodeCounts.{CodeCounts}
 use Rattle.codes_calls.specs.CreateCode.{no_counts}
 use Rattle.sanity_verdicts.specs.declared.Verdict.{Verdict}
+use Rattle.c_reports.specs.declared.OneCount.{OneCount}
 use Rattle.sanity_verdicts.specs.Sanity as sanity
-use Rattle.access_vertices.specs.declared.Truth.{Truth}
-use Rattle.access_vertices.specs.Marked as marked
 use Rattle.c_reports.specs.declared.TwoCounts.{TwoCounts}
 use Rattle.c_codes.specs.declared.reports.WeighedReport.{WeighedReport}
 use Rattle.c_codes.specs.declared.reports.TruthReport.{TruthReport}
@@ -32,7 +31,7 @@ pub record ReportsVerdict (a : Verdict) (r : VerdictReport) : Type 0 where
   pub first : r.first ≡ (sanity.verdict_said a).values.1
   pub second : r.second ≡ (sanity.verdict_said a).values.2
 
--- Expected forms by place, last paragraph: the struct holds the number and the values of a `Truth`.
-pub record ReportsTruth (a : Truth) (r : TruthReport) : Type 0 where
-  pub number : r.number ≡ (marked.truth_said a).number
-  pub value : r.value ≡ (marked.truth_said a).values
+-- Expected forms by place, last paragraph: the struct holds the number of an answer that is a truth value, and the value.
+pub record ReportsTruth (a : Result Bool Refusal) (r : TruthReport) : Type 0 where
+  pub number : r.number ≡ (said false a).number
+  pub value : r.value ≡ (said false a).values

@@ -1,4 +1,4 @@
-ghost use Rattle.c_reports.specs.Reports.{Reported, ReportsDone, ReportsList, ReportsSyndrome};
+ghost use Rattle.c_reports.specs.Reports.{Reported, ReportsNumber, ReportsCount, ReportsLengths};
 ghost use Rattle.c_codes.specs.Reports.{ReportsTruth};
 ghost use Rattle.access_vertices.specs.Positions.{positions, GotPositions};
 ghost use Rattle.access_calls.specs.Calls.{code, initializer, GotInitializer, SetMarks, syndrome, SetSyndrome, GotMarks, GotSyndrome};
@@ -6,7 +6,7 @@ ghost use Rattle.access_vertices.specs.Marked.{IsMarked};
 ghost use Rattle.columns.specs.Questions.{vertex_count_sound, edge_count_sound, boundaries_sound, marks_sound};
 
 use super::reports::{TruthReport, truth_report};
-use c_reports::{OneCount, TwoCounts, done_number, list_report, syndrome_report};
+use c_reports::{OneCount, TwoCounts, count_report, lengths_report, number_of};
 use columns::{VertexIndex, Weight};
 
 // Copies the position of every vertex.
@@ -20,13 +20,13 @@ pub extern "C" fn moldingcress_get_positions(
     to_j: &mut [f64],
     to_t: &mut [f64],
 ) -> u32
-    ensures { Reported ReportsDone (λ r. GotPositions vertex_num
+    ensures { Reported ReportsNumber (λ r. GotPositions vertex_num
         (positions pos_i.now pos_j.now pos_t.now)
         (positions to_i.old to_j.old to_t.old)
         (positions to_i.new to_j.new to_t.new)
         r) result }
 {
-    done_number(access_calls::get_positions(vertex_num, pos_i, pos_j, pos_t, to_i, to_j, to_t))
+    number_of(access_calls::get_positions(vertex_num, pos_i, pos_j, pos_t, to_i, to_j, to_t))
 }
 
 // The ends and the weight of every edge, and the virtual vertices, ascending. How many virtual vertices there are.
@@ -43,13 +43,13 @@ pub extern "C" fn moldingcress_get_initializer(
     to_weight: &mut [Weight],
     to_virtual: &mut [u32],
 ) -> OneCount
-    ensures { Reported ReportsList (λ r. GotInitializer vertex_num edge_num
+    ensures { Reported ReportsCount (λ r. GotInitializer vertex_num edge_num
         (code ends_a.now ends_b.now half_weight.now boundary.now)
         (initializer to_a.old to_b.old to_weight.old to_virtual.old)
         (initializer to_a.new to_b.new to_weight.new to_virtual.new)
         r) result }
 {
-    list_report(access_calls::get_initializer(
+    count_report(access_calls::get_initializer(
         vertex_num,
         edge_num,
         ends_a,
@@ -70,17 +70,17 @@ pub extern "C" fn moldingcress_set_defect_vertices(
     list: &[u32],
     defect: &mut [u8],
 ) -> u32
-    ensures { Reported ReportsDone (λ r. SetMarks (vertex_count_sound vertex_num) vertex_num list.now defect.old defect.new r) result }
+    ensures { Reported ReportsNumber (λ r. SetMarks (vertex_count_sound vertex_num) vertex_num list.now defect.old defect.new r) result }
 {
-    done_number(access_calls::set_defect_vertices(vertex_num, list, defect))
+    number_of(access_calls::set_defect_vertices(vertex_num, list, defect))
 }
 
 // Makes the edges of the list the erasures.
 #[unsafe(no_mangle)]
 pub extern "C" fn moldingcress_set_erasures(edge_num: u32, list: &[u32], erasure: &mut [u8]) -> u32
-    ensures { Reported ReportsDone (λ r. SetMarks (edge_count_sound edge_num) edge_num list.now erasure.old erasure.new r) result }
+    ensures { Reported ReportsNumber (λ r. SetMarks (edge_count_sound edge_num) edge_num list.now erasure.old erasure.new r) result }
 {
-    done_number(access_calls::set_erasures(edge_num, list, erasure))
+    number_of(access_calls::set_erasures(edge_num, list, erasure))
 }
 
 // Makes the vertices of one list the defects and the edges of the other the erasures.
@@ -93,13 +93,13 @@ pub extern "C" fn moldingcress_set_syndrome(
     defect: &mut [u8],
     erasure: &mut [u8],
 ) -> u32
-    ensures { Reported ReportsDone (λ r. SetSyndrome vertex_num edge_num
+    ensures { Reported ReportsNumber (λ r. SetSyndrome vertex_num edge_num
         (syndrome defect_list.now erasure_list.now)
         (syndrome defect.old erasure.old)
         (syndrome defect.new erasure.new)
         r) result }
 {
-    done_number(access_calls::set_syndrome(
+    number_of(access_calls::set_syndrome(
         vertex_num,
         edge_num,
         defect_list,
@@ -116,9 +116,9 @@ pub extern "C" fn moldingcress_get_defect_vertices(
     defect: &[u8],
     list: &mut [u32],
 ) -> OneCount
-    ensures { Reported ReportsList (λ r. GotMarks (vertex_count_sound vertex_num) vertex_num defect.now list.old list.new r) result }
+    ensures { Reported ReportsCount (λ r. GotMarks (vertex_count_sound vertex_num) vertex_num defect.now list.old list.new r) result }
 {
-    list_report(access_calls::get_defect_vertices(vertex_num, defect, list))
+    count_report(access_calls::get_defect_vertices(vertex_num, defect, list))
 }
 
 // The erasures, ascending.
@@ -128,9 +128,9 @@ pub extern "C" fn moldingcress_get_erasures(
     erasure: &[u8],
     list: &mut [u32],
 ) -> OneCount
-    ensures { Reported ReportsList (λ r. GotMarks (edge_count_sound edge_num) edge_num erasure.now list.old list.new r) result }
+    ensures { Reported ReportsCount (λ r. GotMarks (edge_count_sound edge_num) edge_num erasure.now list.old list.new r) result }
 {
-    list_report(access_calls::get_erasures(edge_num, erasure, list))
+    count_report(access_calls::get_erasures(edge_num, erasure, list))
 }
 
 // The defects and the erasures, each ascending.
@@ -143,13 +143,13 @@ pub extern "C" fn moldingcress_get_syndrome(
     defect_list: &mut [u32],
     erasure_list: &mut [u32],
 ) -> TwoCounts
-    ensures { Reported ReportsSyndrome (λ r. GotSyndrome vertex_num edge_num
+    ensures { Reported ReportsLengths (λ r. GotSyndrome vertex_num edge_num
         (syndrome defect.now erasure.now)
         (syndrome defect_list.old erasure_list.old)
         (syndrome defect_list.new erasure_list.new)
         r) result }
 {
-    syndrome_report(access_calls::get_syndrome(
+    lengths_report(access_calls::get_syndrome(
         vertex_num,
         edge_num,
         defect,

@@ -1,7 +1,7 @@
 // Answers as structs of numbers.
 ghost use Rattle.c_codes.specs.Reports.{ReportsCreated, ReportsWeighed, ReportsVerdict, ReportsTruth};
 
-use access_calls::Truth;
+use c_reports::{OneCount, TwoCounts};
 use c_reports::TwoCounts;
 use codes_calls::CodeCounts;
 use columns::refusal::Refusal;
@@ -106,13 +106,13 @@ pub fn verdict_report(answer: Verdict) -> VerdictReport
 }
 
 // Whether a vertex is virtual or a defect.
-pub fn truth_report(answer: Truth) -> TruthReport
+pub fn truth_report(answer: Result<bool, Refusal>) -> TruthReport
     ensures { ReportsTruth answer result }
 {
     match answer {
-        Truth::Is(value) => TruthReport { number: 0, value },
-        Truth::Refused(number) => TruthReport {
-            number,
+        Ok(value) => TruthReport { number: 0, value },
+        Err(refusal) => TruthReport {
+            number: u32::from(refusal),
             value: false,
         },
     }

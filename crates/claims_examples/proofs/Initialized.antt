@@ -10,9 +10,9 @@ use Rattle.columns.specs.Lists.{each, joined, layered, over, after}
 use Rattle.columns.specs.Questions.{ask, all}
 use Rattle.columns.proofs.Columns.{take-over, after-accepted}
 use Rattle.columns.proofs.Tests.{both_and}
-use Rattle.columns_answers.specs.Said.{accepts}
-use Rattle.columns_answers.specs.declared.ListCount.{ListCount}
-use Rattle.columns_answers.specs.Counts.{list_said}
+use Rattle.std.specs.Prelude.{Result}
+use Rattle.columns.specs.declared.refusal.Refusal.{Refusal}
+use Rattle.columns_answers.specs.Said.{accepts, said}
 use Rattle.columns_marks.specs.Marks.{listed}
 use Rattle.columns_neighbors.specs.Lists.{chosen}
 use Rattle.columns_room.specs.Room.{two_long, three_long}
@@ -33,7 +33,7 @@ use Rattle.claims_examples.specs.Starred.{InitializerRoom, listing_graph, graph_
 use Rattle.claims_examples.proofs.Answers.{said-accepts}
 use Rattle.claims_examples.proofs.Builders.{ListingLeft, listing-places, three-edges}
 
-got_of : (v e : ℕ) (c : Code) (to₀ to : Initializer) (n : ListCount) → InitializerReturned v e c to₀ to n → GotInitializer v e c to₀ to n
+got_of : (v e : ℕ) (c : Code) (to₀ to : Initializer) (n : Result ℕ Refusal) → InitializerReturned v e c to₀ to n → GotInitializer v e c to₀ to n
 got_of v e c to₀ to n (initializer_returned κs a q s h) = h
 
 over_long : (vs column : List ℕ) (n : ℕ) → length vs ≡ n → n ≤ length (over vs column)
@@ -69,9 +69,9 @@ two-virtual m₀ = refl
 held : (n q : ℕ) (vs ws column₀ column : List ℕ) → column ≡ after q vs column₀ → q ≡ 0 → vs ≡ ws → length ws ≡ n → take n column ≡ ws
 held n q vs ws column₀ column p z r l = ap (take n) (p ∙ after-accepted q vs column₀ z ∙ ap (λ (x : List ℕ). over x column₀) r) ∙ take-over ws column₀ n l
 
-pub listing_handed_on : (c₀ c : CodeColumns) → ListingLeft c₀ c → (to₀ to : Initializer) (n : ListCount)
+pub listing_handed_on : (c₀ c : CodeColumns) → ListingLeft c₀ c → (to₀ to : Initializer) (n : Result ℕ Refusal)
     → InitializerReturned 4 3 (code c.ends_a c.ends_b c.half_weight c.boundary) to₀ to n → InitializerRoom to₀
-    → (list_said n ≡ accepts 2) × (graph_handed_on c to ≡ listing_graph)
+    → (said 0 n ≡ accepts 2) × (graph_handed_on c to ≡ listing_graph)
 listing_handed_on c₀ c w to₀ to n x room =
     let from = code c.ends_a c.ends_b c.half_weight c.boundary in
     let got = got_of 4 3 from to₀ to n x in

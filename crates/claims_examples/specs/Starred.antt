@@ -14,8 +14,7 @@ use Rattle.codes_writers.specs.Edges.{firsts, seconds, boundaries}
 use Rattle.codes_layers.specs.Codes.{edges_of, vertices_of}
 use Rattle.codes_questions.specs.Answers.{CountsVertices, CountsEdges}
 use Rattle.codes_calls.specs.Columns.{CodeColumns, vertex_room, edge_room, long_enough}
-use Rattle.columns_answers.specs.declared.ListCount.{ListCount}
-use Rattle.columns_answers.specs.Counts.{list_said}
+use Rattle.columns.specs.declared.refusal.Refusal.{Refusal}
 use Rattle.access_vertices.specs.Weights.{weights as doubled}
 use Rattle.access_calls.specs.Calls.{code, Initializer}
 use Rattle.weights_calls.specs.Calls.{is_largest_half_weight, half_weights, compute_refusal}
@@ -167,10 +166,10 @@ pub record StarredExamples : Type 0 where
   pub listing_built : (c₀ c : CodeColumns) (r : Result CodeCounts Refusal) → NewReturned 1 3 0 listing_p 500 c₀ c r → long_enough 4 3 (vertex_room c₀) (edge_room c₀) (length c₀.neighbor_numbers) ≡ true
       → (said no_counts r ≡ accepts (code_counts 4 3)) × (graph_of_code c ≡ listing_graph)
   -- Weights, get_initializer: called on it then, `get_initializer` hands this graph on, with two virtual vertices, wherever its own columns have room.
-  pub listing_handed_on : (c₀ c : CodeColumns) (r : Result CodeCounts Refusal) (to₀ to : Initializer) (n : ListCount) → NewReturned 1 3 0 listing_p 500 c₀ c r
+  pub listing_handed_on : (c₀ c : CodeColumns) (r : Result CodeCounts Refusal) (to₀ to : Initializer) (n : Result ℕ Refusal) → NewReturned 1 3 0 listing_p 500 c₀ c r
       → long_enough 4 3 (vertex_room c₀) (edge_room c₀) (length c₀.neighbor_numbers) ≡ true
       → InitializerReturned 4 3 (code c.ends_a c.ends_b c.half_weight c.boundary) to₀ to n → InitializerRoom to₀
-      → (list_said n ≡ accepts 2) × (graph_handed_on c to ≡ listing_graph)
+      → (said 0 n ≡ accepts 2) × (graph_handed_on c to ≡ listing_graph)
   -- "path 3 to 2 is (0,1000) (1,1000) (2,1000), total 3000;"
   pub path_3_2 : path (tally_graph (listing_after [])) (tally_weights (listing_after [])) 3 2
       ≡ some (record { vertices = 0 ∷ 1 ∷ 2 ∷ []; steps = 1000 ∷ 1000 ∷ 1000 ∷ []; total = 3000 })

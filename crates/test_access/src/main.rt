@@ -3,8 +3,8 @@
 
 ghost use Rattle.std.specs.Prelude.{◌≤◌};
 
-use access_calls::{ListCount, SyndromeCounts, Truth};
-use columns::{Done, VertexIndex};
+use columns::VertexIndex;
+use columns::refusal::Refusal;
 use sanity_calls::Verdict;
 use test_numbers::{end_line, write, write_number};
 
@@ -12,7 +12,11 @@ fn write_comma(rt: &impl Print) {
     write(rt, b",");
 }
 
-fn write_refusal(rt: &impl Print, number: u32) {
+fn write_refusal(rt: &impl Print, refusal: Refusal) {
+    write_refused(rt, u32::from(refusal));
+}
+
+fn write_refused(rt: &impl Print, number: u32) {
     write(rt, b"r,");
     write_number(rt, number);
 }
@@ -37,7 +41,7 @@ fn show_verdict(rt: &impl Print, v: Verdict) {
         Verdict::DuplicateEdge(earlier, later) => write_three(rt, 2, earlier.0, later.0),
         Verdict::NoEdges(vertex) => write_two(rt, 3, vertex.0),
         Verdict::EdgeTwice(edge, vertex) => write_three(rt, 4, edge.0, vertex.0),
-        Verdict::Refused(number) => write_refusal(rt, number),
+        Verdict::Refused(number) => write_refused(rt, number),
     }
     end_line(rt);
 }
@@ -111,32 +115,26 @@ fn verdicts_on_vertices(rt: &impl Print) {
     show_triangle(rt, [2u32, 2, 0], 2, [0u32, 2, 0, 1, 1, 2], 6);
 }
 
-fn show_done(rt: &impl Print, d: Done) {
-    match d {
-        Done::Accepted => write_number(rt, 0),
-        Done::Refused(number) => write_refusal(rt, number),
+fn show_answer(rt: &impl Print, answer: Result<(), Refusal>) {
+    match answer {
+        Ok(()) => write_number(rt, 0),
+        Err(refusal) => write_refusal(rt, refusal),
     }
     end_line(rt);
 }
 
-fn show_count(rt: &impl Print, c: ListCount) {
-    match c {
-        ListCount::Count(n) => write_number(rt, n),
-        ListCount::Refused(number) => write_refusal(rt, number),
+fn show_count(rt: &impl Print, answer: Result<u32, Refusal>) {
+    match answer {
+        Ok(n) => write_number(rt, n),
+        Err(refusal) => write_refusal(rt, refusal),
     }
     end_line(rt);
 }
 
-fn show_truth(rt: &impl Print, t: Truth) {
-    match t {
-        Truth::Is(value) => {
-            if value {
-                write_number(rt, 1)
-            } else {
-                write_number(rt, 0)
-            }
-        }
-        Truth::Refused(number) => write_refusal(rt, number),
+fn show_truth(rt: &impl Print, answer: Result<bool, Refusal>) {
+    match answer {
+        Ok(value) => write_number(rt, u32::from(value)),
+        Err(refusal) => write_refusal(rt, refusal),
     }
     end_line(rt);
 }
@@ -150,7 +148,7 @@ fn show_four(rt: &impl Print, s: [u32; 4]) {
 
 // Sets the defects, and reads them back.
 fn set_and_get(rt: &impl Print, list: &[u32], bytes: &mut [u8; 4], read: &mut [u32; 4]) {
-    show_done(rt, access_calls::set_defect_vertices(4, list, bytes));
+    show_answer(rt, access_calls::set_defect_vertices(4, list, bytes));
     show_count(rt, access_calls::get_defect_vertices(4, bytes, read));
     show_four(rt, *read);
 }
@@ -176,13 +174,13 @@ fn syndrome(rt: &impl Print) {
     let mut erasure = [1u8, 1, 1, 1];
     let mut defects = [9u32, 9, 9, 9];
     let mut erasures = [9u32, 9, 9, 9];
-    show_done(
+    show_answer(
         rt,
         access_calls::set_syndrome(4, 3, &[2u32], &[2u32, 0], &mut defect, &mut erasure),
     );
     match access_calls::get_syndrome(4, 3, &defect, &erasure, &mut defects, &mut erasures) {
-        SyndromeCounts::Counts { defects, erasures } => write_two(rt, defects, erasures),
-        SyndromeCounts::Refused(number) => write_refusal(rt, number),
+        Ok(lengths) => write_two(rt, lengths.defects, lengths.erasures),
+        Err(refusal) => write_refusal(rt, refusal),
     }
     end_line(rt);
     show_four(rt, defects);

@@ -1,8 +1,0 @@
--- `access_vertices::positions::positions_refusal` meets its contract: the questions are asked in the order defined, and each callee promises its test. Assumes nothing.
-use Rattle.columns.specs.Questions.{ask}
-use mathlib.Core.Bool.{◌&&◌}
-use mathlib.Core.Path.{◌∙◌}
-use Rattle.access_vertices.proofs.positions.positions_refusal.Goals as goal
-
-pub returns : goal.returns
-returns c = c.asked-2.ensures ∙ (λ i. ask ((c.both.ensures ∙ (λ i. c.three_long-from.ensures i && c.three_long-to.ensures i)) i) 6 ((c.asked.ensures ∙ (λ i. ask (c.vertex_count_sound-sound.ensures i) 7 0)) i))

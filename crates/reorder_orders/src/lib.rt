@@ -4,10 +4,11 @@
 ghost use Rattle.std.specs.Prelude.{◌≡◌, true, ℕ, ◌<◌, ◌≤◌, length, get_or, take};
 ghost use Rattle.columns.specs.Lists.{over};
 ghost use Rattle.columns.specs.Questions.{ask, all_below};
+ghost use Rattle.columns.specs.Refusals.{question_of};
 ghost use Rattle.reorder_orders.specs.Order.{none_twice, old_to_new, renamed, moved};
 ghost use Rattle.reorder_orders.specs.Steps.{IsOrder};
 
-use columns::questions::asked;
+use columns::refusal::{Refusal, require};
 use columns::wide;
 
 // Whether no number is twice in the order; seen holds 0 alone.
@@ -37,15 +38,13 @@ fn none_twice(order: &[u32]) -> bool
 }
 
 // Questions 13 and 14 of an order of at most 4,096 vertices.
-pub fn order_questions(in_range: bool, order: &[u32]) -> u32
+pub fn order_questions(in_range: bool, order: &[u32]) -> Result<(), Refusal>
     requires order_len_bound { length order.now ≤ 4096 }
     requires order_value { in_range ≡ true → all_below (length order.now) order.now ≡ true }
-    ensures { result ≡ ask in_range 13 (ask (none_twice order.now) 14 0) }
+    ensures { question_of result ≡ ask in_range 13 (ask (none_twice order.now) 14 0) }
 {
-    if !in_range {
-        return 13;
-    }
-    asked(none_twice(order), 14, 0)
+    require(in_range, Refusal::NumberOutOfRange)?;
+    require(none_twice(order), Refusal::RepeatedVertex)
 }
 
 // Stores the new number of each old vertex.

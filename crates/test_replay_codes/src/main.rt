@@ -8,7 +8,7 @@ use codes_calls::Created;
 use columns::Weight;
 use sampling_calls::{ListCount, SyndromeCounts};
 use test_numbers::{
-    after, at, copy_u32, end_line, narrow_at, read_input, show, show_bytes, show_done, show_list,
+    after, at, copy_u32, end_line, narrow_at, read_input, show, show_answer, show_bytes, show_list,
     size_at,
 };
 
@@ -272,7 +272,7 @@ fn replay_code(
         erasure_probability,
         list,
     );
-    show_done(
+    show_answer(
         rt,
         reorder_calls::reorder_vertices(
             v,

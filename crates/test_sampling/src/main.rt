@@ -2,9 +2,10 @@
 // What it prints is compared with the file stdout.
 #![tactic(auto)]
 
-use reorder_calls::TranslatedAnswer;
 use sampling_calls::SyndromeCounts;
-use test_numbers::{end_line, show, show_bytes, show_count, show_counts, show_done, show_list};
+use test_numbers::{
+    end_line, show, show_answer, show_bytes, show_count, show_counts, show_done, show_list,
+};
 
 const VERTEX_NUM: u32 = 8;
 
@@ -112,12 +113,12 @@ fn clear(rt: &impl Print) {
 // The new numbers, and a list translated.
 fn numbers(rt: &impl Print, order: &[u32], list: &[u32]) {
     let mut column = [99u32; 9];
-    show_done(rt, reorder_calls::build_old_to_new(order, &mut column));
+    show_answer(rt, reorder_calls::build_old_to_new(order, &mut column));
     show_list(rt, &column, 9);
     let mut translated = [99u32; 4];
     match reorder_calls::translated_defect_to_reordered(order, list, &mut translated) {
-        TranslatedAnswer::Count(n) => show(rt, n as u64),
-        TranslatedAnswer::Refused(number) => show(rt, number as u64 + 100),
+        Ok(n) => show(rt, n as u64),
+        Err(refusal) => show(rt, u32::from(refusal) as u64 + 100),
     }
     end_line(rt);
     show_list(rt, &translated, 4);
@@ -136,7 +137,7 @@ fn positions_and_lists(rt: &impl Print, order: &[u32]) {
         0u32, 1, 2, 0, 3, 1, 2, 4, 5, 3, 4, 6, 7, 5, 8, 6, 7, 8, 7, 7,
     ];
     let mut scratch = [9u32; 20];
-    show_done(
+    show_answer(
         rt,
         reorder_calls::reorder_vertices(
             VERTEX_NUM,

@@ -1,4 +1,4 @@
--- What an accepted call says of its columns, and what a call answers and leaves, accepted and refused. Assumes nothing.
+-- What an accepted call says of its columns, and what it answers and leaves. Assumes nothing.
 use mathlib.Core.Path.{◌≡◌, sym, ap, ◌∙◌}
 use mathlib.Core.Bool.{Bool, true, ◌&&◌}
 use mathlib.Core.List.{List}
@@ -11,11 +11,9 @@ use borrow.Author.Tests.{leb-true, eqb-true}
 use Rattle.columns.specs.Limits.{vertex_limit}
 use Rattle.columns.specs.Lists.{over}
 use Rattle.columns.specs.Questions.{ask, all_below, marks_sound}
-use Rattle.std.specs.Prelude.{Ok, Err}
-use Rattle.columns.specs.Refusals.{number}
-use Rattle.columns.specs.declared.refusal.Refusal.{Refusal}
-use Rattle.columns_answers.proofs.Said.{no_zero, accepted-of, refusal-of}
-use Rattle.columns.proofs.Columns.{after-accepted, after-refused}
+use Rattle.std.specs.Prelude.{Ok}
+use Rattle.columns_answers.proofs.Said.{accepted-of}
+use Rattle.columns.proofs.Columns.{after-accepted}
 use Rattle.columns.proofs.Tests.{and_both, below_at}
 use Rattle.columns.proofs.Refusals.{met, goes_on}
 use Rattle.reorder_orders.specs.Order.{none_twice, renamed, moved}
@@ -143,26 +141,8 @@ reorder_met v e order c z =
       marks = marks;
     }
 
--- the answer and the columns, refused and accepted
+-- the answer and the columns
 module _ (v e : ℕ) (order : List ℕ) (b : ReorderColumns) where
-  pub reordered-refused : (r : Refusal) → number r ≡ reorder_refusal v e order b → ReorderedVertices v e order b (Err r) b
-  reordered-refused r q =
-      let refusal = reorder_refusal v e order b in
-      let g : refusal ≡ 0 → ⊥ = λ z. no_zero r (q ∙ z) in
-      record {
-        answers = refusal-of r q;
-        ends_a_after = sym (after-refused refusal (renamed order (take e b.ends_a)) b.ends_a g);
-        ends_b_after = sym (after-refused refusal (renamed order (take e b.ends_b)) b.ends_b g);
-        boundary_after = sym (after-refused refusal (moved order 0 b.boundary) b.boundary g);
-        defect_after = sym (after-refused refusal (moved order 0 b.defect) b.defect g);
-        pos_i_after = sym (after-refused refusal (moved order zero_float b.pos_i) b.pos_i g);
-        pos_j_after = sym (after-refused refusal (moved order zero_float b.pos_j) b.pos_j g);
-        pos_t_after = sym (after-refused refusal (moved order zero_float b.pos_t) b.pos_t g);
-        list_lengths_after = sym (after-refused refusal (moved order 0 b.list_lengths) b.list_lengths g);
-        neighbor_numbers_after = sym (after-refused refusal (moved_lists order b.list_lengths b.neighbor_numbers) b.neighbor_numbers g);
-        scratch_after = sym (after-refused refusal (take (sum_to v b.list_lengths) b.neighbor_numbers) b.scratch g);
-      }
-
   pub reordered-accepted : (last : ReorderColumns) → reorder_refusal v e order b ≡ 0 → length order ≡ v
       → last.ends_a ≡ over (renamed order (take e b.ends_a)) b.ends_a → last.ends_b ≡ over (renamed order (take e b.ends_b)) b.ends_b
       → last.boundary ≡ over (moved order 0 b.boundary) b.boundary → last.defect ≡ over (moved order 0 b.defect) b.defect

@@ -147,8 +147,8 @@ fn reorder_questions(
         neighbor_numbers,
         scratch,
     );
-    let sound = columns_sound(vertex_num, edge_num, ends_a, ends_b, boundary, defect);
     require(long, Refusal::ShortColumn)?;
+    let sound = columns_sound(vertex_num, edge_num, ends_a, ends_b, boundary, defect);
     require(sound, Refusal::UnsoundColumns)?;
     vertex_order_questions(vertex_num, order)
 }

@@ -5,7 +5,7 @@ use native.Mathlib.Omega.{arith}
 use lib.ListN.{length}
 use Rattle.columns_neighbors.specs.Lists.{sum_to}
 use Rattle.reorder_calls.specs.Columns.{ReorderColumns, reorder_columns, reorder_refusal}
-use Rattle.reorder_calls.proofs.Accepting.{ReorderMet, reorder_met, reordered-refused, reordered-accepted}
+use Rattle.reorder_calls.proofs.Accepting.{ReorderMet, reorder_met, reordered-accepted}
 use Rattle.reorder_calls.proofs.reorder_vertices.Goals as goal
 
 pub rename_ends-requires : goal.rename_ends-requires

@@ -16,14 +16,12 @@ fn fresh_in(order: &[u32], seen: &mut [u8]) -> bool
     requires { ((i : ℕ) → i < length order.now → get_or order.now i 0 < length seen.old) × ((u : ℕ) → get_or seen.old u 0 ≡ 0) }
     ensures { result ≡ none_twice order.now }
 {
-    let mut i: usize = 0;
-    while i < order.len() {
-        let at = wide(order[i]);
+    for vertex in order {
+        let at = wide(*vertex);
         if seen[at] == 1 {
             return false;
         }
         seen[at] = 1;
-        i += 1;
     }
     true
 }
@@ -52,11 +50,9 @@ pub fn place_numbers(order: &[u32], new_numbers: &mut [u32])
     requires { IsOrder order.now × (length order.now ≤ length new_numbers.old) }
     ensures { new_numbers.new ≡ over (old_to_new order.now) new_numbers.old }
 {
-    let mut i: usize = 0;
-    while i < order.len() {
-        let at = wide(order[i]);
+    for (i, vertex) in order.iter().enumerate() {
+        let at = wide(*vertex);
         new_numbers[at] = i as u32;
-        i += 1;
     }
 }
 
@@ -65,11 +61,8 @@ pub fn gather_u32(list: &[u32], from: &[u32], to: &mut [u32])
     requires { ((i : ℕ) → i < length list.now → get_or list.now i 0 < length from.now) × (length list.now ≤ length to.old) }
     ensures { to.new ≡ over (moved list.now 0 from.now) to.old }
 {
-    let mut i: usize = 0;
-    while i < list.len() {
-        let at = wide(list[i]);
-        to[i] = from[at];
-        i += 1;
+    for (i, place) in list.iter().enumerate() {
+        to[i] = from[wide(*place)];
     }
 }
 
@@ -97,11 +90,8 @@ fn rename_by(new_numbers: &[u32], ends: &mut [u32], n: usize)
     requires { ((i : ℕ) → i < n → get_or ends.old i 0 < length new_numbers.now) × (n ≤ length ends.old) }
     ensures { ends.new ≡ over (moved (take n ends.old) 0 new_numbers.now) ends.old }
 {
-    let mut i: usize = 0;
-    while i < n {
-        let at = wide(ends[i]);
-        ends[i] = new_numbers[at];
-        i += 1;
+    for end in &mut ends[..n] {
+        *end = new_numbers[wide(*end)];
     }
 }
 

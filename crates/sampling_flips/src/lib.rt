@@ -90,17 +90,15 @@ pub fn flip_all(
     requires by_index { (i : ℕ) → i < length list.now → get_or list.now i 0 < edge_num }
     ensures { defect.new ≡ flip_each ends_a.now ends_b.now boundary.now list.now defect.old }
 {
-    let mut i: usize = 0;
-    while i < list.len() {
+    for edge in list {
         flip_edge(
             vertex_num,
             edge_num,
             ends_a,
             ends_b,
             boundary,
-            EdgeIndex(list[i]),
+            EdgeIndex(*edge),
             defect,
         );
-        i += 1;
     }
 }

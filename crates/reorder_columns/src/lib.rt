@@ -16,11 +16,8 @@ fn gather_u8(list: &[u32], from: &[u8], to: &mut [u8])
     requires { ((i : ℕ) → i < length list.now → get_or list.now i 0 < length from.now) × (length list.now ≤ length to.old) }
     ensures { to.new ≡ over (moved list.now 0 from.now) to.old }
 {
-    let mut i: usize = 0;
-    while i < list.len() {
-        let at = wide(list[i]);
-        to[i] = from[at];
-        i += 1;
+    for (i, place) in list.iter().enumerate() {
+        to[i] = from[wide(*place)];
     }
 }
 
@@ -73,12 +70,10 @@ fn gather_positions(
     ensures pos_j_after { pos_j.new ≡ over (moved list.now zero_float from_j.now) pos_j.old }
     ensures pos_t_after { pos_t.new ≡ over (moved list.now zero_float from_t.now) pos_t.old }
 {
-    let mut k: usize = 0;
-    while k < list.len() {
-        let at = wide(list[k]);
+    for (k, place) in list.iter().enumerate() {
+        let at = wide(*place);
         let position = VisualizePosition::load(from_i, from_j, from_t, at);
         position.store(pos_i, pos_j, pos_t, k);
-        k += 1;
     }
 }
 

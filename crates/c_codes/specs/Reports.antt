@@ -6,7 +6,6 @@ use Rattle.columns_answers.specs.Said.{said}
 use Rattle.codes_calls.specs.declared.CodeCounts.{CodeCounts}
 use Rattle.codes_calls.specs.CreateCode.{no_counts}
 use Rattle.sanity_verdicts.specs.declared.Verdict.{Verdict}
-use Rattle.c_reports.specs.declared.OneCount.{OneCount}
 use Rattle.sanity_verdicts.specs.Sanity as sanity
 use Rattle.c_reports.specs.declared.TwoCounts.{TwoCounts}
 use Rattle.c_codes.specs.declared.reports.WeighedReport.{WeighedReport}

@@ -1,7 +1,6 @@
 // Answers as structs of numbers.
 ghost use Rattle.c_codes.specs.Reports.{ReportsCreated, ReportsWeighed, ReportsVerdict, ReportsTruth};
 
-use c_reports::{OneCount, TwoCounts};
 use c_reports::TwoCounts;
 use codes_calls::CodeCounts;
 use columns::refusal::Refusal;

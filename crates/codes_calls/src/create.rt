@@ -12,7 +12,7 @@ use codes_questions::code_questions;
 use columns::Weight;
 use columns::refusal::{Refusal, require};
 use columns_room::long_enough;
-use columns_stores::{fill_f64, fill_u8, fill_weights};
+use columns_stores::fill;
 
 // The least of six lengths.
 pub fn shortest_of(a: usize, b: usize, c: usize, d: usize, e: usize, f: usize) -> usize
@@ -56,10 +56,10 @@ fn fill_edges(
     ensures { EdgeColumnsFilled kind d rounds ends_a.old ends_b.old p.old pe.old half_weight.old erasure.old ends_a.new ends_b.new p.new pe.new half_weight.new erasure.new result }
 {
     let n = codes_edges::code_edges(ends_a, ends_b, kind, d, rounds);
-    fill_f64(p, n, 0.0);
-    fill_f64(pe, n, 0.0);
-    fill_weights(half_weight, n, 0);
-    fill_u8(erasure, n, 0);
+    fill(p, n, 0.0);
+    fill(pe, n, 0.0);
+    fill(half_weight, n, 0);
+    fill(erasure, n, 0);
     n
 }
 
@@ -79,7 +79,7 @@ fn fill_vertices(
     ensures { VertexColumnsFilled kind d rounds pos_i.old pos_j.old pos_t.old boundary.old defect.old pos_i.new pos_j.new pos_t.new boundary.new defect.new result }
 {
     let n = codes_layers::vertices::code_vertices(boundary, pos_i, pos_j, pos_t, kind, d, rounds);
-    fill_u8(defect, n, 0);
+    fill(defect, n, 0);
     n
 }
 

@@ -7,7 +7,7 @@ ghost use Rattle.columns.specs.Lists.{when, over};
 ghost use Rattle.columns_marks.specs.Marks.{is_set, listed, marks, Continued};
 
 use columns::questions::both;
-use columns_stores::fill_u8;
+use columns_stores::fill;
 
 // Whether a byte is set.
 pub fn is_set(byte: u8) -> bool
@@ -98,7 +98,7 @@ pub fn set_marks(column: &mut [u8], n: usize, list: &[u32])
     requires by_index { (i : ℕ) → i < length list.now → get_or list.now i 0 < n }
     ensures { column.new ≡ over (marks n list.now) column.old }
 {
-    fill_u8(column, n, 0);
+    fill(column, n, 0);
     let mut i: usize = 0;
     while i < list.len() {
         mark(column, list[i]);

@@ -7,7 +7,7 @@ ghost use Rattle.engine_columns.specs.Open.{Opened, graph_columns};
 
 use columns::Weight;
 use columns::refusal::Refusal;
-use columns_stores::{copy_u8, copy_u32, copy_weights};
+use columns_stores::copy;
 use engine_columns::EngineCounts;
 use engine_log::{erase_all, undo_all, weigh_all};
 use engine_questions::{load_erasures_refusal, load_weights_refusal, open_refusal, reset_refusal};
@@ -132,10 +132,10 @@ pub fn open(
         boundary,
     )?;
     let n = edges as usize;
-    copy_u32(ends_a, in_a, n);
-    copy_u32(ends_b, in_b, n);
-    copy_weights(weights, in_weights, n);
-    copy_u8(boundary, in_boundary, vertices as usize);
+    copy(ends_a, in_a, n);
+    copy(ends_b, in_b, n);
+    copy(weights, in_weights, n);
+    copy(boundary, in_boundary, vertices as usize);
     Ok(EngineCounts {
         vertices,
         edges,

@@ -7,7 +7,7 @@ ghost use Rattle.reorder_calls.specs.Columns.{moved_lists};
 ghost use Rattle.reorder_orders.specs.Steps.{IsOrder};
 
 use columns::wide;
-use columns_stores::copy_u32;
+use columns_stores::copy;
 
 // Where each of the first n lists starts, and the end of the last.
 fn list_starts(lengths: &[u32], n: usize, starts: &mut [usize]) -> usize
@@ -59,7 +59,7 @@ fn move_lists_in(
     ensures scratch_after { scratch.new ≡ over (take (sum_to (length order.now) lengths.now) numbers.old) scratch.old }
 {
     let sum = list_starts(lengths, order.len(), starts);
-    copy_u32(scratch, numbers, sum);
+    copy(scratch, numbers, sum);
     gather_lists(order, lengths, starts, scratch, numbers);
 }
 

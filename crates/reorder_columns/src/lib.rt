@@ -8,7 +8,7 @@ ghost use Rattle.reorder_orders.specs.Order.{moved};
 ghost use Rattle.reorder_orders.specs.Steps.{IsOrder};
 
 use columns::{VisualizePosition, wide};
-use columns_stores::{copy_f64, copy_u8, copy_u32};
+use columns_stores::copy;
 use reorder_orders::gather_u32;
 
 // Stores the byte that stands at each listed place.
@@ -25,7 +25,7 @@ fn move_u8_in(order: &[u32], column: &mut [u8], copy: &mut [u8])
     requires { IsOrder order.now × (length order.now ≤ length column.old) × (length order.now ≤ length copy.old) }
     ensures { column.new ≡ over (moved order.now 0 column.old) column.old }
 {
-    copy_u8(copy, column, order.len());
+    columns_stores::copy(copy, column, order.len());
     gather_u8(order, copy, column);
 }
 
@@ -42,7 +42,7 @@ fn move_u32_in(order: &[u32], column: &mut [u32], copy: &mut [u32])
     requires { IsOrder order.now × (length order.now ≤ length column.old) × (length order.now ≤ length copy.old) }
     ensures { column.new ≡ over (moved order.now 0 column.old) column.old }
 {
-    copy_u32(copy, column, order.len());
+    columns_stores::copy(copy, column, order.len());
     gather_u32(order, copy, column);
 }
 
@@ -93,9 +93,9 @@ fn move_positions_in(
     ensures pos_t_after { pos_t.new ≡ over (moved order.now zero_float pos_t.old) pos_t.old }
 {
     let n = order.len();
-    copy_f64(copy_i, pos_i, n);
-    copy_f64(copy_j, pos_j, n);
-    copy_f64(copy_t, pos_t, n);
+    copy(copy_i, pos_i, n);
+    copy(copy_j, pos_j, n);
+    copy(copy_t, pos_t, n);
     gather_positions(order, copy_i, copy_j, copy_t, pos_i, pos_j, pos_t);
 }
 

@@ -15,7 +15,7 @@ ghost use Rattle.sampling_flips.specs.Steps.{Fits};
 use columns::refusal::Refusal;
 pub use columns_answers::SyndromeLengths;
 use columns_marks::list_set;
-use columns_stores::fill_u8;
+use columns_stores::fill;
 use questions::{errors_refusal, sampling_refusal, syndrome_refusal};
 pub use sampling_clear::clear_errors;
 use sampling_edges::sample_edges;
@@ -55,7 +55,7 @@ pub fn generate_random_errors(
         defect_list,
         erasure_list,
     )?;
-    fill_u8(defect, vertex_num as usize, 0);
+    fill(defect, vertex_num as usize, 0);
     let rng = DeterministicRng::seed_from_u64(seed);
     sample_edges(
         vertex_num, edge_num, ends_a, ends_b, p, pe, boundary, rng, defect, erasure,

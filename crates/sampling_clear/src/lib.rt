@@ -7,7 +7,7 @@ ghost use Rattle.sampling_clear.specs.Clear.{clear_refusal, ClearedErrors};
 
 use columns::questions::{edge_count_sound, vertex_count_sound};
 use columns::refusal::{Refusal, require};
-use columns_stores::fill_u8;
+use columns_stores::fill;
 
 // Questions 6 and 7 of clear_errors.
 fn clear_questions(
@@ -34,7 +34,7 @@ pub fn clear_errors(
     ensures { ClearedErrors vertex_num edge_num defect.old erasure.old result defect.new erasure.new }
 {
     clear_questions(vertex_num, edge_num, defect, erasure)?;
-    fill_u8(defect, vertex_num as usize, 0);
-    fill_u8(erasure, edge_num as usize, 1);
+    fill(defect, vertex_num as usize, 0);
+    fill(erasure, edge_num as usize, 1);
     Ok(())
 }

@@ -6,7 +6,7 @@ ghost use Rattle.weights_calls.specs.Setters.{set_each_refusal, SetEach};
 
 use columns::EDGE_LIMIT;
 use columns::refusal::{Refusal, require};
-use columns_stores::fill_f64;
+use columns_stores::fill;
 use weights_questions::{is_erasure_probability, is_probability};
 
 // Questions 6, 7 and 9; `met` says whether 9 is met.
@@ -23,7 +23,7 @@ fn set_each(met: bool, edge_num: u32, value: f64, column: &mut [f64]) -> Result<
     ensures { SetEach met edge_num value column.old column.new result }
 {
     set_questions(met, edge_num, column)?;
-    fill_f64(column, edge_num as usize, value);
+    fill(column, edge_num as usize, value);
     Ok(())
 }
 

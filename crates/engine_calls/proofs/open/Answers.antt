@@ -15,8 +15,8 @@ returns c =
     let o = opens_of a.vertices a.edges h l z in
     record {
       answers = accepted-of z;
-      ends_a_after = c.copy_u32.ensures ∙ copy-after a.edges _ a.ends_a.now a.in_a.now z o.from.ends_a o.to.ends_a;
-      ends_b_after = c.copy_u32-2.ensures ∙ copy-after a.edges _ a.ends_b.now a.in_b.now z o.from.ends_b o.to.ends_b;
-      weights_after = c.copy_weights.ensures ∙ copy-after a.edges _ a.weights.now a.in_weights.now z o.from.weights o.to.weights;
-      boundary_after = c.copy_u8.ensures ∙ copy-after a.vertices _ a.boundary.now a.in_boundary.now z o.from.boundary o.to.boundary;
+      ends_a_after = c.copy.ensures ∙ copy-after a.edges _ a.ends_a.now a.in_a.now z o.from.ends_a o.to.ends_a;
+      ends_b_after = c.copy-2.ensures ∙ copy-after a.edges _ a.ends_b.now a.in_b.now z o.from.ends_b o.to.ends_b;
+      weights_after = c.copy-3.ensures ∙ copy-after a.edges _ a.weights.now a.in_weights.now z o.from.weights o.to.weights;
+      boundary_after = c.copy-4.ensures ∙ copy-after a.vertices _ a.boundary.now a.in_boundary.now z o.from.boundary o.to.boundary;
     }

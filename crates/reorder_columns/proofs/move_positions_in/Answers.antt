@@ -14,7 +14,7 @@ returns c =
     let s = c.requires.order_in_bounds in
     let e = c.gather_positions.ensures in
     record {
-      pos_i_after = e.pos_i_after ∙ ap (λ (l : List Float). over l a.pos_i.now) (moved_copy _ r.0 zero_float _ _ c.copy_f64.ensures s.0 r.1);
-      pos_j_after = e.pos_j_after ∙ ap (λ (l : List Float). over l a.pos_j.now) (moved_copy _ r.0 zero_float _ _ c.copy_f64-2.ensures s.1 r.2);
-      pos_t_after = e.pos_t_after ∙ ap (λ (l : List Float). over l a.pos_t.now) (moved_copy _ r.0 zero_float _ _ c.copy_f64-3.ensures s.2 r.3);
+      pos_i_after = e.pos_i_after ∙ ap (λ (l : List Float). over l a.pos_i.now) (moved_copy _ r.0 zero_float _ _ c.copy.ensures s.0 r.1);
+      pos_j_after = e.pos_j_after ∙ ap (λ (l : List Float). over l a.pos_j.now) (moved_copy _ r.0 zero_float _ _ c.copy-2.ensures s.1 r.2);
+      pos_t_after = e.pos_t_after ∙ ap (λ (l : List Float). over l a.pos_t.now) (moved_copy _ r.0 zero_float _ _ c.copy-3.ensures s.2 r.3);
     }

@@ -11,10 +11,10 @@ use Rattle.reorder_columns.proofs.move_u8_in.Goals as goal
 pub gather_u8-requires : goal.gather_u8-requires
 gather_u8-requires c =
     let r = c.requires in
-    let l = length-copied _ _ _ c.copy_u8.ensures r.2 r.1 in
+    let l = length-copied _ _ _ c.copy.ensures r.2 r.1 in
     ((λ i h. omega (arith, l, r.2, order_below _ r.0 i h)), r.1)
 
 pub returns : goal.returns
 returns c =
     let r = c.requires in
-    c.gather_u8.ensures ∙ ap (λ (l : List ℕ). over l c.args.column.now) (moved_copy _ r.0 0 _ _ c.copy_u8.ensures r.2 r.1)
+    c.gather_u8.ensures ∙ ap (λ (l : List ℕ). over l c.args.column.now) (moved_copy _ r.0 0 _ _ c.copy.ensures r.2 r.1)

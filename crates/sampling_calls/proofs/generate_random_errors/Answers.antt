@@ -17,7 +17,7 @@ sample_edges-requires c = let a = c.args in
     let g : CodeGraph = code_graph a.vertex_num a.edge_num a.ends_a.now a.ends_b.now a.boundary.now in
     let s : SyndromeColumns = syndrome_columns a.defect.now a.erasure.now a.defect_list.now a.erasure_list.now in
     let k : SamplingMet g a.p.now a.pe.now s = sampling_met g a.p.now a.pe.now s (sym c.in_ok-sampling_refusal.ensures) in
-    let l = simp length-sets at (ap length c.fill_u8.ensures) in
+    let l = simp length-sets at (ap length c.fill.ensures) in
     record { fits = fits_of g _ k.long k.sound (omega (arith, l, k.lists.long_defect)); edge_num_in_bounds = (k.long_p, k.long_pe, k.lists.long_erasure) }
 
 pub list_set-defects-requires : goal.list_set-defects-requires
@@ -26,7 +26,7 @@ list_set-defects-requires c =
     let g : CodeGraph = code_graph a.vertex_num a.edge_num a.ends_a.now a.ends_b.now a.boundary.now in
     let s : SyndromeColumns = syndrome_columns a.defect.now a.erasure.now a.defect_list.now a.erasure_list.now in
     let k : SamplingMet g a.p.now a.pe.now s = sampling_met g a.p.now a.pe.now s (sym c.in_ok-sampling_refusal.ensures) in
-    let l = length-defect _ g a.p.now a.pe.now a.defect.now a.erasure.now k.sound k.lists.long_defect k.lists.long_erasure c.fill_u8.ensures c.sample_edges.ensures in
+    let l = length-defect _ g a.p.now a.pe.now a.defect.now a.erasure.now k.sound k.lists.long_defect k.lists.long_erasure c.fill.ensures c.sample_edges.ensures in
     (omega (arith, l, k.lists.long_defect), k.lists.long_defects)
 
 pub list_set-erasures-requires : goal.list_set-erasures-requires
@@ -35,7 +35,7 @@ list_set-erasures-requires c =
     let g : CodeGraph = code_graph a.vertex_num a.edge_num a.ends_a.now a.ends_b.now a.boundary.now in
     let s : SyndromeColumns = syndrome_columns a.defect.now a.erasure.now a.defect_list.now a.erasure_list.now in
     let k : SamplingMet g a.p.now a.pe.now s = sampling_met g a.p.now a.pe.now s (sym c.in_ok-sampling_refusal.ensures) in
-    let l = length-erasure _ g a.p.now a.pe.now a.defect.now a.erasure.now k.sound k.lists.long_defect k.lists.long_erasure c.fill_u8.ensures c.sample_edges.ensures in
+    let l = length-erasure _ g a.p.now a.pe.now a.defect.now a.erasure.now k.sound k.lists.long_defect k.lists.long_erasure c.fill.ensures c.sample_edges.ensures in
     (omega (arith, l, k.lists.long_erasure), k.lists.long_erasures)
 
 pub returns : goal.returns
@@ -52,6 +52,6 @@ returns c =
     left-accepted (sampling_refusal g a.p.now a.pe.now s) a.vertex_num a.edge_num
     (sampled_defects r g a.p.now a.pe.now) (sampled_erasures r a.pe.now a.edge_num) s _ z
     (length-sampled_defects r g a.p.now a.pe.now) (length-sampled_erasures r a.pe.now a.edge_num)
-    (sampled-defect r g a.p.now a.pe.now a.defect.now a.erasure.now k.sound k.lists.long_defect k.lists.long_erasure c.fill_u8.ensures this)
-    (sampled-erasure r g a.p.now a.pe.now a.defect.now a.erasure.now k.sound k.lists.long_defect k.lists.long_erasure c.fill_u8.ensures this)
+    (sampled-defect r g a.p.now a.pe.now a.defect.now a.erasure.now k.sound k.lists.long_defect k.lists.long_erasure c.fill.ensures this)
+    (sampled-erasure r g a.p.now a.pe.now a.defect.now a.erasure.now k.sound k.lists.long_defect k.lists.long_erasure c.fill.ensures this)
     x.0 x.1 y.0 y.1

@@ -30,6 +30,6 @@ returns c =
     let (x, y) = and_both (leb a.vertex_num (length d)) (leb a.edge_num (length s)) (met _ 5 (ask (vertex_count_sound a.vertex_num && edge_count_sound a.edge_num) 7 0) z) in
     record {
       answers = accepted-of z;
-      defect_after = c.fill_u8.ensures ∙ filled q a.vertex_num 0 d z (leb-true _ _ x);
-      erasure_after = c.fill_u8-2.ensures ∙ filled q a.edge_num 1 s z (leb-true _ _ y);
+      defect_after = c.fill.ensures ∙ filled q a.vertex_num 0 d z (leb-true _ _ x);
+      erasure_after = c.fill-2.ensures ∙ filled q a.edge_num 1 s z (leb-true _ _ y);
     }

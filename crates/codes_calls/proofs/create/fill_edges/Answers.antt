@@ -29,9 +29,9 @@ returns c =
     record {
       in_a = written (λ (e : Ends). e.0) (edges_of s.kind s.d s.rounds) _ w.in_a (omega (arith, l.long_a));
       in_b = written (λ (e : Ends). e.1) (edges_of s.kind s.d s.rounds) _ w.in_b (omega (arith, l.long_b));
-      in_p = filled zero_float _ _ c.fill_f64.ensures count l.long_p;
-      in_pe = filled zero_float _ _ c.fill_f64-2.ensures count l.long_pe;
-      in_h = filled 0 _ _ c.fill_weights.ensures count l.long_h;
-      in_er = filled 0 _ _ c.fill_u8.ensures count l.long_er;
+      in_p = filled zero_float _ _ c.fill.ensures count l.long_p;
+      in_pe = filled zero_float _ _ c.fill-2.ensures count l.long_pe;
+      in_h = filled 0 _ _ c.fill-3.ensures count l.long_h;
+      in_er = filled 0 _ _ c.fill-4.ensures count l.long_er;
       count = count;
     }

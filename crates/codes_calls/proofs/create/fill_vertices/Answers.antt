@@ -30,6 +30,6 @@ returns c =
       in_j = written (λ (v : CodeVertex). v.position.j) (vertices_of s.kind s.d s.rounds) _ w.in_j (omega (arith, l.long_j));
       in_t = written (λ (v : CodeVertex). v.position.t) (vertices_of s.kind s.d s.rounds) _ w.in_t (omega (arith, l.long_t));
       in_m = written (λ (v : CodeVertex). v.boundary) (vertices_of s.kind s.d s.rounds) _ w.in_m (omega (arith, l.long_m));
-      in_df = filled 0 _ _ c.fill_u8.ensures count l.long_df;
+      in_df = filled 0 _ _ c.fill.ensures count l.long_df;
       count = count;
     }

@@ -17,6 +17,6 @@ returns c =
     let long : sum ≤ length a.numbers.now = omega arith in
     let room : sum ≤ length a.scratch.now = omega arith in
     record {
-      numbers_after = c.gather_lists.ensures ∙ ap (λ (l : List ℕ). over l a.numbers.now) (lists_copy _ _ _ _ c.requires.order.0 e long room c.copy_u32.ensures);
-      scratch_after = c.copy_u32.ensures ∙ sets_over a.scratch.now (take sum a.numbers.now) (omega (arith, length-take sum a.numbers.now)) ∙ ap (λ (n : ℕ). over (take n a.numbers.now) a.scratch.now) e;
+      numbers_after = c.gather_lists.ensures ∙ ap (λ (l : List ℕ). over l a.numbers.now) (lists_copy _ _ _ _ c.requires.order.0 e long room c.copy.ensures);
+      scratch_after = c.copy.ensures ∙ sets_over a.scratch.now (take sum a.numbers.now) (omega (arith, length-take sum a.numbers.now)) ∙ ap (λ (n : ℕ). over (take n a.numbers.now) a.scratch.now) e;
     }

@@ -17,5 +17,5 @@ returns c =
     let long = leb-true s.edge_num (length s.column.now) (met (leb s.edge_num (length s.column.now)) 5 _ zero) in
     record {
       answers = accepted-of zero;
-      column_after = c.fill_f64.ensures ∙ sets_over s.column.now vs (omega (arith, length-replicate s.edge_num s.value)) ∙ sym (after-accepted _ vs s.column.now zero);
+      column_after = c.fill.ensures ∙ sets_over s.column.now vs (omega (arith, length-replicate s.edge_num s.value)) ∙ sym (after-accepted _ vs s.column.now zero);
     }

@@ -35,11 +35,9 @@ fn list_between(column: &[u8], from: u32, to: u32, list: &mut [u32], before: u32
     ensures { (result ≡ length (listed to column.now)) × Continued column.now from to list.old list.new }
 {
     let mut count = before;
-    let mut k = from;
-    while k < to {
+    for k in from..to {
         let ok = is_set(column[k as usize]);
         count = push_if(ok, list, count, k);
-        k += 1;
     }
     count
 }
@@ -50,10 +48,8 @@ fn all_zero(column: &[u8], at: usize) -> bool
     ensures { result ≡ true → listed (at + 8) column.now ≡ listed at column.now }
 {
     let mut zero = true;
-    let mut i: usize = 0;
-    while i < 8 {
+    for i in 0..8 {
         zero = both(zero, column[at + i] == 0);
-        i += 1;
     }
     zero
 }
@@ -99,9 +95,7 @@ pub fn set_marks(column: &mut [u8], n: usize, list: &[u32])
     ensures { column.new ≡ over (marks n list.now) column.old }
 {
     fill(column, n, 0);
-    let mut i: usize = 0;
-    while i < list.len() {
+    for i in 0..list.len() {
         mark(column, list[i]);
-        i += 1;
     }
 }

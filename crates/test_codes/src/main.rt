@@ -14,10 +14,8 @@ use test_numbers::{bits, checksum, mix, show_line, wide};
 fn numbers(rt: &impl Print, column: &[u32], n: usize) {
     let m = lesser(n, column.len());
     let mut h: u64 = 1;
-    let mut i: usize = 0;
-    while i < m {
+    for i in 0..m {
         h = mix(h, wide(column[i]));
-        i += 1;
     }
     show_line(rt, h);
 }
@@ -25,10 +23,8 @@ fn numbers(rt: &impl Print, column: &[u32], n: usize) {
 fn floats(rt: &impl Print, column: &[f64], n: usize) {
     let m = lesser(n, column.len());
     let mut h: u64 = 1;
-    let mut i: usize = 0;
-    while i < m {
+    for i in 0..m {
         h = mix(h, bits(column[i]));
-        i += 1;
     }
     show_line(rt, h);
 }

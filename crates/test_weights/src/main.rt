@@ -38,10 +38,8 @@ fn number(text: &[u8], at: usize, count: usize) -> u64
     requires { at + count ≤ length text.now }
 {
     let mut n: u64 = 0;
-    let mut i: usize = 0;
-    while i < count {
+    for i in 0..count {
         n = appended(n, digit(text[at + i]));
-        i += 1;
     }
     n
 }

@@ -1,5 +1,5 @@
 -- What is handed to C for each kind of answer.
-use Rattle.std.specs.Prelude.{◌≡◌, Bool, false, Result}
+use Rattle.std.specs.Prelude.{◌≡◌, Bool, false, Option, Result}
 use Rattle.columns.specs.declared.refusal.Refusal.{Refusal}
 use Rattle.columns_answers.specs.Said.{said}
 use Rattle.codes_calls.specs.declared.Created.{Created}
@@ -8,7 +8,7 @@ use Rattle.codes_questions.specs.declared.Count.{Count}
 use Rattle.codes_questions.specs.Answers as count
 use Rattle.weights_calls.specs.declared.WeightOfP.{WeightOfP}
 use Rattle.weights_calls.specs.Answers.{weight_said}
-use Rattle.sanity_verdicts.specs.declared.Verdict.{Verdict}
+use Rattle.sanity_verdicts.specs.declared.Finding.{Finding}
 use Rattle.sanity_verdicts.specs.Sanity as sanity
 use Rattle.c_reports.specs.declared.OneCount.{OneCount}
 use Rattle.c_reports.specs.declared.TwoCounts.{TwoCounts}
@@ -32,8 +32,8 @@ pub record ReportsWeighed (a : WeightOfP) (r : WeighedReport) : Type 0 where
   pub number : r.number ≡ (weight_said a).number
   pub weight : r.weight ≡ (weight_said a).values
 
--- Expected forms by place, last paragraph: the struct holds the number and the values of a `Verdict`.
-pub record ReportsVerdict (a : Verdict) (r : VerdictReport) : Type 0 where
+-- Expected forms by place, last paragraph: the struct holds the number of a verdict's answer, and the verdict with its values.
+pub record ReportsVerdict (a : Result (Option Finding) Refusal) (r : VerdictReport) : Type 0 where
   pub number : r.number ≡ (sanity.verdict_said a).number
   pub verdict : r.verdict ≡ (sanity.verdict_said a).values.0
   pub first : r.first ≡ (sanity.verdict_said a).values.1

@@ -4,9 +4,6 @@ use native.Mathlib.Omega.{arith}
 use Rattle.sanity_pairs.proofs.SamePairs.{repeat-none, repeat-found}
 use Rattle.sanity_pairs.proofs.duplicates.Goals as goal
 
-pub returns-then-edge_num-gt65536 : goal.returns-then-edge_num-gt65536
-returns-then-edge_num-gt65536 c = c.duplicates_one_by_one.ensures
-
 pub returns-then-n-later : goal.returns-then-n-later
 returns-then-n-later c = let s = c.args in sym (repeat-none s.a.now s.b.now s.edge_num c.first_later-later.result c.first_later-later.ensures c.if-n-later.true)
 

@@ -1,24 +1,15 @@
 -- `sanity_pairs::duplicates_one_by_one` meets its contract. Invariant: no finding among the first i edges. Assumes nothing.
-use mathlib.Core.Path.{◌≡◌, sym, ap, ◌∙◌}
-use Prim.Native.Nat.{ℕ}
 use native.Mathlib.Omega.{arith}
-use Rattle.sanity_verdicts.specs.Sanity.{first_of, duplicate}
+use Rattle.sanity_verdicts.specs.Sanity.{duplicate}
 use Rattle.sanity_verdicts.proofs.Scans.{first-none}
 use Rattle.sanity_pairs.proofs.SamePairs.{scan-more, scan-stop}
 use Rattle.sanity_pairs.proofs.duplicates_one_by_one.Goals as goal
 
 pub loop-i-init : goal.loop-i-init
-loop-i-init c = (omega arith, first-none (duplicate c.args.a.now c.args.b.now))
+loop-i-init c = first-none (duplicate c.args.a.now c.args.b.now)
 
 pub returns-then-earlier-i : goal.returns-then-earlier-i
-returns-then-earlier-i c = scan-stop c.first_same-earlier.ensures c.args.n (omega arith) c.loop-i.invariant.1 c.if-earlier-i.true
+returns-then-earlier-i c = scan-stop c.first_same-earlier.ensures c.args.n (omega arith) c.loop-i.invariant c.if-earlier-i.true
 
 pub loop-i-preserved : goal.loop-i-preserved
-loop-i-preserved c = (omega arith, scan-more c.first_same-earlier.ensures c.loop-i.invariant.1 (λ g. omega arith))
-
-pub returns : goal.returns
-returns c =
-    let a = c.args in
-    let l = c.loop-i in
-    let e : l.i ≡ a.n = omega arith in
-    sym (ap (λ (k : ℕ). first_of k (duplicate a.a.now a.b.now)) (sym e) ∙ l.invariant.1)
+loop-i-preserved c = scan-more c.first_same-earlier.ensures c.loop-i.invariant (λ g. omega arith)

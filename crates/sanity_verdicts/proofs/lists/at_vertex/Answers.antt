@@ -5,11 +5,11 @@ use Rattle.sanity_verdicts.proofs.lists.at_vertex.Goals as goal
 
 pub returns-then-len-eq0 : goal.returns-then-len-eq0
 returns-then-len-eq0 c =
-    let s = c in
-    (no_edges _ s.args.len s.args.v.0 c.if-len-eq0.true, below_more s.args.v.0 s.requires.below.0, refl)
+    let s = c.args in
+    (no_edges _ s.len s.v.0 c.if-len-eq0.true, below_more s.v.0 c.requires.below.0, refl)
 
 pub returns : goal.returns
 returns c =
-    let s = c in
+    let s = c.args in
     let t = c.twice_in.ensures in
-    (t.0 ∙ some_edges _ s.args.len s.args.v.0 c.if-len-eq0.false, t.1, t.2)
+    (t.0 ∙ some_edges _ s.len s.v.0 c.if-len-eq0.false, t.1, t.2)

@@ -27,6 +27,7 @@ fn first_same(a: &[u32], b: &[u32], i: usize) -> usize
 }
 
 // The first finding among the first n edges, one by one.
+#[tactic(auto, using(sanity_verdicts::proofs::Scans::first_none, crate::proofs::SamePairs::scan_more, crate::proofs::SamePairs::scan_stop))]
 fn duplicates_one_by_one(a: &[u32], b: &[u32], n: usize) -> Option<Finding>
     requires { (n ≤ length a.now) × (n ≤ length b.now) × (n ≤ 4294967295) }
     ensures { result ≡ first_of n (duplicate a.now b.now) }
@@ -42,6 +43,7 @@ fn duplicates_one_by_one(a: &[u32], b: &[u32], n: usize) -> Option<Finding>
 
 // The first of the first n edges that joins the pair of an earlier one, or n, where every end is below 4,096. The local arrays stand in a function of
 // this crate, so that they and those for neighbour lists can take one place on the stack.
+#[tactic(auto, using(columns_pairs::proofs::PairTests::zeros_table))]
 fn first_by_lists(a: &[u32], b: &[u32], n: usize) -> usize
     requires n_bound { (n ≤ 32768) × (n ≤ length a.now) × (n ≤ length b.now) }
     requires by_index { (j : ℕ) → j < n → high_at a.now b.now j < 4096 }
@@ -54,6 +56,7 @@ fn first_by_lists(a: &[u32], b: &[u32], n: usize) -> usize
 }
 
 // The same for ends of any size: by lists where there are at most 32,768 edges with ends below 4,096, and else by sorting.
+#[tactic(auto, using(columns::proofs::Tests::below_first))]
 fn first_later(a: &[u32], b: &[u32], n: usize) -> usize
     requires { (n ≤ 65536) × (n ≤ length a.now) × (n ≤ length b.now) }
     ensures { FirstRepeat a.now b.now n result }
@@ -65,6 +68,7 @@ fn first_later(a: &[u32], b: &[u32], n: usize) -> usize
 }
 
 // The first finding among the edges, up to 65,536 of them by the first that joins the pair of an earlier one.
+#[tactic(auto, using(crate::proofs::SamePairs::repeat_none))]
 pub fn duplicates(a: &[u32], b: &[u32], edge_num: u32) -> Option<Finding>
     requires { (edge_num ≤ length a.now) × (edge_num ≤ length b.now) }
     ensures { result ≡ first_of edge_num (duplicate a.now b.now) }

@@ -27,21 +27,21 @@ pub found_false : (b : Bool) (x : Finding) → b ≡ false → found_if b x ≡ 
 found_false b x e = ap (λ (t : Bool). found_if t x) e
 
 module _ (f : ℕ → Option Finding) where
-  pub first-none : first_of 0 f ≡ None
+  pub first_none : first_of 0 f ≡ None
   unfolding first_of
-  first-none = refl
+  first_none = refl
 
   -- a loop's turn, and a finding that ends it
   pub first_next : (i : ℕ) → first_of i f ≡ None → f i ≡ None → first_of (i + 1) f ≡ None
   unfolding first_of
   first_next i p q = ap (λ (k : ℕ). first_of k f) (add-one i) ∙ or_none (first_of i f) (f i) p ∙ q
 
-  pub first-stop : (n i : ℕ) → i < n → first_of i f ≡ None → is_some (f i) ≡ true → first_of n f ≡ f i
+  pub first_stop : (n i : ℕ) → i < n → first_of i f ≡ None → is_some (f i) ≡ true → first_of n f ≡ f i
   unfolding first_of
-  first-stop zero i h p q = absurd (omega arith)
-  first-stop (suc n) i h p q = elim (ℕ_discrete i n) [
+  first_stop zero i h p q = absurd (omega arith)
+  first_stop (suc n) i h p q = elim (ℕ_discrete i n) [
     | yes e ↦ or_none (first_of n f) (f n) (ap (λ (k : ℕ). first_of k f) (sym e) ∙ p) ∙ ap f (sym e)
-    | no e ↦ ap (λ (z : Option Finding). or_else z (f n)) (first-stop n i (omega arith) p q) ∙ or_found (f i) (f n) q
+    | no e ↦ ap (λ (z : Option Finding). or_else z (f n)) (first_stop n i (omega arith) p q) ∙ or_found (f i) (f n) q
   ]
 
   pub first-all : (n : ℕ) → ((i : ℕ) → i < n → f i ≡ None) → first_of n f ≡ None

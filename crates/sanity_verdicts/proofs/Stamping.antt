@@ -19,7 +19,7 @@ use Rattle.columns_neighbors.specs.Lists.{sum_to, neighbor_list_at}
 use Rattle.columns_neighbors.proofs.Placing.{sum_more, sum_ascends}
 use Rattle.columns_places.specs.Places.{LastSame}
 use Rattle.sanity_verdicts.specs.ListSteps.{Seen, Stamped, Below, Ascends}
-use Rattle.sanity_verdicts.proofs.Scans.{first_next, first-stop, first-all, first_same, first_any, found_false}
+use Rattle.sanity_verdicts.proofs.Scans.{first_next, first_stop, first-all, first_same, first_any, found_false}
 
 module _ (numbers : List ℕ) (start : ℕ) where
   -- none of the numbers
@@ -27,8 +27,8 @@ module _ (numbers : List ℕ) (start : ℕ) where
   seen_none i x f = record { yes = λ t. absurd (false≢true t); no = λ t. f }
 
   -- a new stamp, before the first number
-  pub stamp-new : (v : ℕ) (mark : List ℕ) → Below v mark → Stamped numbers start 0 (v + 1) mark
-  stamp-new v mark b = record {
+  pub stamp_new : (v : ℕ) (mark : List ℕ) → Below v mark → Stamped numbers start 0 (v + 1) mark
+  stamp_new v mark b = record {
     most = λ x h. omega (arith, b.most x h);
     stamped = λ x h t. absurd (omega (arith, b.most x h));
     has = λ j h. absurd (omega arith);
@@ -92,19 +92,19 @@ module _ (numbers : List ℕ) (start len v : ℕ) (fits : start + len ≤ length
         first_any (λ j. eqb (get_or list j 0) (get_or list i 0)) (EdgeTwice (edge_numbered (get_or list i 0)) (vertex_numbered v)) i j l (eq-eqb _ _ (list_at j (omega arith) ∙ q ∙ sym e ∙ sym (list_at i h)))
         ∙ ap (λ (y : ℕ). Some (EdgeTwice (edge_numbered y) (vertex_numbered v))) (list_at i h ∙ e)
 
-    pub none-next : {r : Bool} → Seen numbers start i x r → r ≡ false → NoneTwice (part numbers start len) v i → NoneTwice (part numbers start len) v (i + 1)
+    pub none_next : {r : Bool} → Seen numbers start i x r → r ≡ false → NoneTwice (part numbers start len) v i → NoneTwice (part numbers start len) v (i + 1)
     unfolding NoneTwice
-    none-next {r} s f n = first_next (finding (part numbers start len) v) i n (finding-none (subst (Seen numbers start i x) f s))
+    none_next {r} s f n = first_next (finding (part numbers start len) v) i n (finding-none (subst (Seen numbers start i x) f s))
 
-    pub twice-stop : {r : Bool} → Seen numbers start i x r → r ≡ true → NoneTwice (part numbers start len) v i → Some (EdgeTwice (edge_numbered x) (vertex_numbered v)) ≡ twice (part numbers start len) v
+    pub twice_stop : {r : Bool} → Seen numbers start i x r → r ≡ true → NoneTwice (part numbers start len) v i → Some (EdgeTwice (edge_numbered x) (vertex_numbered v)) ≡ twice (part numbers start len) v
     unfolding NoneTwice twice finding
-    twice-stop {r} s t n =
+    twice_stop {r} s t n =
         let it = finding-some (subst (Seen numbers start i x) t s) in
-        sym (first-stop (finding (part numbers start len) v) (length (part numbers start len)) i (omega (arith, list_length)) n (ap is_some it) ∙ it)
+        sym (first_stop (finding (part numbers start len) v) (length (part numbers start len)) i (omega (arith, list_length)) n (ap is_some it) ∙ it)
 
-  pub twice-none : NoneTwice (part numbers start len) v len → None ≡ twice (part numbers start len) v
+  pub twice_none : NoneTwice (part numbers start len) v len → None ≡ twice (part numbers start len) v
   unfolding NoneTwice twice finding
-  twice-none n = sym (ap (λ (k : ℕ). first_of k (finding (part numbers start len) v)) list_length ∙ n)
+  twice_none n = sym (ap (λ (k : ℕ). first_of k (finding (part numbers start len) v)) list_length ∙ n)
 
 -- ---- lists that ascend
 

@@ -19,10 +19,9 @@ fn stands_before(numbers: &[u32], start: usize, i: usize, x: EdgeIndex) -> bool
     requires { start + i ≤ length numbers.now }
     ensures { Seen numbers.now start i x.0 result }
 {
-    let y = x.0;
     let mut seen = false;
     for j in 0..i {
-        seen |= numbers[start + j] == y;
+        seen |= numbers[start + j] == x.0;
     }
     seen
 }
@@ -67,6 +66,7 @@ fn stamp_next(numbers: &[u32], start: usize, i: usize, x: EdgeIndex, mark: &mut 
 }
 
 // The first number twice in the list of vertex v, which starts at a place and has a length.
+#[tactic(auto, using(crate::proofs::Stamping::none_start, crate::proofs::Stamping::none_next, crate::proofs::Stamping::twice_stop, crate::proofs::Stamping::twice_none, crate::proofs::Stamping::stamp_new, crate::proofs::Stamping::stamp_below))]
 fn twice_in(
     numbers: &[u32],
     start: usize,
@@ -92,6 +92,7 @@ fn twice_in(
 }
 
 // The finding at vertex v.
+#[tactic(auto, using(crate::proofs::Stamping::no_edges, crate::proofs::Stamping::some_edges, crate::proofs::Stamping::below_more))]
 fn at_vertex(
     numbers: &[u32],
     start: usize,
@@ -112,6 +113,7 @@ fn at_vertex(
 }
 
 // The first finding among n vertices; mark holds 0 alone.
+#[tactic(auto, using(crate::proofs::Stamping::list_room, columns_neighbors::proofs::Placing::sum_more, crate::proofs::Stamping::vertex_is, crate::proofs::Scans::none_of, crate::proofs::Scans::first_none, crate::proofs::Scans::first_next, crate::proofs::Scans::first_stop), unfolding(columns_neighbors::specs::Lists::sum_to))]
 fn vertices_in(
     lengths: &[u32],
     numbers: &[u32],
@@ -159,6 +161,7 @@ fn vertices_by_places(lengths: &[u32], numbers: &[u32], n: u32, known: usize) ->
 }
 
 // How many places the lists of n vertices have.
+#[tactic(auto, using(columns_neighbors::proofs::Placing::sum_more, columns_neighbors::proofs::Placing::sum_ascends), unfolding(columns_neighbors::specs::Lists::sum_to))]
 fn list_places(lengths: &[u32], n: usize) -> usize
     requires { (n ≤ length lengths.now) × (sum_to n lengths.now < 2 ^ 63) }
     ensures { result ≡ sum_to n lengths.now }
@@ -184,6 +187,7 @@ fn list_ascends(numbers: &[u32], start: usize, len: usize) -> bool
 }
 
 // Whether the numbers of each list of n vertices ascend.
+#[tactic(auto, using(crate::proofs::Stamping::list_room, columns_neighbors::proofs::Placing::sum_more), unfolding(columns_neighbors::specs::Lists::sum_to))]
 fn lists_ascend(lengths: &[u32], numbers: &[u32], n: usize) -> bool
     requires { (n ≤ length lengths.now) × (sum_to n lengths.now ≤ length numbers.now) }
     ensures { result ≡ true → (u : ℕ) → u < n → Ascends numbers.now (sum_to u lengths.now) (get_or lengths.now u 0) }
@@ -200,6 +204,7 @@ fn lists_ascend(lengths: &[u32], numbers: &[u32], n: usize) -> bool
 }
 
 // The first vertex without edges.
+#[tactic(auto, using(crate::proofs::Scans::first_none, crate::proofs::Scans::first_next))]
 fn first_without(lengths: &[u32], n: u32) -> Option<Finding>
     requires { n ≤ length lengths.now }
     ensures { result ≡ first_of n (λ u. found_if (eqb (get_or lengths.now u 0) 0) (NoEdges (vertex_numbered u))) }

@@ -1,11 +1,12 @@
 -- What is handed to C for each kind of answer.
-use Rattle.std.specs.Prelude.{◌≡◌, Result, Float, Bool, false}
+use Rattle.std.specs.Prelude.{◌≡◌, Result, Float, Bool, false, Option}
 use Rattle.columns.specs.declared.refusal.Refusal.{Refusal}
 use Rattle.columns.specs.Places.{zero_float}
 use Rattle.columns_answers.specs.Said.{said}
 use Rattle.codes_calls.specs.declared.CodeCounts.{CodeCounts}
 use Rattle.codes_calls.specs.CreateCode.{no_counts}
 use Rattle.sanity_verdicts.specs.declared.Verdict.{Verdict}
+use Rattle.sanity_verdicts.specs.declared.Finding.{Finding}
 use Rattle.sanity_verdicts.specs.Sanity as sanity
 use Rattle.c_reports.specs.declared.TwoCounts.{TwoCounts}
 use Rattle.c_codes.specs.declared.reports.WeighedReport.{WeighedReport}
@@ -23,8 +24,8 @@ pub record ReportsWeighed (a : Result Float Refusal) (r : WeighedReport) : Type 
   pub number : r.number ≡ (said zero_float a).number
   pub weight : r.weight ≡ (said zero_float a).values
 
--- Expected forms by place, last paragraph: the struct holds the number and the values of a `Verdict`.
-pub record ReportsVerdict (a : Verdict) (r : VerdictReport) : Type 0 where
+-- Expected forms by place, last paragraph: the struct holds the number of a verdict's answer, and the verdict with its values.
+pub record ReportsVerdict (a : Result (Option Finding) Refusal) (r : VerdictReport) : Type 0 where
   pub number : r.number ≡ (sanity.verdict_said a).number
   pub verdict : r.verdict ≡ (sanity.verdict_said a).values.0
   pub first : r.first ≡ (sanity.verdict_said a).values.1

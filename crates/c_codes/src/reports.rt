@@ -5,6 +5,7 @@ use c_reports::TwoCounts;
 use codes_calls::CodeCounts;
 use columns::refusal::Refusal;
 use sanity_calls::Verdict;
+use sanity_calls::Finding;
 
 #[repr(C)]
 #[derive(Clone, Copy)]
@@ -61,46 +62,22 @@ pub fn weighed_report(answer: Result<f64, Refusal>) -> WeighedReport
 }
 
 // A verdict with its values.
-pub fn verdict_report(answer: Verdict) -> VerdictReport
+pub fn verdict_report(answer: Result<Option<Finding>, Refusal>) -> VerdictReport
     ensures { ReportsVerdict answer result }
 {
-    match answer {
-        Verdict::Sound => VerdictReport {
-            number: 0,
-            verdict: 0,
-            first: 0,
-            second: 0,
-        },
-        Verdict::Empty => VerdictReport {
-            number: 0,
-            verdict: 1,
-            first: 0,
-            second: 0,
-        },
-        Verdict::DuplicateEdge(earlier, later) => VerdictReport {
-            number: 0,
-            verdict: 2,
-            first: earlier.0,
-            second: later.0,
-        },
-        Verdict::NoEdges(vertex) => VerdictReport {
-            number: 0,
-            verdict: 3,
-            first: vertex.0,
-            second: 0,
-        },
-        Verdict::EdgeTwice(edge, vertex) => VerdictReport {
-            number: 0,
-            verdict: 4,
-            first: edge.0,
-            second: vertex.0,
-        },
-        Verdict::Refused(number) => VerdictReport {
-            number,
-            verdict: 0,
-            first: 0,
-            second: 0,
-        },
+    let (number, verdict, first, second) = match answer {
+        Ok(None) => (0, 0, 0, 0),
+        Ok(Some(Finding::Empty)) => (0, 1, 0, 0),
+        Ok(Some(Finding::DuplicateEdge(earlier, later))) => (0, 2, earlier.0, later.0),
+        Ok(Some(Finding::NoEdges(vertex))) => (0, 3, vertex.0, 0),
+        Ok(Some(Finding::EdgeTwice(edge, vertex))) => (0, 4, edge.0, vertex.0),
+        Err(refusal) => (u32::from(refusal), 0, 0, 0),
+    };
+    VerdictReport {
+        number,
+        verdict,
+        first,
+        second,
     }
 }
 

@@ -18,9 +18,11 @@ use Rattle.columns_pairs.proofs.PairTests.{at_apart}
 use Rattle.columns_neighbors.proofs.Ends.{graph-says}
 use Rattle.columns_neighbors.proofs.Placing.{length-hit, length_more, length_within, lists-count, list_of, neighbors-chosen, sum_starts, ends_at}
 use Rattle.columns_marks.proofs.Listing.{chosen_ascends}
-use Rattle.sanity_verdicts.specs.declared.Verdict.TheVariants.{Sound, DuplicateEdge, EdgeTwice, Refused}
+use Rattle.std.specs.Prelude.{None, Ok, Err}
+use Rattle.columns.specs.declared.refusal.Refusal.TheVariants.{ShortColumn}
+use Rattle.sanity_verdicts.specs.declared.Finding.TheVariants.{DuplicateEdge, EdgeTwice}
 use Rattle.sanity_verdicts.specs.Sanity.{edge_numbered, vertex_numbered, first_of, duplicate, twice, at_vertex, verdict}
-use Rattle.sanity_verdicts.proofs.Scans.{first-all, found_false, or_sound}
+use Rattle.sanity_verdicts.proofs.Scans.{first-all, found_false, or_none}
 use Rattle.sanity_verdicts.proofs.Stamping.{some_edges}
 use Rattle.sanity_calls.proofs.Verdicts.{sanityAnswer, scanned, long_from}
 
@@ -45,7 +47,7 @@ some_number a b e u s = go s.at_u
     go (inr p) = omega (arith, length_more a b k u, length_within a b (k + 1) e u (omega (arith, s.before)), hit-one (get_or b k 0) p)
 
 -- no number stands twice in a list that ascends
-ascending_once : (list : List ℕ) (u : ℕ) → ((i j : ℕ) → i < j → j < length list → get_or list i 0 < get_or list j 0) → twice list u ≡ Sound
+ascending_once : (list : List ℕ) (u : ℕ) → ((i j : ℕ) → i < j → j < length list → get_or list i 0 < get_or list j 0) → twice list u ≡ None
 unfolding twice
 ascending_once list u f = first-all _ (length list) (λ i h. first-all _ i (λ j l. found_false _ (EdgeTwice (edge_numbered (get_or list i 0)) (vertex_numbered u)) (ne_eqb (get_or list j 0) (get_or list i 0) (λ q. omega (arith, f j i l h)))))
 
@@ -72,20 +74,20 @@ module _ (v e : ℕ) (a b lengths numbers : List ℕ) (sound : graph_sound v e a
   list_at : (u : ℕ) → u < v → neighbor_list_at lengths numbers u ≡ neighbors a b e u
   list_at u h = (λ i. take (length_at u h i) (drop (start-at u (omega arith) i) numbers)) ∙ list_of a b e v u numbers numbers_are h
 
-  no-duplicate : (k : ℕ) → k < e → duplicate a b k ≡ Sound
+  no-duplicate : (k : ℕ) → k < e → duplicate a b k ≡ None
   unfolding duplicate pairs_apart
   no-duplicate k h =
       let p = every-at (λ k. every k (λ j. not (same_pair a b j k))) e (at_apart a b e graph.apart) k h in
       first-all _ k (λ j l. found_false _ (DuplicateEdge (edge_numbered j) (edge_numbered k)) (not-true (same_pair a b j k) (every-at (λ j. not (same_pair a b j k)) k p j l)))
 
-  no-finding : (u : ℕ) → u < v → at_vertex (neighbor_list_at lengths numbers u) (get_or lengths u 0) u ≡ Sound
+  no-finding : (u : ℕ) → u < v → at_vertex (neighbor_list_at lengths numbers u) (get_or lengths u 0) u ≡ None
   no-finding u h =
       let nonempty : get_or lengths u 0 ≡ 0 → ⊥ = λ q. omega (arith, length_at u h, some_number a b e u (all_End u h)) in
-      let once : twice (neighbors a b e u) u ≡ Sound = subst (λ (l : List ℕ). twice l u ≡ Sound) (sym (neighbors-chosen a b e u graph.differ)) (ascending_once (chosen e (ends_at a b u)) u (chosen_ascends (ends_at a b u) e)) in
+      let once : twice (neighbors a b e u) u ≡ None = subst (λ (l : List ℕ). twice l u ≡ None) (sym (neighbors-chosen a b e u graph.differ)) (ascending_once (chosen e (ends_at a b u)) u (chosen_ascends (ends_at a b u) e)) in
       sym (some_edges (neighbor_list_at lengths numbers u) (get_or lengths u 0) u nonempty) ∙ ap (λ (l : List ℕ). twice l u) (list_at u h) ∙ once
 
   -- at least one edge, counts and ends sound, every vertex an end of some edge, lists those of the ends: verdict 0
-  pub sound-verdict : sanityAnswer v e a b lengths numbers ≡ Sound
+  pub sound-verdict : sanityAnswer v e a b lengths numbers ≡ Ok None
   sound-verdict =
       let many = lists-count a b e v graph.in_a graph.in_b in
       let long = long_from v e a b lengths numbers (record {
@@ -95,7 +97,7 @@ module _ (v e : ℕ) (a b lengths numbers : List ℕ) (sound : graph_sound v e a
         twice-long = omega (arith, many, numbers_long);
         sum-long = omega (arith, start-at v (omega arith), numbers_long);
       }) in
-      ap (λ (t : Bool). cond t (verdict v e a b lengths numbers) (Refused 6)) long
-      ∙ sym (scanned v e a b lengths numbers (λ q. omega (arith, graph.some_vertex)) (λ q. omega arith))
-      ∙ or_sound (first_of e (duplicate a b)) _ (first-all (duplicate a b) e no-duplicate)
-      ∙ first-all (λ u. at_vertex (neighbor_list_at lengths numbers u) (get_or lengths u 0) u) v no-finding
+      ap (λ (t : Bool). cond t (Ok (verdict v e a b lengths numbers)) (Err ShortColumn)) long
+      ∙ ap Ok (sym (scanned v e a b lengths numbers (λ q. omega (arith, graph.some_vertex)) (λ q. omega arith))
+      ∙ or_none (first_of e (duplicate a b)) _ (first-all (duplicate a b) e no-duplicate)
+      ∙ first-all (λ u. at_vertex (neighbor_list_at lengths numbers u) (get_or lengths u 0) u) v no-finding)

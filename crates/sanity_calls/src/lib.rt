@@ -4,4 +4,4 @@
 pub mod sanity;
 
 pub use sanity::sanity_check;
-pub use sanity_verdicts::Verdict;
+pub use sanity_verdicts::Finding;

@@ -3,13 +3,14 @@ ghost use Rattle.std.specs.Prelude.{◌≡◌, ◌≤◌, length};
 ghost use Rattle.columns_neighbors.specs.Lists.{sum_to};
 ghost use Rattle.sanity_verdicts.specs.Sanity.{verdict, sanity_long, SanityChecked};
 
-use columns::questions::{at_most, both};
+use columns::refusal::{Refusal, require};
 use columns_room::{lists_long, two_long};
 use sanity_pairs::duplicates;
+use sanity_verdicts::Finding;
 use sanity_verdicts::lists::vertices_checked;
-use sanity_verdicts::{Verdict, is_sound};
 
 // Question 6.
+#[tactic(auto, unfolding(sanity_verdicts::specs::Sanity::sanity_long))]
 fn sanity_long(
     vertex_num: u32,
     edge_num: u32,
@@ -21,12 +22,12 @@ fn sanity_long(
     ensures { result ≡ sanity_long vertex_num edge_num ends_a.now ends_b.now list_lengths.now neighbor_numbers.now }
 {
     let ends = two_long(edge_num as usize, ends_a.len(), ends_b.len());
-    let lengths = at_most(vertex_num as usize, list_lengths.len());
-    let lists = lists_long(vertex_num, edge_num, list_lengths, neighbor_numbers);
-    both(both(ends, lengths), lists)
+    let lengths = vertex_num as usize <= list_lengths.len();
+    ends && lengths && lists_long(vertex_num, edge_num, list_lengths, neighbor_numbers)
 }
 
 // The verdict on columns that are long enough.
+#[tactic(auto, unfolding(sanity_verdicts::specs::Sanity::verdict), using(sanity_verdicts::proofs::Scans::or_found, sanity_verdicts::proofs::Scans::none_of))]
 fn verdict_of(
     vertex_num: u32,
     edge_num: u32,
@@ -34,24 +35,22 @@ fn verdict_of(
     ends_b: &[u32],
     list_lengths: &[u32],
     neighbor_numbers: &[u32],
-) -> Verdict
+) -> Option<Finding>
     requires { (edge_num ≤ length ends_a.now) × (edge_num ≤ length ends_b.now) × (vertex_num ≤ length list_lengths.now) × (sum_to vertex_num list_lengths.now ≤ length neighbor_numbers.now) }
     ensures { result ≡ verdict vertex_num edge_num ends_a.now ends_b.now list_lengths.now neighbor_numbers.now }
 {
-    if vertex_num == 0 {
-        return Verdict::Empty;
-    }
-    if edge_num == 0 {
-        return Verdict::Empty;
+    if vertex_num == 0 || edge_num == 0 {
+        return Some(Finding::Empty);
     }
     let edges = duplicates(ends_a, ends_b, edge_num);
-    if !is_sound(edges) {
+    if edges.is_some() {
         return edges;
     }
     vertices_checked(list_lengths, neighbor_numbers, vertex_num)
 }
 
 // The first thing wrong with a graph: no vertices or no edges, two edges that join one pair, a vertex without edges, an edge twice at a vertex.
+#[tactic(auto, using(crate::proofs::Verdicts::long_of, crate::proofs::Verdicts::checked))]
 pub fn sanity_check(
     vertex_num: u32,
     edge_num: u32,
@@ -59,25 +58,24 @@ pub fn sanity_check(
     ends_b: &[u32],
     list_lengths: &[u32],
     neighbor_numbers: &[u32],
-) -> Verdict
+) -> Result<Option<Finding>, Refusal>
     ensures { SanityChecked vertex_num edge_num ends_a.now ends_b.now list_lengths.now neighbor_numbers.now result }
 {
-    if !sanity_long(
+    let long = sanity_long(
         vertex_num,
         edge_num,
         ends_a,
         ends_b,
         list_lengths,
         neighbor_numbers,
-    ) {
-        return Verdict::Refused(6);
-    }
-    verdict_of(
+    );
+    require(long, Refusal::ShortColumn)?;
+    Ok(verdict_of(
         vertex_num,
         edge_num,
         ends_a,
         ends_b,
         list_lengths,
         neighbor_numbers,
-    )
+    ))
 }

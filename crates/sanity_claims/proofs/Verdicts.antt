@@ -18,8 +18,9 @@ use Rattle.codes_layers.proofs.Accepted.{Accepted, accepted}
 use Rattle.codes_layers.proofs.Counted.{edges-counted}
 use Rattle.codes_graphs.proofs.Sound.{first-over, second-over, first-is, second_is, built}
 use Rattle.codes_graphs.proofs.Lists.{vertex-touched}
-use Rattle.sanity_verdicts.specs.declared.Verdict.{Verdict}
-use Rattle.sanity_verdicts.specs.declared.Verdict.TheVariants.{Sound}
+use Rattle.std.specs.Prelude.{Option, None, Result, Ok}
+use Rattle.columns.specs.declared.refusal.Refusal.{Refusal}
+use Rattle.sanity_verdicts.specs.declared.Finding.{Finding}
 use Rattle.sanity_verdicts.specs.Sanity.{verdict_said}
 use Rattle.sanity_calls.proofs.Verdicts.{sanityAnswer}
 use Rattle.sanity_calls.proofs.Theorems.{EndsEdge, sound-verdict}
@@ -91,14 +92,14 @@ module _ (kind d rounds : ℕ) (ok : Accepted kind d rounds) where
     numbers_are : take (length (lists a b e v)) (over ns n₀) ≡ lists a b e v
     numbers_are = ap (λ (l : List ℕ). take (length l) (over ns n₀)) same_lists ∙ take-over ns n₀ (length ns) refl ∙ sym same_lists
 
-    pub gets-zero : sanityAnswer v e a b (over ls l₀) (over ns n₀) ≡ Sound
+    pub gets-zero : sanityAnswer v e a b (over ls l₀) (over ns n₀) ≡ Ok None
     gets-zero = sound-verdict v e a b (over ls l₀) (over ns n₀) ((built kind d rounds ok).graph a₀ b₀) some ends lengths_are numbers_are
 
 -- columns that were written hold the code
 module _ (kind d rounds q : ℕ) (c₀ c : CodeColumns) (z : q ≡ 0) (v e : ℕ) (ve : v ≡ vertex_num kind d rounds) (ee : e ≡ edge_num kind d rounds) (ok : Accepted kind d rounds) where
   written-zero : c.ends_a ≡ after q (new_columns kind d rounds).ends_a c₀.ends_a → c.ends_b ≡ after q (new_columns kind d rounds).ends_b c₀.ends_b
       → c.list_lengths ≡ after q (new_columns kind d rounds).list_lengths c₀.list_lengths → c.neighbor_numbers ≡ after q (new_columns kind d rounds).neighbor_numbers c₀.neighbor_numbers
-      → sanityAnswer v e c.ends_a c.ends_b c.list_lengths c.neighbor_numbers ≡ Sound
+      → sanityAnswer v e c.ends_a c.ends_b c.list_lengths c.neighbor_numbers ≡ Ok None
   written-zero a b l n =
       (λ i. sanityAnswer (ve i) (ee i) ((a ∙ after-accepted q (new_columns kind d rounds).ends_a c₀.ends_a z) i) ((b ∙ after-accepted q (new_columns kind d rounds).ends_b c₀.ends_b z) i)
       ((l ∙ after-accepted q (new_columns kind d rounds).list_lengths c₀.list_lengths z) i) ((n ∙ after-accepted q (new_columns kind d rounds).neighbor_numbers c₀.neighbor_numbers z) i))
@@ -120,12 +121,12 @@ weighted_zero kind d rounds p diagonal max c₀ c v e w =
     written-zero kind d rounds (new_refusal_in kind d rounds p diagonal max c₀) c₀ c x.0 v e x.1 x.2 (accepted kind d rounds _ x.0).0 h.ends_a_after h.ends_b_after h.list_lengths_after h.neighbor_numbers_after
 
 -- from what the builders' callers learn
-built_zero : (v e : ℕ) (c : CodeColumns) → ColumnsBuilt v e c → sanityAnswer v e c.ends_a c.ends_b c.list_lengths c.neighbor_numbers ≡ Sound
+built_zero : (v e : ℕ) (c : CodeColumns) → ColumnsBuilt v e c → sanityAnswer v e c.ends_a c.ends_b c.list_lengths c.neighbor_numbers ≡ Ok None
 built_zero v e c (create_built κs a n m s h) = created_zero _ _ _ _ c v e h
 built_zero v e c (new_built κs a n m s h) = weighted_zero _ _ _ _ _ _ _ c v e h
 built_zero v e c (new_diagonal_built κs a n m s h) = weighted_zero 4 _ _ _ _ _ _ c v e h
 
-checked : (v e : ℕ) (a b l n : List ℕ) (r : Verdict) → SanityCalled v e a b l n r → r ≡ sanityAnswer v e a b l n
+checked : (v e : ℕ) (a b l n : List ℕ) (r : Result (Option Finding) Refusal) → SanityCalled v e a b l n r → r ≡ sanityAnswer v e a b l n
 checked v e a b l n r (sanity_called κs x q s h) = h.case_is
 
 pub built_codes_are_sound : BuiltCodesAreSound

@@ -1,13 +1,14 @@
 -- Calls of the real functions. `Learnt` is what a caller of a function learns of a call, made from the function's own contract: lifetimes, the arguments
 -- as they were passed, the result, and the parameters at exit.
 use Rattle.codes_calls.specs.CreateCode.{code_counts}
-use Rattle.std.specs.Prelude.{ℕ, List, Ok}
+use Rattle.std.specs.Prelude.{ℕ, List, Ok, Option, Result}
 use contract.Lifetimes.{Lfts}
 use denote.Triple.Clauses.{AtExit}
 use borrow.Fn.World.{ArgsD, ResD}
 use Rattle.learnt.specs.Learnt.{Reading, Learnt, one_fact}
 use Rattle.codes_calls.specs.Columns.{CodeColumns, code_in}
-use Rattle.sanity_verdicts.specs.declared.Verdict.{Verdict}
+use Rattle.columns.specs.declared.refusal.Refusal.{Refusal}
+use Rattle.sanity_verdicts.specs.declared.Finding.{Finding}
 use Rattle.codes_calls.specs.contracts.create.create_code as create_contract
 use Rattle.codes_calls.specs.contracts.weighted.new as new_contract
 use Rattle.codes_calls.specs.contracts.weighted.new_diagonal as diagonal_contract
@@ -47,6 +48,6 @@ pub data ColumnsBuilt : (vertices edges : ℕ) → CodeColumns → Type 0 where
       (code_in s.1.1.1.1.1.0.now s.1.1.1.1.1.1.0.now s.1.1.1.1.1.1.1.0.now s.1.1.1.1.1.1.1.1.0.now s.1.1.1.1.1.1.1.1.1.0.now s.1.1.1.1.1.1.1.1.1.1.0.now s.1.1.1.1.1.1.1.1.1.1.1.0.now s.1.1.1.1.1.1.1.1.1.1.1.1.0.now s.1.1.1.1.1.1.1.1.1.1.1.1.1.0.now s.1.1.1.1.1.1.1.1.1.1.1.1.1.1.0.now s.1.1.1.1.1.1.1.1.1.1.1.1.1.1.1.0.now s.1.1.1.1.1.1.1.1.1.1.1.1.1.1.1.1.0.now s.1.1.1.1.1.1.1.1.1.1.1.1.1.1.1.1.1.0.now)
 
 -- Six builders, sanity_check: a call of `sanity_check` that returned: the counts, the ends, the list lengths and the neighbour numbers lent, and the answer.
-pub data SanityCalled : (vertices edges : ℕ) (ends_a ends_b list_lengths neighbor_numbers : List ℕ) → Verdict → Type 0 where
-  sanity_called : (κs : Lfts 4) (a : ArgsD sanity_contract.signature κs) (r : Verdict) (s : AtExit sanity_contract.ended κs) → Learnt (sanity_reading κs a r s)
+pub data SanityCalled : (vertices edges : ℕ) (ends_a ends_b list_lengths neighbor_numbers : List ℕ) → Result (Option Finding) Refusal → Type 0 where
+  sanity_called : (κs : Lfts 4) (a : ArgsD sanity_contract.signature κs) (r : Result (Option Finding) Refusal) (s : AtExit sanity_contract.ended κs) → Learnt (sanity_reading κs a r s)
       → SanityCalled a.0 a.1.0 a.1.1.0.now a.1.1.1.0.now a.1.1.1.1.0.now a.1.1.1.1.1.0.now r

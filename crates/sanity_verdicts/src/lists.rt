@@ -3,13 +3,13 @@
 // compared with those before it in its list; else the last earlier place with the same number is found for each place.
 ghost use Rattle.std.specs.Prelude.{◌≡◌, ℕ, ◌+◌, ◌<◌, ◌≤◌, ◌^◌, true, eqb, length, get_or, take, drop};
 ghost use Rattle.sanity_verdicts.specs.Sanity.{vertex_numbered, first_of, found_if, twice, at_vertex, lists_finding};
-ghost use Rattle.sanity_verdicts.specs.declared.Verdict.TheVariants.{NoEdges};
+ghost use Rattle.sanity_verdicts.specs.declared.Finding.TheVariants.{NoEdges};
 ghost use Rattle.columns_neighbors.specs.Lists.{sum_to};
 ghost use Rattle.columns_places.specs.Places.{LastPlaces};
 ghost use Rattle.sanity_verdicts.specs.ListSteps.{Seen, Stamped, Below, Ascends};
 
-use super::{Verdict, is_sound};
-use columns::questions::{all_below, both, either};
+use super::Finding;
+use columns::questions::all_below;
 use columns::{EdgeIndex, VertexIndex, wide};
 use columns_places::last_places;
 use columns_sorted_pairs::wide_u16;
@@ -19,12 +19,9 @@ fn stands_before(numbers: &[u32], start: usize, i: usize, x: EdgeIndex) -> bool
     requires { start + i ≤ length numbers.now }
     ensures { Seen numbers.now start i x.0 result }
 {
-    let y = x.0;
-    let mut j: usize = 0;
     let mut seen = false;
-    while j < i {
-        seen = either(seen, numbers[start + j] == y);
-        j += 1;
+    for j in 0..i {
+        seen |= numbers[start + j] == x.0;
     }
     seen
 }
@@ -51,7 +48,7 @@ fn is_seen(
     let here = start + i;
     if here < known {
         let p = wide_u16(last[here]);
-        return both(start <= p, p < here);
+        return (start <= p) & (p < here);
     }
     stands_before(numbers, start, i, x)
 }
@@ -69,6 +66,7 @@ fn stamp_next(numbers: &[u32], start: usize, i: usize, x: EdgeIndex, mark: &mut 
 }
 
 // The first number twice in the list of vertex v, which starts at a place and has a length.
+#[tactic(auto, using(crate::proofs::Stamping::none_start, crate::proofs::Stamping::none_next, crate::proofs::Stamping::twice_stop, crate::proofs::Stamping::twice_none, crate::proofs::Stamping::stamp_new, crate::proofs::Stamping::stamp_below))]
 fn twice_in(
     numbers: &[u32],
     start: usize,
@@ -77,25 +75,24 @@ fn twice_in(
     mark: &mut [u32],
     last: &[u16],
     known: usize,
-) -> Verdict
+) -> Option<Finding>
     requires len_in_bounds { (start + len ≤ length numbers.now) × (v.0 < 4294967295) }
     requires below { Below v.0 mark.old × LastPlaces numbers.now known last.now }
     ensures { (result ≡ twice (take len (drop start numbers.now)) v.0) × Below (v.0 + 1) mark.new × (length mark.new ≡ length mark.old) }
 {
     let stamp = v.0 + 1;
-    let mut i: usize = 0;
-    while i < len {
+    for i in 0..len {
         let x = EdgeIndex(numbers[start + i]);
         if is_seen(numbers, start, i, x, mark, stamp, last, known) {
-            return Verdict::EdgeTwice(x, v);
+            return Some(Finding::EdgeTwice(x, v));
         }
         stamp_next(numbers, start, i, x, mark, stamp);
-        i += 1;
     }
-    Verdict::Sound
+    None
 }
 
 // The finding at vertex v.
+#[tactic(auto, using(crate::proofs::Stamping::no_edges, crate::proofs::Stamping::some_edges, crate::proofs::Stamping::below_more))]
 fn at_vertex(
     numbers: &[u32],
     start: usize,
@@ -104,18 +101,19 @@ fn at_vertex(
     mark: &mut [u32],
     last: &[u16],
     known: usize,
-) -> Verdict
+) -> Option<Finding>
     requires len_in_bounds { (start + len ≤ length numbers.now) × (v.0 < 4294967295) }
     requires below { Below v.0 mark.old × LastPlaces numbers.now known last.now }
     ensures { (result ≡ at_vertex (take len (drop start numbers.now)) len v.0) × Below (v.0 + 1) mark.new × (length mark.new ≡ length mark.old) }
 {
     if len == 0 {
-        return Verdict::NoEdges(v);
+        return Some(Finding::NoEdges(v));
     }
     twice_in(numbers, start, len, v, mark, last, known)
 }
 
 // The first finding among n vertices; mark holds 0 alone.
+#[tactic(auto, using(crate::proofs::Stamping::list_room, columns_neighbors::proofs::Placing::sum_more, crate::proofs::Stamping::vertex_is, crate::proofs::Scans::none_of, crate::proofs::Scans::first_none, crate::proofs::Scans::first_next, crate::proofs::Scans::first_stop), unfolding(columns_neighbors::specs::Lists::sum_to))]
 fn vertices_in(
     lengths: &[u32],
     numbers: &[u32],
@@ -123,27 +121,25 @@ fn vertices_in(
     mark: &mut [u32],
     last: &[u16],
     known: usize,
-) -> Verdict
+) -> Option<Finding>
     requires n_in_bounds { (n ≤ length lengths.now) × (sum_to n lengths.now ≤ length numbers.now) }
     requires below { Below 0 mark.old × LastPlaces numbers.now known last.now }
     ensures { result ≡ lists_finding n lengths.now numbers.now }
 {
     let mut start: usize = 0;
-    let mut v: u32 = 0;
-    while v < n {
+    for v in 0..n {
         let len = wide(lengths[v as usize]);
         let found = at_vertex(numbers, start, len, VertexIndex(v), mark, last, known);
-        if !is_sound(found) {
+        if found.is_some() {
             return found;
         }
         start += len;
-        v += 1;
     }
-    Verdict::Sound
+    None
 }
 
 // The same by stamps of the numbers below 32,768; of no place the last one with the same number is known.
-fn vertices_by_stamps(lengths: &[u32], numbers: &[u32], n: u32) -> Verdict
+fn vertices_by_stamps(lengths: &[u32], numbers: &[u32], n: u32) -> Option<Finding>
     requires { (n ≤ length lengths.now) × (sum_to n lengths.now ≤ length numbers.now) }
     ensures { result ≡ lists_finding n lengths.now numbers.now }
 {
@@ -153,7 +149,7 @@ fn vertices_by_stamps(lengths: &[u32], numbers: &[u32], n: u32) -> Verdict
 }
 
 // The same by the last places with the same number, for the first `known` places; only the number 0 has a stamp.
-fn vertices_by_places(lengths: &[u32], numbers: &[u32], n: u32, known: usize) -> Verdict
+fn vertices_by_places(lengths: &[u32], numbers: &[u32], n: u32, known: usize) -> Option<Finding>
     requires { (n ≤ length lengths.now) × (sum_to n lengths.now ≤ length numbers.now) × (known ≤ length numbers.now) × (known ≤ 65536) }
     ensures { result ≡ lists_finding n lengths.now numbers.now }
 {
@@ -165,15 +161,14 @@ fn vertices_by_places(lengths: &[u32], numbers: &[u32], n: u32, known: usize) ->
 }
 
 // How many places the lists of n vertices have.
+#[tactic(auto, using(columns_neighbors::proofs::Placing::sum_more, columns_neighbors::proofs::Placing::sum_ascends), unfolding(columns_neighbors::specs::Lists::sum_to))]
 fn list_places(lengths: &[u32], n: usize) -> usize
     requires { (n ≤ length lengths.now) × (sum_to n lengths.now < 2 ^ 63) }
     ensures { result ≡ sum_to n lengths.now }
 {
     let mut sum: usize = 0;
-    let mut i: usize = 0;
-    while i < n {
+    for i in 0..n {
         sum += wide(lengths[i]);
-        i += 1;
     }
     sum
 }
@@ -183,51 +178,48 @@ fn list_ascends(numbers: &[u32], start: usize, len: usize) -> bool
     requires { start + len ≤ length numbers.now }
     ensures { result ≡ true → Ascends numbers.now start len }
 {
-    let mut i: usize = 1;
     let mut ascends = true;
-    while i < len {
+    for i in 1..len {
         let at = start + i;
-        ascends = both(ascends, numbers[at - 1] < numbers[at]);
-        i += 1;
+        ascends &= numbers[at - 1] < numbers[at];
     }
     ascends
 }
 
 // Whether the numbers of each list of n vertices ascend.
+#[tactic(auto, using(crate::proofs::Stamping::list_room, columns_neighbors::proofs::Placing::sum_more), unfolding(columns_neighbors::specs::Lists::sum_to))]
 fn lists_ascend(lengths: &[u32], numbers: &[u32], n: usize) -> bool
     requires { (n ≤ length lengths.now) × (sum_to n lengths.now ≤ length numbers.now) }
     ensures { result ≡ true → (u : ℕ) → u < n → Ascends numbers.now (sum_to u lengths.now) (get_or lengths.now u 0) }
 {
     let mut start: usize = 0;
-    let mut v: usize = 0;
-    while v < n {
+    for v in 0..n {
         let len = wide(lengths[v]);
         if !list_ascends(numbers, start, len) {
             return false;
         }
         start += len;
-        v += 1;
     }
     true
 }
 
 // The first vertex without edges.
-fn first_without(lengths: &[u32], n: u32) -> Verdict
+#[tactic(auto, using(crate::proofs::Scans::first_none, crate::proofs::Scans::first_next))]
+fn first_without(lengths: &[u32], n: u32) -> Option<Finding>
     requires { n ≤ length lengths.now }
     ensures { result ≡ first_of n (λ u. found_if (eqb (get_or lengths.now u 0) 0) (NoEdges (vertex_numbered u))) }
 {
-    let mut v: u32 = 0;
-    while v < n {
+    for v in 0..n {
         if lengths[v as usize] == 0 {
-            return Verdict::NoEdges(VertexIndex(v));
+            return Some(Finding::NoEdges(VertexIndex(v)));
         }
-        v += 1;
     }
-    Verdict::Sound
+    None
 }
 
 // The first finding among n vertices.
-pub fn vertices_checked(lengths: &[u32], numbers: &[u32], n: u32) -> Verdict
+#[tactic(auto, using(crate::proofs::Stamping::lists_ascend))]
+pub fn vertices_checked(lengths: &[u32], numbers: &[u32], n: u32) -> Option<Finding>
     requires { (n ≤ length lengths.now) × (sum_to n lengths.now ≤ length numbers.now) }
     ensures { result ≡ lists_finding n lengths.now numbers.now }
 {
@@ -239,7 +231,7 @@ pub fn vertices_checked(lengths: &[u32], numbers: &[u32], n: u32) -> Verdict
         return first_without(lengths, n);
     }
     let short = all_below(lengths, n as usize, 97);
-    if both(!short, places <= 65536) {
+    if !short && places <= 65536 {
         return vertices_by_places(lengths, numbers, n, places);
     }
     vertices_by_stamps(lengths, numbers, n)

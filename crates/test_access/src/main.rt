@@ -5,7 +5,7 @@ ghost use Rattle.std.specs.Prelude.{◌≤◌};
 
 use columns::VertexIndex;
 use columns::refusal::Refusal;
-use sanity_calls::Verdict;
+use sanity_calls::Finding;
 use test_numbers::{end_line, write, write_number};
 
 fn write_comma(rt: &impl Print) {
@@ -13,12 +13,8 @@ fn write_comma(rt: &impl Print) {
 }
 
 fn write_refusal(rt: &impl Print, refusal: Refusal) {
-    write_refused(rt, u32::from(refusal));
-}
-
-fn write_refused(rt: &impl Print, number: u32) {
     write(rt, b"r,");
-    write_number(rt, number);
+    write_number(rt, u32::from(refusal));
 }
 
 fn write_two(rt: &impl Print, number: u32, x: u32) {
@@ -34,14 +30,14 @@ fn write_three(rt: &impl Print, number: u32, x: u32, y: u32) {
 }
 
 // The verdict's number and values, or r and the number of the question.
-fn show_verdict(rt: &impl Print, v: Verdict) {
-    match v {
-        Verdict::Sound => write_number(rt, 0),
-        Verdict::Empty => write_number(rt, 1),
-        Verdict::DuplicateEdge(earlier, later) => write_three(rt, 2, earlier.0, later.0),
-        Verdict::NoEdges(vertex) => write_two(rt, 3, vertex.0),
-        Verdict::EdgeTwice(edge, vertex) => write_three(rt, 4, edge.0, vertex.0),
-        Verdict::Refused(number) => write_refused(rt, number),
+fn show_verdict(rt: &impl Print, answer: Result<Option<Finding>, Refusal>) {
+    match answer {
+        Ok(None) => write_number(rt, 0),
+        Ok(Some(Finding::Empty)) => write_number(rt, 1),
+        Ok(Some(Finding::DuplicateEdge(earlier, later))) => write_three(rt, 2, earlier.0, later.0),
+        Ok(Some(Finding::NoEdges(vertex))) => write_two(rt, 3, vertex.0),
+        Ok(Some(Finding::EdgeTwice(edge, vertex))) => write_three(rt, 4, edge.0, vertex.0),
+        Err(refusal) => write_refusal(rt, refusal),
     }
     end_line(rt);
 }

@@ -1,36 +1,19 @@
 -- `sanity_verdicts::lists::first_without` meets its contract. Invariant: the first v vertices have edges. Assumes nothing.
-use Prim.Native.Nat.{ℕ}
 use mathlib.Core.Path.{◌≡◌, sym, ap, ◌∙◌}
 use native.Mathlib.Omega.{arith}
-use borrow.Author.Tests.{eq-eqb, ne_eqb}
+use borrow.Author.Tests.{eq-eqb}
 use lib.ListN.{get_or}
-use Rattle.sanity_verdicts.specs.declared.Verdict.TheVariants.{NoEdges}
-use Rattle.sanity_verdicts.specs.Sanity.{vertex_numbered, first_of}
-use Rattle.sanity_verdicts.specs.Steps.{is_sound}
-use Rattle.sanity_verdicts.proofs.Scans.{found_true, found_false, first-none, first_next, first-stop}
+use Rattle.std.specs.Prelude.{Some, is_some}
+use Rattle.sanity_verdicts.specs.declared.Finding.TheVariants.{NoEdges}
+use Rattle.sanity_verdicts.specs.Sanity.{vertex_numbered}
+use Rattle.sanity_verdicts.proofs.Scans.{found_true, first_stop}
 use Rattle.sanity_verdicts.proofs.lists.first_without.Invariants.{finding}
 use Rattle.sanity_verdicts.proofs.lists.first_without.Goals as goal
-
-pub loop-v-init : goal.loop-v-init
-loop-v-init c = (omega arith, first-none (finding c.args.lengths.now))
 
 pub returns-then-lengths-v-eq0 : goal.returns-then-lengths-v-eq0
 returns-then-lengths-v-eq0 c =
     let s = c.args in
     let l = c.loop-v in
     let f = finding s.lengths.now in
-    let e : f l.v ≡ NoEdges (vertex_numbered l.v) = found_true _ _ (eq-eqb (get_or s.lengths.now l.v 0) 0 c.if-lengths-v-eq0.true) in
-    sym (first-stop f s.n l.v (omega arith) l.invariant.1 (ap is_sound e) ∙ e)
-
-pub loop-v-preserved : goal.loop-v-preserved
-loop-v-preserved c =
-    let s = c.args in
-    let l = c.loop-v in
-    (omega arith, first_next (finding s.lengths.now) l.v l.invariant.1 (found_false _ _ (ne_eqb (get_or s.lengths.now l.v 0) 0 c.if-lengths-v-eq0.false)))
-
-pub returns : goal.returns
-returns c =
-    let s = c.args in
-    let l = c.loop-v in
-    let e : l.v ≡ s.n = omega arith in
-    sym (ap (λ (k : ℕ). first_of k (finding s.lengths.now)) (sym e) ∙ l.invariant.1)
+    let e : f l.v ≡ Some (NoEdges (vertex_numbered l.v)) = found_true _ _ (eq-eqb (get_or s.lengths.now l.v 0) 0 c.if-lengths-v-eq0.true) in
+    sym (first_stop f s.n l.v (omega arith) l.invariant (ap is_some e) ∙ e)

@@ -45,8 +45,8 @@ loop-vertex-preserved c =
     let h : k < length o = omega arith in
     let fits = r.lengths_in_bounds.0 in
     let starts = r.by_index (get_or o k 0) (order_below o r.order.0 k h) in (
-      lists-count o a.lengths.now a.from.now r.order.0 fits k h l.invariant.0 refl,
-      lists_more o a.lengths.now a.from.now r.order.0 fits k _ h l.invariant.0 l.invariant.1 starts refl c.copy_run.ensures,
+      lists-count o a.lengths.now a.from.now r.order.0 fits k h l.invariant.0,
+      lists_more o a.lengths.now a.from.now r.order.0 fits k _ h l.invariant.0 l.invariant.1 starts c.copy_run.ensures,
     )
 
 pub returns : goal.returns

@@ -7,7 +7,6 @@ ghost use Rattle.codes_circuit.specs.Circuit.{circuit_cell, circuit_row, circuit
 
 use codes_writers::{push, push_if};
 use columns::VertexIndex;
-use columns::questions::both;
 
 // The edges from place i of a row that starts at vertex bias to the next layer.
 fn circuit_cell(
@@ -26,7 +25,7 @@ fn circuit_cell(
 {
     let across = i + 1 < d - 1;
     let down = row + 1 < d;
-    let diagonal = both(down, across);
+    let diagonal = down & across;
     let x = bias + i;
     let n1 = push(ends_a, ends_b, at, VertexIndex(x), VertexIndex(x + size));
     let n2 = push_if(

@@ -6,7 +6,6 @@ ghost use Rattle.std.proofs.lemmas.List.Edits.{sets};
 ghost use Rattle.columns.specs.Lists.{when, over};
 ghost use Rattle.columns_marks.specs.Marks.{is_set, listed, marks, Continued};
 
-use columns::questions::both;
 use columns_stores::fill;
 
 // Whether a byte is set.
@@ -49,7 +48,7 @@ fn all_zero(column: &[u8], at: usize) -> bool
 {
     let mut zero = true;
     for i in 0..8 {
-        zero = both(zero, column[at + i] == 0);
+        zero &= column[at + i] == 0;
     }
     zero
 }

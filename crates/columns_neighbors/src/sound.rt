@@ -4,21 +4,16 @@ ghost use Rattle.columns.specs.Questions.{vertex_count_sound, edge_count_sound};
 ghost use Rattle.columns_neighbors.specs.Sound.{ends_in_range, graph_sound, log_sound};
 
 use columns::Weight;
-use columns::questions::{
-    all_below, at_most, both, edge_count_sound, vertex_count_sound, weights_sound,
-};
+use columns::questions::{all_below, edge_count_sound, vertex_count_sound, weights_sound};
 use columns_pairs::{ascending, ends_differ, pairs_apart};
 
 // Whether the columns hold the edges, with ends in range.
+#[tactic(auto, unfolding(crate::specs::Sound::ends_in_range))]
 fn ends_in_range(vertex_num: u32, edge_num: u32, a: &[u32], b: &[u32]) -> bool
     ensures { result ≡ ends_in_range vertex_num edge_num a.now b.now }
 {
     let n = edge_num as usize;
-    let long_a = at_most(n, a.len());
-    let long_b = at_most(n, b.len());
-    let below_a = all_below(a, n, vertex_num);
-    let below_b = all_below(b, n, vertex_num);
-    both(long_a, both(long_b, both(below_a, below_b)))
+    n <= a.len() && n <= b.len() && all_below(a, n, vertex_num) && all_below(b, n, vertex_num)
 }
 
 // Whether the columns hold the edges, with ends that are in range and ascend, as in every built code: then they are those of a graph.
@@ -27,13 +22,7 @@ fn ascending_ends(vertex_num: u32, edge_num: u32, a: &[u32], b: &[u32]) -> bool
     ensures { result ≡ true → graph_sound vertex_num edge_num a.now b.now ≡ true }
 {
     let n = edge_num as usize;
-    if a.len() < n {
-        return false;
-    }
-    if b.len() < n {
-        return false;
-    }
-    ascending(a, b, n, vertex_num)
+    n <= a.len() && n <= b.len() && ascending(a, b, n, vertex_num)
 }
 
 // Whether counts and ends are those of a graph.
@@ -60,10 +49,9 @@ pub fn graph_sound(vertex_num: u32, edge_num: u32, a: &[u32], b: &[u32]) -> bool
 }
 
 // Whether the first log_num entries name edges and weights within the Records.
+#[tactic(auto, unfolding(crate::specs::Sound::log_sound))]
 pub fn log_sound(edge_num: u32, log_num: usize, edges: &[u32], weights: &[Weight]) -> bool
     ensures { result ≡ log_sound edge_num log_num edges.now weights.now }
 {
-    let named = all_below(edges, log_num, edge_num);
-    let within = weights_sound(weights, log_num);
-    both(named, within)
+    all_below(edges, log_num, edge_num) && weights_sound(weights, log_num)
 }

@@ -6,13 +6,12 @@ ghost use Rattle.std.specs.Prelude.{◌≤◌};
 use codes_calls::CodeCounts;
 use codes_calls::create::create_code;
 use columns::Weight;
-use columns::questions::lesser;
 use columns::refusal::Refusal;
 use test_numbers::{bits, checksum, mix, show_line, wide};
 
 // Prints the checksum of the first n numbers of a column.
 fn numbers(rt: &impl Print, column: &[u32], n: usize) {
-    let m = lesser(n, column.len());
+    let m = n.min(column.len());
     let mut h: u64 = 1;
     for i in 0..m {
         h = mix(h, wide(column[i]));
@@ -21,7 +20,7 @@ fn numbers(rt: &impl Print, column: &[u32], n: usize) {
 }
 
 fn floats(rt: &impl Print, column: &[f64], n: usize) {
-    let m = lesser(n, column.len());
+    let m = n.min(column.len());
     let mut h: u64 = 1;
     for i in 0..m {
         h = mix(h, bits(column[i]));
@@ -52,7 +51,7 @@ fn show_code(
             numbers(rt, ends_b, edges);
             show_line(rt, checksum(boundary, vertices));
             numbers(rt, list_lengths, vertices);
-            numbers(rt, neighbor_numbers, lesser(edges, 19685) * 2);
+            numbers(rt, neighbor_numbers, edges.min(19685) * 2);
             floats(rt, pos_i, vertices);
             floats(rt, pos_j, vertices);
             floats(rt, pos_t, vertices);

@@ -4,7 +4,6 @@
 
 ghost use Rattle.std.specs.Prelude.{◌≤◌, length};
 
-use columns::questions::lesser;
 use columns::refusal::Refusal;
 use columns::{Done, TableWeight};
 use columns_answers::{ListCount, SyndromeCounts, SyndromeLengths};
@@ -167,7 +166,7 @@ pub fn mix(h: u64, x: u64) -> u64 {
 
 // The checksum of the first n bytes, or of all where there are fewer.
 pub fn checksum(bytes: &[u8], n: usize) -> u64 {
-    let m = lesser(n, bytes.len());
+    let m = n.min(bytes.len());
     let mut h: u64 = 1;
     for i in 0..m {
         h = mix(h, wide_byte(bytes[i]));
@@ -269,7 +268,7 @@ pub fn show_lengths(rt: &impl Print, answer: Result<SyndromeLengths, Refusal>) {
 
 // The first n numbers of a column, or all where there are fewer.
 pub fn show_list(rt: &impl Print, list: &[u32], n: usize) {
-    let m = lesser(n, list.len());
+    let m = n.min(list.len());
     for i in 0..m {
         show(rt, wide(list[i]));
     }
@@ -277,7 +276,7 @@ pub fn show_list(rt: &impl Print, list: &[u32], n: usize) {
 }
 
 pub fn show_bytes(rt: &impl Print, bytes: &[u8], n: usize) {
-    let m = lesser(n, bytes.len());
+    let m = n.min(bytes.len());
     for i in 0..m {
         show(rt, wide_byte(bytes[i]));
     }
@@ -294,7 +293,7 @@ pub fn show_weight(rt: &impl Print, w: TableWeight) {
 }
 
 pub fn show_weights(rt: &impl Print, list: &[TableWeight], n: usize) {
-    let m = lesser(n, list.len());
+    let m = n.min(list.len());
     for i in 0..m {
         show_weight(rt, list[i]);
     }

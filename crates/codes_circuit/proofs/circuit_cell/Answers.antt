@@ -1,5 +1,5 @@
 -- `codes_circuit::circuit_cell` meets its contract: the four pushes write the four parts of `circuit_cell` in order, each in the room that is left. Assumes nothing.
-use mathlib.Core.Path.{sym, ap}
+use mathlib.Core.Path.{refl, ap}
 use mathlib.Core.Bool.{Bool}
 use mathlib.Core.List.{[], ◌∷◌}
 use Prim.Native.Nat.{◌+◌}
@@ -29,8 +29,8 @@ overflow_add-x-5 c = omega (arith, c.requires.le_d)
 
 pub push_if-requires : goal.push_if-requires
 unfolding circuit_cell
-push_if-requires c = room_as (ap (λ (m : Bool). when {A = Ends} m (c.args.bias + c.args.i, c.args.bias + c.args.i + (c.args.d + 1 + 1 + c.args.size))) (sym c.both-diagonal.ensures)) (room-then _ (room-then _ (room-then _ c.requires.room c.push-n1.ensures) c.push_if-n2.ensures) c.push_if-n3.ensures)
+push_if-requires c = room_as (ap (λ (m : Bool). when {A = Ends} m (c.args.bias + c.args.i, c.args.bias + c.args.i + (c.args.d + 1 + 1 + c.args.size))) refl) (room-then _ (room-then _ (room-then _ c.requires.room c.push-n1.ensures) c.push_if-n2.ensures) c.push_if-n3.ensures)
 
 pub returns : goal.returns
 unfolding circuit_cell
-returns c = wrote_then c.push-n1.ensures (wrote_then c.push_if-n2.ensures (wrote_then c.push_if-n3.ensures (wrote_as (ap (λ (m : Bool). when {A = Ends} m (c.args.bias + c.args.i, c.args.bias + c.args.i + (c.args.d + 1 + 1 + c.args.size))) c.both-diagonal.ensures) c.push_if.ensures)))
+returns c = wrote_then c.push-n1.ensures (wrote_then c.push_if-n2.ensures (wrote_then c.push_if-n3.ensures (wrote_as (ap (λ (m : Bool). when {A = Ends} m (c.args.bias + c.args.i, c.args.bias + c.args.i + (c.args.d + 1 + 1 + c.args.size))) refl) c.push_if.ensures)))

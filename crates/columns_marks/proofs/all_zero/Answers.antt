@@ -22,7 +22,7 @@ loop-i-preserved c =
     let next : s.at + (at.i + 1) ≡ here + 1 = omega arith in (
       omega arith,
       λ e.
-          let h = and_both at.zero (eqb (get_or s.column.now here 0) 0) (sym c.both-zero.ensures ∙ e) in
+          let h = and_both at.zero (eqb (get_or s.column.now here 0) 0) e in
           ap (λ (n : ℕ). listed n s.column.now) next ∙ listed-zero s.column.now here h.1 ∙ at.invariant.1 h.0,
     )
 

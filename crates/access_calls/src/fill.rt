@@ -13,7 +13,7 @@ use columns::refusal::{Refusal, require};
 use columns_neighbors::lists::fill_lists;
 use columns_neighbors::sound::graph_sound;
 use columns_room::{edge_columns_long, three_long};
-use columns_stores::fill_u8;
+use columns_stores::fill;
 
 // Question 6 of the vertex columns.
 #[tactic(auto, unfolding(crate::specs::Fill::vertex_columns_long))]
@@ -139,8 +139,8 @@ pub fn fill_vertices(
     )?;
     let n = vertex_num as usize;
     fill_positions(pos_i, pos_j, pos_t, n);
-    fill_u8(boundary, n, 0);
-    fill_u8(defect, n, 0);
+    fill(boundary, n, 0);
+    fill(defect, n, 0);
     write_lists(
         ends_a,
         ends_b,

@@ -19,7 +19,7 @@ use columns::refusal::{Refusal, require};
 pub use columns_answers::SyndromeLengths;
 use columns_marks::{list_set, set_marks};
 use columns_room::{code_sound, three_long, two_long};
-use columns_stores::copy_u32;
+use columns_stores::copy;
 pub use fill::fill_vertices;
 
 // Question 6 of get_initializer.
@@ -131,8 +131,8 @@ pub fn get_initializer(
         to_virtual,
     )?;
     let e = edge_num as usize;
-    copy_u32(to_a, ends_a, e);
-    copy_u32(to_b, ends_b, e);
+    copy(to_a, ends_a, e);
+    copy(to_b, ends_b, e);
     store_weights(half_weight, e, to_weight);
     Ok(list_set(boundary, vertex_num, to_virtual))
 }

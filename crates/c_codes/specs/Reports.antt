@@ -1,36 +1,28 @@
 -- What is handed to C for each kind of answer.
-use Rattle.std.specs.Prelude.{◌≡◌, Bool, false, Option, Result}
+use Rattle.std.specs.Prelude.{◌≡◌, Result, Float, Bool, false, Option}
 use Rattle.columns.specs.declared.refusal.Refusal.{Refusal}
+use Rattle.columns.specs.Places.{zero_float}
 use Rattle.columns_answers.specs.Said.{said}
-use Rattle.codes_calls.specs.declared.Created.{Created}
-use Rattle.codes_calls.specs.CreateCode as created
-use Rattle.codes_questions.specs.declared.Count.{Count}
-use Rattle.codes_questions.specs.Answers as count
-use Rattle.weights_calls.specs.declared.WeightOfP.{WeightOfP}
-use Rattle.weights_calls.specs.Answers.{weight_said}
+use Rattle.codes_calls.specs.declared.CodeCounts.{CodeCounts}
+use Rattle.codes_calls.specs.CreateCode.{no_counts}
+use Rattle.sanity_verdicts.specs.declared.Verdict.{Verdict}
 use Rattle.sanity_verdicts.specs.declared.Finding.{Finding}
 use Rattle.sanity_verdicts.specs.Sanity as sanity
-use Rattle.c_reports.specs.declared.OneCount.{OneCount}
 use Rattle.c_reports.specs.declared.TwoCounts.{TwoCounts}
 use Rattle.c_codes.specs.declared.reports.WeighedReport.{WeighedReport}
 use Rattle.c_codes.specs.declared.reports.TruthReport.{TruthReport}
 use Rattle.c_codes.specs.declared.reports.VerdictReport.{VerdictReport}
 
--- Expected forms by place, last paragraph: the struct holds the number and the values of a `Created`.
-pub record ReportsCreated (a : Created) (r : TwoCounts) : Type 0 where
-  pub number : r.number ≡ (created.created_said a).number
-  pub first : r.first ≡ (created.created_said a).values.0
-  pub second : r.second ≡ (created.created_said a).values.1
+-- Expected forms by place, last paragraph: the struct holds the number and the values of what a builder answers.
+pub record ReportsCreated (a : Result CodeCounts Refusal) (r : TwoCounts) : Type 0 where
+  pub number : r.number ≡ (said no_counts a).number
+  pub first : r.first ≡ (said no_counts a).values.vertices
+  pub second : r.second ≡ (said no_counts a).values.edges
 
--- Expected forms by place, last paragraph: the struct holds the number and the values of a `Count`.
-pub record ReportsCount (a : Count) (r : OneCount) : Type 0 where
-  pub number : r.number ≡ (count.code_count_said a).number
-  pub count : r.count ≡ (count.code_count_said a).values
-
--- Expected forms by place, last paragraph: the struct holds the number and the values of a `WeightOfP`.
-pub record ReportsWeighed (a : WeightOfP) (r : WeighedReport) : Type 0 where
-  pub number : r.number ≡ (weight_said a).number
-  pub weight : r.weight ≡ (weight_said a).values
+-- Expected forms by place, last paragraph: the struct holds the number and the values of what `weight_of_p` answers.
+pub record ReportsWeighed (a : Result Float Refusal) (r : WeighedReport) : Type 0 where
+  pub number : r.number ≡ (said zero_float a).number
+  pub weight : r.weight ≡ (said zero_float a).values
 
 -- Expected forms by place, last paragraph: the struct holds the number of a verdict's answer, and the verdict with its values.
 pub record ReportsVerdict (a : Result (Option Finding) Refusal) (r : VerdictReport) : Type 0 where

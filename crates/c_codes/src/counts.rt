@@ -1,9 +1,7 @@
-ghost use Rattle.c_reports.specs.Reports.{Reported};
-ghost use Rattle.c_codes.specs.Reports.{ReportsCount};
+ghost use Rattle.c_reports.specs.Reports.{Reported, ReportsCount};
 ghost use Rattle.codes_questions.specs.Answers.{CountsVertices, CountsEdges};
 
-use super::reports::count_report;
-use c_reports::OneCount;
+use c_reports::{OneCount, count_report};
 
 // How many vertices a code has: questions 2 to 5.
 #[unsafe(no_mangle)]

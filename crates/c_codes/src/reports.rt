@@ -1,12 +1,11 @@
 // Answers as structs of numbers.
-ghost use Rattle.c_codes.specs.Reports.{ReportsCreated, ReportsCount, ReportsWeighed, ReportsVerdict, ReportsTruth};
+ghost use Rattle.c_codes.specs.Reports.{ReportsCreated, ReportsWeighed, ReportsVerdict, ReportsTruth};
 
-use c_reports::{OneCount, TwoCounts};
-use codes_calls::Created;
-use codes_questions::Count;
+use c_reports::TwoCounts;
+use codes_calls::CodeCounts;
 use columns::refusal::Refusal;
+use sanity_calls::Verdict;
 use sanity_calls::Finding;
-use weights_calls::WeightOfP;
 
 #[repr(C)]
 #[derive(Clone, Copy)]
@@ -32,41 +31,31 @@ pub struct VerdictReport {
 }
 
 // Vertices and edges.
-pub fn created_report(answer: Created) -> TwoCounts
+pub fn created_report(answer: Result<CodeCounts, Refusal>) -> TwoCounts
     ensures { ReportsCreated answer result }
 {
     match answer {
-        Created::Code(vertices, edges) => TwoCounts {
+        Ok(counts) => TwoCounts {
             number: 0,
-            first: vertices,
-            second: edges,
+            first: counts.vertices,
+            second: counts.edges,
         },
-        Created::Refused(number) => TwoCounts {
-            number,
+        Err(refusal) => TwoCounts {
+            number: u32::from(refusal),
             first: 0,
             second: 0,
         },
     }
 }
 
-// A count of vertices or edges.
-pub fn count_report(answer: Count) -> OneCount
-    ensures { ReportsCount answer result }
-{
-    match answer {
-        Count::Counted(count) => OneCount { number: 0, count },
-        Count::Refused(number) => OneCount { number, count: 0 },
-    }
-}
-
 // The weight of a probability.
-pub fn weighed_report(answer: WeightOfP) -> WeighedReport
+pub fn weighed_report(answer: Result<f64, Refusal>) -> WeighedReport
     ensures { ReportsWeighed answer result }
 {
     match answer {
-        WeightOfP::Weighs(weight) => WeighedReport { number: 0, weight },
-        WeightOfP::Refused(number) => WeighedReport {
-            number,
+        Ok(weight) => WeighedReport { number: 0, weight },
+        Err(refusal) => WeighedReport {
+            number: u32::from(refusal),
             weight: 0.0,
         },
     }

@@ -9,16 +9,15 @@ ghost use Rattle.codes_calls.specs.Columns.{code_in};
 use super::reports::created_report;
 use c_reports::TwoCounts;
 use columns::Weight;
-use weights_diagonal::DiagonalProbability;
 
 // The diagonal probability, if there is one: any byte but 0 says so.
-fn diagonal_from(has_diagonal: u8, diagonal: f64) -> DiagonalProbability
+fn diagonal_from(has_diagonal: u8, diagonal: f64) -> Option<f64>
     ensures { result ≡ diagonal_from has_diagonal diagonal }
 {
     if has_diagonal == 0 {
-        return DiagonalProbability::None;
+        return None;
     }
-    DiagonalProbability::Given(diagonal)
+    Some(diagonal)
 }
 
 // Builds a code with probability p at every edge, and p/3 at the diagonal edges of kind 4.

@@ -3,7 +3,8 @@ ghost use Rattle.std.specs.Prelude.{◌≡◌};
 ghost use Rattle.c_reports.specs.Engine.{ReportsEngine, given_end};
 
 use columns::VertexIndex;
-use engine_columns::EngineAnswer;
+use columns::refusal::Refusal;
+use engine_columns::EngineCounts;
 use query_tables::End;
 
 #[repr(C)]
@@ -16,18 +17,18 @@ pub struct EngineReport {
 }
 
 // The counts to go on with.
-pub fn engine_report(answer: EngineAnswer) -> EngineReport
+pub fn engine_report(answer: Result<EngineCounts, Refusal>) -> EngineReport
     ensures { ReportsEngine answer result }
 {
     match answer {
-        EngineAnswer::Counts(c) => EngineReport {
+        Ok(c) => EngineReport {
             number: 0,
             vertices: c.vertices,
             edges: c.edges,
             entries: c.entries,
         },
-        EngineAnswer::Refused(number) => EngineReport {
-            number,
+        Err(refusal) => EngineReport {
+            number: u32::from(refusal),
             vertices: 0,
             edges: 0,
             entries: 0,

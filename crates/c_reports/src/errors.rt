@@ -1,7 +1,7 @@
 // Answers as structs of numbers.
 ghost use Rattle.c_reports.specs.Errors.{ReportsTranslated};
 
-use reorder_calls::TranslatedAnswer;
+use columns::refusal::Refusal;
 
 #[repr(C)]
 #[derive(Clone, Copy)]
@@ -11,11 +11,14 @@ pub struct LongCount {
 }
 
 // How many numbers were translated.
-pub fn translated_report(answer: TranslatedAnswer) -> LongCount
+pub fn translated_report(answer: Result<usize, Refusal>) -> LongCount
     ensures { ReportsTranslated answer result }
 {
     match answer {
-        TranslatedAnswer::Count(count) => LongCount { number: 0, count },
-        TranslatedAnswer::Refused(number) => LongCount { number, count: 0 },
+        Ok(count) => LongCount { number: 0, count },
+        Err(refusal) => LongCount {
+            number: u32::from(refusal),
+            count: 0,
+        },
     }
 }

@@ -1,4 +1,4 @@
-ghost use Rattle.c_reports.specs.Reports.{Reported, ReportsDone, ReportsList, ReportsSyndrome};
+ghost use Rattle.c_reports.specs.Reports.{Reported, ReportsNumber, ReportsCount, ReportsLengths};
 ghost use Rattle.sampling_calls.specs.Errors.{GeneratedErrors};
 ghost use Rattle.sampling_clear.specs.Clear.{ClearedErrors};
 ghost use Rattle.columns_room.specs.Graph.{code_graph};
@@ -6,7 +6,7 @@ ghost use Rattle.sampling_calls.specs.Records.{syndrome_columns};
 ghost use Rattle.sampling_calls.specs.Sampling.{GeneratedRandomErrors};
 ghost use Rattle.sampling_calls.specs.Syndrome.{FoundSyndrome};
 
-use c_reports::{OneCount, TwoCounts, done_number, list_report, syndrome_report};
+use c_reports::{OneCount, TwoCounts, count_report, lengths_report, number_of};
 
 // Two draws of the seeded generator for every edge: its erasure, then its error; standing defects are cleared first. Lists the defects and the erasures.
 #[unsafe(no_mangle)]
@@ -24,12 +24,12 @@ pub extern "C" fn moldingcress_generate_random_errors(
     defect_list: &mut [u32],
     erasure_list: &mut [u32],
 ) -> TwoCounts
-    ensures { Reported ReportsSyndrome (λ r. GeneratedRandomErrors seed (code_graph vertex_num edge_num ends_a.now ends_b.now boundary.now) p.now pe.now
+    ensures { Reported ReportsLengths (λ r. GeneratedRandomErrors seed (code_graph vertex_num edge_num ends_a.now ends_b.now boundary.now) p.now pe.now
         (syndrome_columns defect.old erasure.old defect_list.old erasure_list.old)
         r
         (syndrome_columns defect.new erasure.new defect_list.new erasure_list.new)) result }
 {
-    syndrome_report(sampling_calls::generate_random_errors(
+    lengths_report(sampling_calls::generate_random_errors(
         seed,
         vertex_num,
         edge_num,
@@ -59,12 +59,12 @@ pub extern "C" fn moldingcress_generate_errors(
     defect_list: &mut [u32],
     erasure_list: &mut [u32],
 ) -> TwoCounts
-    ensures { Reported ReportsSyndrome (λ r. GeneratedErrors (code_graph vertex_num edge_num ends_a.now ends_b.now boundary.now) list.now
+    ensures { Reported ReportsLengths (λ r. GeneratedErrors (code_graph vertex_num edge_num ends_a.now ends_b.now boundary.now) list.now
         (syndrome_columns defect.old erasure.now defect_list.old erasure_list.old)
         r
         (syndrome_columns defect.new erasure.now defect_list.new erasure_list.new)) result }
 {
-    syndrome_report(sampling_calls::generate_errors(
+    lengths_report(sampling_calls::generate_errors(
         vertex_num,
         edge_num,
         ends_a,
@@ -86,9 +86,9 @@ pub extern "C" fn moldingcress_clear_errors(
     defect: &mut [u8],
     erasure: &mut [u8],
 ) -> u32
-    ensures { Reported ReportsDone (λ r. ClearedErrors vertex_num edge_num defect.old erasure.old r defect.new erasure.new) result }
+    ensures { Reported ReportsNumber (λ r. ClearedErrors vertex_num edge_num defect.old erasure.old r defect.new erasure.new) result }
 {
-    done_number(sampling_calls::clear_errors(vertex_num, edge_num, defect, erasure))
+    number_of(sampling_calls::clear_errors(vertex_num, edge_num, defect, erasure))
 }
 
 // Lists the inner vertices where an odd number of ends of the listed edges are.
@@ -102,9 +102,9 @@ pub extern "C" fn moldingcress_syndrome_of(
     list: &[u32],
     defect_list: &mut [u32],
 ) -> OneCount
-    ensures { Reported ReportsList (λ r. FoundSyndrome (code_graph vertex_num edge_num ends_a.now ends_b.now boundary.now) list.now defect_list.old r defect_list.new) result }
+    ensures { Reported ReportsCount (λ r. FoundSyndrome (code_graph vertex_num edge_num ends_a.now ends_b.now boundary.now) list.now defect_list.old r defect_list.new) result }
 {
-    list_report(sampling_calls::syndrome_of(
+    count_report(sampling_calls::syndrome_of(
         vertex_num,
         edge_num,
         ends_a,

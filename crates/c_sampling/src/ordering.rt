@@ -1,17 +1,17 @@
-ghost use Rattle.c_reports.specs.Reports.{Reported, ReportsDone};
+ghost use Rattle.c_reports.specs.Reports.{Reported, ReportsNumber};
 ghost use Rattle.c_reports.specs.Errors.{ReportsTranslated};
 ghost use Rattle.reorder_calls.specs.Columns.{ReorderedVertices, reorder_in};
 ghost use Rattle.reorder_calls.specs.Numbers.{BuiltOldToNew, TranslatedDefects};
 
-use c_reports::done_number;
 use c_reports::errors::{LongCount, translated_report};
+use c_reports::number_of;
 
 // Stores the new number of each old vertex.
 #[unsafe(no_mangle)]
 pub extern "C" fn moldingcress_build_old_to_new(order: &[u32], column: &mut [u32]) -> u32
-    ensures { Reported ReportsDone (λ r. BuiltOldToNew order.now column.old r column.new) result }
+    ensures { Reported ReportsNumber (λ r. BuiltOldToNew order.now column.old r column.new) result }
 {
-    done_number(reorder_calls::build_old_to_new(order, column))
+    number_of(reorder_calls::build_old_to_new(order, column))
 }
 
 // Stores the new number of each listed old vertex, in the list's order.
@@ -43,12 +43,12 @@ pub extern "C" fn moldingcress_reorder_vertices(
     neighbor_numbers: &mut [u32],
     scratch: &mut [u32],
 ) -> u32
-    ensures { Reported ReportsDone (λ r. ReorderedVertices vertex_num edge_num order.now
+    ensures { Reported ReportsNumber (λ r. ReorderedVertices vertex_num edge_num order.now
         (reorder_in ends_a.old ends_b.old boundary.old defect.old pos_i.old pos_j.old pos_t.old list_lengths.old neighbor_numbers.old scratch.old)
         r
         (reorder_in ends_a.new ends_b.new boundary.new defect.new pos_i.new pos_j.new pos_t.new list_lengths.new neighbor_numbers.new scratch.new)) result }
 {
-    done_number(reorder_calls::reorder_vertices(
+    number_of(reorder_calls::reorder_vertices(
         vertex_num,
         edge_num,
         order,

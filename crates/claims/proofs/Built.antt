@@ -1,4 +1,5 @@
 -- A built code that was opened is a graph of `codes_graphs`. Assumes nothing.
+use Rattle.std.specs.Prelude.{Option, Ok}
 use mathlib.Core.Path.{◌≡◌, sym, ap, ◌∙◌, subst}
 use mathlib.Core.Bool.{true}
 use mathlib.Core.List.{List, ◌++◌}
@@ -27,11 +28,9 @@ use Rattle.codes_graphs.specs.Graphs.{built_graph}
 use Rattle.codes_graphs.specs.Claims.{BuiltCode}
 use Rattle.codes_graphs.proofs.Sound.{codes_are_sound}
 use Rattle.codes_graphs.proofs.Distance.{codes_have_distance}
-use Rattle.codes_calls.specs.declared.Created.TheVariants.{Code}
 use Rattle.codes_calls.specs.Columns.{CodeColumns}
-use Rattle.codes_calls.specs.CreateCode.{create_refusal, refusal_in, CreateCode}
+use Rattle.codes_calls.specs.CreateCode.{code_counts, create_refusal, refusal_in, CreateCode}
 use Rattle.codes_calls.proofs.Cases.{code_case}
-use Rattle.weights_diagonal.specs.declared.DiagonalProbability.{DiagonalProbability}
 use Rattle.codes_calls.specs.NewCode.{new_refusal, new_refusal_in, WeightedCode}
 use Rattle.claims.specs.Listed.{tally_graph}
 use Rattle.claims.specs.BuildersCalled.{CodeBuilt, create_called, new_called, new_diagonal_called, create_returned, new_returned, new_diagonal_returned}
@@ -76,18 +75,18 @@ columns_say kind d rounds q v e a₀ b₀ m₀ a b m ok (z, p, r) in_a in_b in_m
       boundary_are = ap (take v) (in_m ∙ after-accepted q (boundaries vs) m₀ z) ∙ take-over (boundaries vs) m₀ v (boundaries-long kind d rounds ok ∙ sym p);
     }
 
-create_says : (kind d rounds : ℕ) (lent back : CodeColumns) (v e : ℕ) → CreateCode kind d rounds lent back (Code v e)
+create_says : (kind d rounds : ℕ) (lent back : CodeColumns) (v e : ℕ) → CreateCode kind d rounds lent back (Ok (code_counts v e))
     → BuiltGraph kind d rounds v e back.ends_a back.ends_b back.boundary
 create_says kind d rounds lent back v e h =
     let k = code_case h.answers in
     columns_say kind d rounds (refusal_in kind d rounds lent) v e lent.ends_a lent.ends_b lent.boundary _ _ _ (accepted_code kind d rounds lent k.0) k h.columns_after.ends_a_after h.columns_after.ends_b_after h.columns_after.boundary_after
 
-accepted_new : (kind d rounds : ℕ) (p : Float) (diagonal : DiagonalProbability) (max : ℕ) (c : CodeColumns) → new_refusal_in kind d rounds p diagonal max c ≡ 0 → Buildable kind d rounds
+accepted_new : (kind d rounds : ℕ) (p : Float) (diagonal : Option Float) (max : ℕ) (c : CodeColumns) → new_refusal_in kind d rounds p diagonal max c ≡ 0 → Buildable kind d rounds
 unfolding new_refusal
 accepted_new kind d rounds p diagonal max c z = buildable kind d rounds _ z
 
-weighted_says : (kind d rounds : ℕ) (p : Float) (diagonal : DiagonalProbability) (max : ℕ) (lent back : CodeColumns) (v e : ℕ)
-    → WeightedCode kind d rounds p diagonal max lent back (Code v e) → BuiltGraph kind d rounds v e back.ends_a back.ends_b back.boundary
+weighted_says : (kind d rounds : ℕ) (p : Float) (diagonal : Option Float) (max : ℕ) (lent back : CodeColumns) (v e : ℕ)
+    → WeightedCode kind d rounds p diagonal max lent back (Ok (code_counts v e)) → BuiltGraph kind d rounds v e back.ends_a back.ends_b back.boundary
 weighted_says kind d rounds p diagonal max lent back v e h =
     let q = new_refusal_in kind d rounds p diagonal max lent in
     let k = code_case h.answers in

@@ -1,8 +1,9 @@
 -- Agreeing: what the engine's columns and the tally have in common, for a crossing. Runs: every list of calls. LeastKeys: a tree over any leaves. Returns: every call and
--- every list of calls returns. SomeCode: every code is built. Built: what a built code hands to open. Proved: the demand.
+-- every list of calls returns. Refusing: the refusal of a number. SomeCode: every code is built. Built: what a built code hands to open. Proved: the demand.
 pub mod Agreeing
 pub mod Runs
 mod LeastKeys
+mod Refusing
 pub mod Returns
 mod SomeCode
 pub mod Built

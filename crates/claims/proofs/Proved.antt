@@ -15,7 +15,7 @@ use Rattle.columns.specs.Limits.{weight_limit}
 use Rattle.columns.specs.Questions.{ask, all, all_within, weights_sound}
 use Rattle.columns.proofs.Tests.{both_and, at_within}
 use Rattle.columns_room.specs.Room.{three_long}
-use Rattle.engine_columns.specs.declared.EngineAnswer.TheVariants.{Counts}
+use Rattle.std.specs.Prelude.{Ok}
 use Rattle.engine_columns.specs.Records.{Engine, engine, counts}
 use Rattle.engine_columns.specs.Calls.{load_erasures, load_weights}
 use Rattle.engine_columns.specs.Open.{GraphColumns, graph_columns, open_refusal}
@@ -245,7 +245,7 @@ module _ (kind d rounds v e : ℕ) (a b m : List ℕ) (g : BuiltGraph kind d rou
   code-accepted : open_refusal v e code code ≡ 0
   code-accepted = built-accepted kind d rounds v e a b m g ones code ones-long ones_sound (columns-long-from v e a b ones m (built-long kind d rounds v e a b m g ones ones-long))
 
-  code-opened : (lent : GraphColumns) × OpenReturned v e code code (Counts (counts v e 0)) lent
+  code-opened : (lent : GraphColumns) × OpenReturned v e code code (Ok (counts v e 0)) lent
   code-opened =
       let (r, lent, o) = open_returns v e code code in
       (lent, subst (λ x. OpenReturned v e code code x lent) (accepted_open v e code code r lent o code-accepted) o)

@@ -5,9 +5,9 @@ use Prim.Native.Nat.{ℕ, ◌≤◌}
 use lib.ListN.{length}
 use lib.IntN.{ℤ}
 use Rattle.columns_answers.proofs.Said.{values_of}
+use Rattle.std.specs.Prelude.{Result, Ok}
+use Rattle.columns.specs.declared.refusal.Refusal.{Refusal}
 use Rattle.engine_columns.specs.declared.EngineCounts.{EngineCounts}
-use Rattle.engine_columns.specs.declared.EngineAnswer.{EngineAnswer}
-use Rattle.engine_columns.specs.declared.EngineAnswer.TheVariants.{Counts}
 use Rattle.engine_columns.specs.Records.{Engine, engine, counts}
 use Rattle.engine_columns.specs.Calls.{Call, Modified}
 use Rattle.engine_columns.specs.Open.{GraphColumns, open_refusal, Opened}
@@ -23,7 +23,7 @@ use Rattle.claims.specs.Called.{OpenReturned, open_returned, OpenCalled, open_ca
 use Rattle.claims.proofs.Agreeing.{CrossingBy, crossing-number}
 
 -- what a call's contract says is the step
-pub step_of : (call : Call) (e : Engine) (r : EngineAnswer) (e₁ : Engine) → Called call e r e₁ → Modified call e r e₁
+pub step_of : (call : Call) (e : Engine) (r : Result EngineCounts Refusal) (e₁ : Engine) → Called call e r e₁ → Modified call e r e₁
 step_of call e r e₁ (load_erasures_called κs a q s h) = h
 step_of call e r e₁ (load_weights_called κs a q s h) = h
 step_of call e r e₁ (reset_called κs a q s h) = h
@@ -44,22 +44,22 @@ pub record FreshGraph (v e : ℕ) (handed : GraphColumns) (fresh : Engine) : Typ
   pub agrees : Agrees (tally_of v e handed) fresh
   pub weights_long : e ≤ length handed.weights
 
-open_says : (v e : ℕ) (handed lent left : GraphColumns) (c : EngineCounts) (le lw : List ℕ) → Opened v e handed lent (Counts c) left
+open_says : (v e : ℕ) (handed lent left : GraphColumns) (c : EngineCounts) (le lw : List ℕ) → Opened v e handed lent (Ok c) left
     → FreshGraph v e handed (engine c left.ends_a left.ends_b left.weights left.boundary le lw)
 open_says v e handed lent left c le lw h =
     let d : open_refusal v e handed lent ≡ 0 = sym h.answers.number_is in
     let k : c ≡ counts v e 0 = values_of h.answers d in
     record {
       agrees = subst (λ (n : EngineCounts). Agrees (tally_of v e handed) (engine n left.ends_a left.ends_b left.weights left.boundary le lw)) (sym k)
-          (opened_agrees v e handed lent left (Counts c) le lw h refl);
+          (opened_agrees v e handed lent left (Ok c) le lw h refl);
       weights_long = (opens_of v e handed lent d).from.weights;
     }
 
-pub opened_of : (v e : ℕ) (handed lent₀ : GraphColumns) (r : EngineAnswer) (lent : GraphColumns) → OpenReturned v e handed lent₀ r lent → Opened v e handed lent₀ r lent
+pub opened_of : (v e : ℕ) (handed lent₀ : GraphColumns) (r : Result EngineCounts Refusal) (lent : GraphColumns) → OpenReturned v e handed lent₀ r lent → Opened v e handed lent₀ r lent
 opened_of v e handed lent₀ r lent (open_returned κs a q s h) = h
 
 pub fresh_of : (v e : ℕ) (handed : GraphColumns) (fresh : Engine) → OpenCalled v e handed fresh → FreshGraph v e handed fresh
-fresh_of v e handed fresh (open_called {lent₀ = lent₀} {lent = lent} c le lw o) = open_says v e handed lent₀ lent c le lw (opened_of v e handed lent₀ (Counts c) lent o)
+fresh_of v e handed fresh (open_called {lent₀ = lent₀} {lent = lent} c le lw o) = open_says v e handed lent₀ lent c le lw (opened_of v e handed lent₀ (Ok c) lent o)
 
 -- ---- the list
 

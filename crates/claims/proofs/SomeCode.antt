@@ -1,4 +1,5 @@
 -- Every kind, d and rounds that questions 2 to 5 accept have a code: `create_code` on columns as long as the code's counts. Assumes nothing.
+use Rattle.std.specs.Prelude.{Ok}
 use mathlib.Core.Path.{◌≡◌, refl, ap, ◌∙◌}
 use mathlib.Core.Bool.{true}
 use mathlib.Core.List.{List, []}
@@ -16,9 +17,8 @@ use Rattle.columns.proofs.Tests.{both_and}
 use Rattle.columns_answers.proofs.Said.{accepts-of}
 use Rattle.codes_layers.specs.Counts.{vertex_num, edge_num}
 use Rattle.codes_layers.specs.Accepts.{code_refusal, Buildable}
-use Rattle.codes_calls.specs.declared.Created.TheVariants.{Code}
 use Rattle.codes_calls.specs.Columns.{CodeColumns, shortest, vertex_room, edge_room, long_enough}
-use Rattle.codes_calls.specs.CreateCode.{create_refusal, refusal_in, new_columns}
+use Rattle.codes_calls.specs.CreateCode.{code_counts, create_refusal, refusal_in, new_columns}
 use Rattle.codes_calls.proofs.create.create_code.Kinds as create-kinds
 use Rattle.claims.specs.BuildersCalled.{CreateReturned, create_returned, CodeBuilt, create_called}
 use Rattle.claims.proofs.Returns.{ref_mut, eight}
@@ -91,11 +91,11 @@ module _ (kind d rounds : ℕ) (ok : Buildable kind d rounds) where
   abbrev thirteen : Lfts 13
   thirteen = ([], ([], ([], ([], ([], eight)))))
 
-  created : CreateReturned kind d rounds lent left (Code v e)
+  created : CreateReturned kind d rounds lent left (Ok (code_counts v e))
   created =
       let a : Dens thirteen create-kinds.ps = (kind, (d, (rounds, (ref_mut lent.ends_a, (ref_mut lent.ends_b, (ref_mut lent.p, (ref_mut lent.pe, (ref_mut lent.half_weight, (ref_mut lent.erasure, (ref_mut lent.pos_i, (ref_mut lent.pos_j, (ref_mut lent.pos_t, (ref_mut lent.boundary, (ref_mut lent.defect, (ref_mut lent.list_lengths, (ref_mut lent.neighbor_numbers, tt)))))))))))))))) in
       let s : AtExit (ended_of 13 create-kinds.ps create-kinds.r) thirteen = (kind, (d, (rounds, (ref_mut left.ends_a, (ref_mut left.ends_b, (ref_mut left.p, (ref_mut left.pe, (ref_mut left.half_weight, (ref_mut left.erasure, (ref_mut left.pos_i, (ref_mut left.pos_j, (ref_mut left.pos_t, (ref_mut left.boundary, (ref_mut left.defect, (ref_mut left.list_lengths, (ref_mut left.neighbor_numbers, tt)))))))))))))))) in
-      create_returned thirteen a (Code v e) s (record {
+      create_returned thirteen a (Ok (code_counts v e)) s (record {
         answers = accepts-of accepted;
         columns_after = record {
           ends_a_after = refl;

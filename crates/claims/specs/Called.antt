@@ -1,14 +1,14 @@
 -- Calls of the engine's functions. `Learnt` is what a caller of a function learns of a call, made from the function's own contract: lifetimes, the arguments
 -- as they were passed, the result, and the parameters at exit. A parameter that is only read is at exit as it was passed.
-use Rattle.std.specs.Prelude.{ℕ, List, [], ◌∷◌, ℤ}
+use Rattle.std.specs.Prelude.{ℕ, List, [], ◌∷◌, ℤ, Result, Ok}
 use contract.Lifetimes.{Lfts}
 use denote.Triple.Clauses.{AtExit}
 use borrow.Fn.World.{ArgsD, ResD}
 use Rattle.learnt.specs.Learnt.{Reading, Learnt, one_fact}
+use Rattle.columns.specs.declared.refusal.Refusal.{Refusal}
+use Rattle.columns.specs.Refusals.{question_of}
 use Rattle.engine_columns.specs.declared.EngineCounts.{EngineCounts}
-use Rattle.engine_columns.specs.declared.EngineAnswer.{EngineAnswer}
-use Rattle.engine_columns.specs.declared.EngineAnswer.TheVariants.{Counts}
-use Rattle.engine_columns.specs.Records.{Engine, engine, kept, engine_said, engine_in}
+use Rattle.engine_columns.specs.Records.{Engine, engine, kept, engine_in}
 use Rattle.engine_columns.specs.Calls.{Call, load_erasures, load_weights, reset}
 use Rattle.engine_columns.specs.Open.{GraphColumns, graph_columns}
 use Rattle.engine_tally.specs.Tally.{lengths_of}
@@ -40,8 +40,8 @@ abbrev reset_reading : (κs : Lfts 6) (a : ArgsD reset_contract.signature κs) (
 reset_reading κs a r s = one_fact _
 
 -- Engine, Open: an open that returned: the counts, what it was handed, the answer, and the engine's columns before and after.
-pub data OpenReturned : (vertices edges : ℕ) (handed lent₀ : GraphColumns) → EngineAnswer → (lent : GraphColumns) → Type 0 where
-  open_returned : (κs : Lfts 8) (a : ArgsD open_contract.signature κs) (r : EngineAnswer) (s : AtExit open_contract.ended κs) → Learnt (open_reading κs a r s)
+pub data OpenReturned : (vertices edges : ℕ) (handed lent₀ : GraphColumns) → Result EngineCounts Refusal → (lent : GraphColumns) → Type 0 where
+  open_returned : (κs : Lfts 8) (a : ArgsD open_contract.signature κs) (r : Result EngineCounts Refusal) (s : AtExit open_contract.ended κs) → Learnt (open_reading κs a r s)
       → OpenReturned a.0 a.1.0
       (graph_columns a.1.1.0.now a.1.1.1.0.now a.1.1.1.1.0.now a.1.1.1.1.1.0.now)
       (graph_columns a.1.1.1.1.1.1.0.now a.1.1.1.1.1.1.1.0.now a.1.1.1.1.1.1.1.1.0.now a.1.1.1.1.1.1.1.1.1.0.now)
@@ -51,22 +51,22 @@ pub data OpenReturned : (vertices edges : ℕ) (handed lent₀ : GraphColumns) �
 -- Engine, Tally, sentence 2: an open that was accepted: the counts, what it was handed, and the engine's columns as it left them, with any log.
 pub data OpenCalled : (vertices edges : ℕ) → GraphColumns → Engine → Type 0 where
   open_called : {vertices edges : ℕ} {handed lent₀ lent : GraphColumns} (c : EngineCounts) (log_edges log_weights : List ℕ)
-      → OpenReturned vertices edges handed lent₀ (Counts c) lent
+      → OpenReturned vertices edges handed lent₀ (Ok c) lent
       → OpenCalled vertices edges handed (engine c lent.ends_a lent.ends_b lent.weights lent.boundary log_edges log_weights)
 
 -- Engine, Load and Reset: a load or a reset that returned: the columns lent, the answer, and the columns as the call left them.
-pub data Called : Call → Engine → EngineAnswer → Engine → Type 0 where
-  load_erasures_called : (κs : Lfts 7) (a : ArgsD erasures_contract.signature κs) (r : EngineAnswer) (s : AtExit erasures_contract.ended κs) → Learnt (erasures_reading κs a r s)
+pub data Called : Call → Engine → Result EngineCounts Refusal → Engine → Type 0 where
+  load_erasures_called : (κs : Lfts 7) (a : ArgsD erasures_contract.signature κs) (r : Result EngineCounts Refusal) (s : AtExit erasures_contract.ended κs) → Learnt (erasures_reading κs a r s)
       → Called (load_erasures a.1.1.1.1.1.1.1.0.now)
       (engine_in a.0 a.1.0.now a.1.1.0.now a.1.1.1.0.now a.1.1.1.1.0.now a.1.1.1.1.1.0.now a.1.1.1.1.1.1.0.now)
       r
       (engine_in (kept a.0 r) a.1.0.now a.1.1.0.now s.1.1.1.0.now a.1.1.1.1.0.now s.1.1.1.1.1.0.now s.1.1.1.1.1.1.0.now)
-  load_weights_called : (κs : Lfts 8) (a : ArgsD weights_contract.signature κs) (r : EngineAnswer) (s : AtExit weights_contract.ended κs) → Learnt (weights_reading κs a r s)
+  load_weights_called : (κs : Lfts 8) (a : ArgsD weights_contract.signature κs) (r : Result EngineCounts Refusal) (s : AtExit weights_contract.ended κs) → Learnt (weights_reading κs a r s)
       → Called (load_weights a.1.1.1.1.1.1.1.0.now a.1.1.1.1.1.1.1.1.0.now)
       (engine_in a.0 a.1.0.now a.1.1.0.now a.1.1.1.0.now a.1.1.1.1.0.now a.1.1.1.1.1.0.now a.1.1.1.1.1.1.0.now)
       r
       (engine_in (kept a.0 r) a.1.0.now a.1.1.0.now s.1.1.1.0.now a.1.1.1.1.0.now s.1.1.1.1.1.0.now s.1.1.1.1.1.1.0.now)
-  reset_called : (κs : Lfts 6) (a : ArgsD reset_contract.signature κs) (r : EngineAnswer) (s : AtExit reset_contract.ended κs) → Learnt (reset_reading κs a r s)
+  reset_called : (κs : Lfts 6) (a : ArgsD reset_contract.signature κs) (r : Result EngineCounts Refusal) (s : AtExit reset_contract.ended κs) → Learnt (reset_reading κs a r s)
       → Called reset
       (engine_in a.0 a.1.0.now a.1.1.0.now a.1.1.1.0.now a.1.1.1.1.0.now a.1.1.1.1.1.0.now a.1.1.1.1.1.1.0.now)
       r
@@ -81,7 +81,7 @@ pub data CrossingCalled : Engine → OwnLengths → CrossingReply → (column₀
 -- as the call before left them; other columns are any.
 pub data Calls : Engine → List ListedCall → List ℕ → Engine → Type 0 where
   no_call : {e : Engine} → Calls e [] [] e
-  modified_then : {e e₁ e₂ : Engine} {cs : List ListedCall} {ns : List ℕ} (call : Call) (r : EngineAnswer)
-      → Called call e r e₁ → Calls e₁ cs ns e₂ → Calls e (modifies (record { call = call; lent = lengths_of e }) ∷ cs) ((engine_said r).number ∷ ns) e₂
+  modified_then : {e e₁ e₂ : Engine} {cs : List ListedCall} {ns : List ℕ} (call : Call) (r : Result EngineCounts Refusal)
+      → Called call e r e₁ → Calls e₁ cs ns e₂ → Calls e (modifies (record { call = call; lent = lengths_of e }) ∷ cs) (question_of r ∷ ns) e₂
   crossed_then : {e e₂ : Engine} {cs : List ListedCall} {ns : List ℕ} (own : OwnLengths) (r : CrossingReply) (column₀ column : List ℤ)
       → CrossingCalled e own r column₀ column → Calls e cs ns e₂ → Calls e (crosses (lengths_of e) own ∷ cs) (reply_number r ∷ ns) e₂

@@ -1,11 +1,11 @@
 -- Demand 3, sentence by sentence.
-use Rattle.std.specs.Prelude.{ℕ, ◌≤◌, ◌<◌, ◌≡◌, ◌↔◌, true, List, [], ◌∷◌, length, get_or, take, replicate, ℤ}
+use Rattle.std.specs.Prelude.{ℕ, ◌≤◌, ◌<◌, ◌≡◌, ◌↔◌, true, List, [], ◌∷◌, length, get_or, take, replicate, ℤ, Result, Ok}
 use Rattle.columns.specs.Questions.{weights_sound}
-use Rattle.columns_answers.specs.Said.{Answered}
+use Rattle.columns_answers.specs.Said.{said, Answered}
 use Rattle.codes_layers.specs.Accepts.{Buildable}
-use Rattle.engine_columns.specs.declared.EngineAnswer.{EngineAnswer}
-use Rattle.engine_columns.specs.declared.EngineAnswer.TheVariants.{Counts}
-use Rattle.engine_columns.specs.Records.{Engine, counts, no_counts, engine_said}
+use Rattle.columns.specs.declared.refusal.Refusal.{Refusal}
+use Rattle.engine_columns.specs.declared.EngineCounts.{EngineCounts}
+use Rattle.engine_columns.specs.Records.{Engine, counts, no_counts}
 use Rattle.engine_columns.specs.Questions.{columns_long}
 use Rattle.engine_columns.specs.Calls.{Call, load_erasures, load_weights}
 use Rattle.engine_columns.specs.Open.{GraphColumns, graph_columns, open_refusal}
@@ -101,8 +101,8 @@ pub record Demand3 : Type 0 where
   -- "This holds after every list of load-erasures, load-weights, reset and crossing calls on a freshly opened graph, refused calls included." For every open, load, reset
   -- and crossing, on any columns, there is an answer, with columns at exit, that its contract permits; that a call ends is part of each function's proof. So every list of
   -- calls on a freshly opened graph has answers and an engine at its end, as `History` has them; one is written out.
-  pub open_returns : (vertices edges : ℕ) (handed lent₀ : GraphColumns) → (r : EngineAnswer) × (lent : GraphColumns) × OpenReturned vertices edges handed lent₀ r lent
-  pub modifying_returns : (call : Call) (e₀ : Engine) → (r : EngineAnswer) × (e : Engine) × Called call e₀ r e
+  pub open_returns : (vertices edges : ℕ) (handed lent₀ : GraphColumns) → (r : Result EngineCounts Refusal) × (lent : GraphColumns) × OpenReturned vertices edges handed lent₀ r lent
+  pub modifying_returns : (call : Call) (e₀ : Engine) → (r : Result EngineCounts Refusal) × (e : Engine) × Called call e₀ r e
   pub crossing_returns : (e : Engine) (weights₀ : List ℤ) (scratch₀ : ScratchColumns)
       → (r : CrossingReply) × (weights : List ℤ) × (scratch : ScratchColumns) × CrossingReturned e r weights₀ weights scratch₀ scratch
   pub list_returns : (vertices edges : ℕ) (handed : GraphColumns) (fresh : Engine) → OpenCalled vertices edges handed fresh → (list : List CallArguments)
@@ -110,11 +110,11 @@ pub record Demand3 : Type 0 where
   pub one_history : OneHistory
   -- Engine, Open; questions at the door, 6 and 7: an open's number is that of the first of these that is not met, 0 where
   -- both are; it answers the counts handed over, with an empty log, where it is 0, and else zeros.
-  pub opened_when : (vertices edges : ℕ) (handed lent₀ : GraphColumns) (r : EngineAnswer) (lent : GraphColumns) → OpenReturned vertices edges handed lent₀ r lent
-      → Answered (engine_said r) (open_refusal vertices edges handed lent₀) (counts vertices edges 0) no_counts
+  pub opened_when : (vertices edges : ℕ) (handed lent₀ : GraphColumns) (r : Result EngineCounts Refusal) (lent : GraphColumns) → OpenReturned vertices edges handed lent₀ r lent
+      → Answered (said no_counts r) (open_refusal vertices edges handed lent₀) (counts vertices edges 0) no_counts
   -- Engine, Tally, sentence 11: "A built code may open with any sound weights." Handed the counts, the ends and the boundary bytes that an accepted builder left, whatever
   -- stands past the counts, and weights that meet questions 6 and 7, every open is accepted whose own columns are long enough.
-  pub built_opens : (kind d rounds vertices edges : ℕ) (ends_a ends_b boundary : List ℕ) (handed lent₀ : GraphColumns) (r : EngineAnswer) (lent : GraphColumns)
+  pub built_opens : (kind d rounds vertices edges : ℕ) (ends_a ends_b boundary : List ℕ) (handed lent₀ : GraphColumns) (r : Result EngineCounts Refusal) (lent : GraphColumns)
       → CodeBuilt kind d rounds vertices edges ends_a ends_b boundary
       → take edges handed.ends_a ≡ take edges ends_a
       → take edges handed.ends_b ≡ take edges ends_b
@@ -122,7 +122,7 @@ pub record Demand3 : Type 0 where
       → edges ≤ length handed.weights → weights_sound edges handed.weights ≡ true
       → columns_long vertices edges lent₀.ends_a lent₀.ends_b lent₀.weights lent₀.boundary ≡ true
       → OpenReturned vertices edges handed lent₀ r lent
-      → r ≡ Counts (counts vertices edges 0)
+      → r ≡ Ok (counts vertices edges 0)
   -- "Each call is accepted or refused as document 01's questions say."
   pub each_call : (h : History) → h.answers ≡ numbers h.calls (tally_first h)
   pub crossing_then : (h : History) (c : CrossingThen h) → reply_number c.reply ≡ tally_crossing_refusal (lengths_of h.at_end) c.own (tally_last h)

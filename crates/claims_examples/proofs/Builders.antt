@@ -1,4 +1,7 @@
 -- Builders that refuse, half weights of every p 0, and the listing's graph from `new`, the logarithm computed. Assumes nothing.
+use Rattle.codes_calls.specs.declared.CodeCounts.{CodeCounts}
+use Rattle.columns.specs.declared.refusal.Refusal.{Refusal}
+use Rattle.std.specs.Prelude.{Option, Result}
 use mathlib.Core.Path.{◌≡◌, refl, sym, ap, ◌∙◌}
 use mathlib.Core.Logic.{◌≢◌}
 use mathlib.Core.Bool.{true}
@@ -9,10 +12,8 @@ use lib.Ieee.{Float, of_bits, to_bits, div, sub, mul, add, lt, eq, le, of_int}
 use Rattle.columns.specs.Lists.{each, joined, layered, over}
 use Rattle.columns.specs.Places.{zero_float}
 use Rattle.columns.specs.Questions.{ask}
-use Rattle.columns.specs.declared.Done.{Done}
 use Rattle.columns.proofs.Columns.{take-over, after-accepted, after-refused}
-use Rattle.columns_answers.specs.Said.{Answered, accepts}
-use Rattle.columns_answers.specs.Done.{done_said}
+use Rattle.columns_answers.specs.Said.{Answered, accepts, said}
 use Rattle.codes_writers.specs.Edges.{straight_edges, straight_rows, firsts, seconds, boundaries}
 use Rattle.codes_planar.specs.Planar.{row_edges, planar_row, planar_layer, planar_gap, capacity_vertex}
 use Rattle.codes_rotated.specs.Rotated.{rotated_place, rotated_edge, rotated_row, rotated_layer, rotated_gap, rotated_boundary, rotated_vertex}
@@ -23,15 +24,13 @@ use Rattle.weights_recipe.specs.Logarithm.{halve, series, logarithm, edge_weight
 use Rattle.weights_recipe.specs.Rounding.{scaled, reaches, seek, greatest, half_weight}
 use Rattle.weights_recipe.specs.Probabilities.{is_probability}
 use Rattle.weights_calls.specs.Calls.{half_weights, compute_refusal, largest, some_above, ComputedWeights}
-use Rattle.codes_calls.specs.declared.Created.{Created}
 use Rattle.codes_calls.specs.Columns.{CodeColumns, vertex_room, edge_room, long_enough, HandedBack}
-use Rattle.codes_calls.specs.CreateCode.{created_said, create_refusal, CreateCode}
+use Rattle.codes_calls.specs.CreateCode.{create_refusal, CreateCode, code_counts, no_counts}
 use Rattle.codes_calls.specs.NewCode.{new_refusal, new_refusal_in, NewCode, NewDiagonal}
 use Rattle.codes_calls.specs.Probabilities.{probabilities, diagonal_of}
 use Rattle.access_vertices.specs.Weights.{weights as doubled}
 use Rattle.engine_columns.specs.Open.{graph_columns}
 use Rattle.weights_claims.specs.Called.{WeightsReturned, weights_returned}
-use Rattle.weights_diagonal.specs.declared.DiagonalProbability.{DiagonalProbability}
 use Rattle.claims.specs.BuildersCalled.{CreateReturned, create_returned, NewReturned, new_returned, NewDiagonalReturned, new_diagonal_returned, CodeBuilt}
 use Rattle.claims.proofs.Built.{built_of}
 use Rattle.claims_examples.specs.Starred.{RefusedBy, BuildersRefuse, CreateGives, KindFive, listing_p, graph_of_code, listing_graph}
@@ -56,20 +55,20 @@ kept q new c₀ c f h = λ i. record {
   neighbor_numbers = (h.neighbor_numbers_after ∙ after-refused q new.neighbor_numbers c₀.neighbor_numbers f) i;
 }
 
-refused_by : (n q : ℕ) (v : ℕ × ℕ) (new c₀ c : CodeColumns) (r : Created) → Answered (created_said r) q v (0, 0) → HandedBack q new c₀ c → q ≡ n → n ≢ 0 → RefusedBy n c₀ c r
+refused_by : (n q : ℕ) (v : CodeCounts) (new c₀ c : CodeColumns) (r : Result CodeCounts Refusal) → Answered (said no_counts r) q v no_counts → HandedBack q new c₀ c → q ≡ n → n ≢ 0 → RefusedBy n c₀ c r
 refused_by n q v new c₀ c r a h e f = (said-refuses n a e f, kept q new c₀ c (λ z. f (sym e ∙ z)) h)
 
-created_of : (kind d rounds : ℕ) (c₀ c : CodeColumns) (r : Created) → CreateReturned kind d rounds c₀ c r → CreateCode kind d rounds c₀ c r
+created_of : (kind d rounds : ℕ) (c₀ c : CodeColumns) (r : Result CodeCounts Refusal) → CreateReturned kind d rounds c₀ c r → CreateCode kind d rounds c₀ c r
 created_of kind d rounds c₀ c r (create_returned κs a q s h) = h
 
-new_of : (kind d rounds : ℕ) (p : Float) (max : ℕ) (c₀ c : CodeColumns) (r : Created) → NewReturned kind d rounds p max c₀ c r → NewCode kind d rounds p max c₀ c r
+new_of : (kind d rounds : ℕ) (p : Float) (max : ℕ) (c₀ c : CodeColumns) (r : Result CodeCounts Refusal) → NewReturned kind d rounds p max c₀ c r → NewCode kind d rounds p max c₀ c r
 new_of kind d rounds p max c₀ c r (new_returned κs a q s h) = h
 
-diagonal_of_lem : (d rounds : ℕ) (p : Float) (diagonal : DiagonalProbability) (max : ℕ) (c₀ c : CodeColumns) (r : Created) → NewDiagonalReturned d rounds p diagonal max c₀ c r
+diagonal_of_lem : (d rounds : ℕ) (p : Float) (diagonal : Option Float) (max : ℕ) (c₀ c : CodeColumns) (r : Result CodeCounts Refusal) → NewDiagonalReturned d rounds p diagonal max c₀ c r
     → NewDiagonal d rounds p diagonal max c₀ c r
 diagonal_of_lem d rounds p diagonal max c₀ c r (new_diagonal_returned κs a q s h) = h
 
-computed_of : (n : ℕ) (p : List Float) (max : ℕ) (column₀ column : List ℕ) (r : Done) → WeightsReturned n p column₀ max r column → ComputedWeights n p column₀ max column r
+computed_of : (n : ℕ) (p : List Float) (max : ℕ) (column₀ column : List ℕ) (r : Result (Unit {0}) Refusal) → WeightsReturned n p column₀ max r column → ComputedWeights n p column₀ max column r
 computed_of n p max column₀ column r (weights_returned κs a q s h) = h
 
 -- a number of questions 2 to 5 refuses every builder, whatever the later questions say
@@ -104,7 +103,7 @@ unfolding create_refusal
 gives kind d rounds v e met same-v same-e c₀ c r x long =
     let h = created_of kind d rounds c₀ c r x in
     let z = met _ ∙ (λ i. ask (long_enough (same-v i) (same-e i) (vertex_room c₀) (edge_room c₀) (length c₀.neighbor_numbers)) 6 0) ∙ (λ i. ask (long i) 6 0) in
-    said-accepts h.answers z ∙ (λ i. accepts (same-v i, same-e i))
+    said-accepts h.answers z ∙ (λ i. accepts (code_counts (same-v i) (same-e i)))
 
 pub circuit_24_41 : CreateGives 4 3 1 24 41
 unfolding code_refusal kind_known distance_sound rounds_sound layer_vertex_num layer_edge_num gap_edge_num
@@ -172,7 +171,7 @@ listing-places c₀ c l = (
   ap (take 4) l.boundary_is ∙ take-over (boundaries (vertices_of 1 3 0)) c₀.boundary 4 three-edges.2,
 )
 
-module _ (c₀ c : CodeColumns) (r : Created) (x : NewReturned 1 3 0 listing_p 500 c₀ c r) (long : long_enough 4 3 (vertex_room c₀) (edge_room c₀) (length c₀.neighbor_numbers) ≡ true) where
+module _ (c₀ c : CodeColumns) (r : Result CodeCounts Refusal) (x : NewReturned 1 3 0 listing_p 500 c₀ c r) (long : long_enough 4 3 (vertex_room c₀) (edge_room c₀) (length c₀.neighbor_numbers) ≡ true) where
   abbrev h : NewCode 1 3 0 listing_p 500 c₀ c r
   h = new_of 1 3 0 listing_p 500 c₀ c r x
 
@@ -191,15 +190,15 @@ module _ (c₀ c : CodeColumns) (r : Created) (x : NewReturned 1 3 0 listing_p 5
     boundary_is = h.columns_after.boundary_after ∙ after-accepted q (boundaries (vertices_of 1 3 0)) c₀.boundary z;
   }
 
-  pub listing_built : (created_said r ≡ accepts (4, 3)) × (graph_of_code c ≡ listing_graph)
+  pub listing_built : (said no_counts r ≡ accepts (code_counts 4 3)) × (graph_of_code c ≡ listing_graph)
   unfolding layer_vertex_num layer_edge_num gap_edge_num
   listing_built = let (a, b, w, m) = listing-places c₀ c listing-left in (said-accepts h.answers z, λ i. graph_columns (a i) (b i) (w i) (m i))
 
 -- ---- every p 0
 
-pub computed_ones : (max n : ℕ) (column₀ column : List ℕ) (r : Done) → compute_refusal n (replicate n zero_float) column₀ max ≡ 0 → take n (replicate n zero_float) ≡ replicate n zero_float
+pub computed_ones : (max n : ℕ) (column₀ column : List ℕ) (r : Result (Unit {0}) Refusal) → compute_refusal n (replicate n zero_float) column₀ max ≡ 0 → take n (replicate n zero_float) ≡ replicate n zero_float
     → half_weights max (replicate n zero_float) ≡ replicate n 1
-    → WeightsReturned n (replicate n zero_float) column₀ max r column → (done_said r ≡ accepts tt) × (column ≡ over (replicate n 1) column₀)
+    → WeightsReturned n (replicate n zero_float) column₀ max r column → (said tt r ≡ accepts tt) × (column ≡ over (replicate n 1) column₀)
 computed_ones max n column₀ column r z t e x =
     let c = computed_of n (replicate n zero_float) max column₀ column r x in
     (said-accepts c.answers z, c.column_after ∙ after-accepted _ (half_weights max (take n (replicate n zero_float))) column₀ z ∙ ap (λ y. over y column₀) (ap (half_weights max) t ∙ e))

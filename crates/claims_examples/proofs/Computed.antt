@@ -1,4 +1,6 @@
 -- Document 01's starred examples, by computation. Assumes nothing.
+use Rattle.columns.specs.declared.refusal.Refusal.TheVariants.{BadDistance}
+use Rattle.std.specs.Prelude.{Err}
 use mathlib.Core.Path.{◌≡◌, refl, ap, ◌∙◌}
 use mathlib.Core.Bool.{true, ◌&&◌}
 use mathlib.Core.List.{List, [], ◌∷◌, map}
@@ -24,7 +26,6 @@ use Rattle.codes_layers.specs.Accepts.{kind_known, distance_sound, rounds_sound,
 use Rattle.weights_calls.specs.Calls.{is_largest_half_weight, half_weights, largest_weight, compute_refusal, some_above, edge_weights}
 use Rattle.weights_recipe.specs.Probabilities.{is_probability}
 use Rattle.columns.specs.Limits.{edge_limit, half_weight_limit}
-use Rattle.codes_questions.specs.declared.Count.TheVariants.{Refused}
 use Rattle.columns_answers.proofs.Said.{accepts-of, refuses-of}
 use Rattle.codes_questions.specs.Answers.{CountsVertices}
 use Rattle.weights_recipe.specs.Rounding.{half_weight}
@@ -81,7 +82,7 @@ zeros_asked max (suc n) column h one few long =
     λ i. ask (room i) 6 (ask (le-leb (suc n) edge_limit few i) 7 (ask (h i) 8 (ask ((ap (all is_probability) t ∙ all_zero (suc n)) i) 9 (ask ((ap (λ xs. some_above (edge_weights xs)) t ∙ some_infinite n) i) 10 0))))
 
 -- an even distance is refused for every kind
-even : (kind rounds : ℕ) → kind_known kind ≡ true → CountsVertices kind 4 rounds (Refused 3)
+even : (kind rounds : ℕ) → kind_known kind ≡ true → CountsVertices kind 4 rounds (Err BadDistance)
 unfolding code_refusal distance_sound
 even kind rounds h = refuses-of (rw h) (λ e. absurd (omega arith))
 

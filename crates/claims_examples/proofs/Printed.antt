@@ -1,4 +1,6 @@
 -- The example line and its listing, by computation, the logarithm included. Assumes nothing.
+use Rattle.columns.specs.declared.refusal.Refusal.{Refusal}
+use Rattle.std.specs.Prelude.{Result}
 use Prim.Native.Nat.{ℕ, ◌≤◌}
 use mathlib.Core.Path.{◌≡◌, refl, ap, ◌∙◌}
 use mathlib.Core.List.{List}
@@ -8,7 +10,7 @@ use borrow.Author.Tests.{le-leb}
 use Rattle.columns.specs.Lists.{each, joined, layered, over}
 use Rattle.columns.specs.Questions.{ask, all}
 use Rattle.columns.proofs.Columns.{after-accepted}
-use Rattle.columns_answers.specs.Said.{accepts}
+use Rattle.columns_answers.specs.Said.{accepts, said}
 use Rattle.weights_recipe.specs.Logarithm.{halve, series, logarithm, edge_weight}
 use Rattle.weights_recipe.specs.Rounding.{scaled, reaches, seek, greatest, half_weight}
 use Rattle.weights_recipe.specs.Probabilities.{is_probability}
@@ -27,8 +29,7 @@ use Rattle.access_vertices.specs.Weights.{weights}
 use Rattle.text_input.specs.Line.{digits, number, decimal_sound, decimal_of, hex_sound, hex_of, well_formed}
 use Rattle.text_numbers.specs.Text.{size_in, digits_of, decimal, ended, vertex_lines, edge_lines, listing}
 use Rattle.text_listing.specs.Listing.{list_refusal, weights_of, crossing_of, listing_of, code_text}
-use Rattle.text_answer.specs.declared.Listed.{Listed}
-use Rattle.text_answer.specs.Answer.{answer_text, text_room, text_said, text_refusal, CodeListed}
+use Rattle.text_answer.specs.Answer.{answer_text, text_room, text_refusal, CodeListed}
 use Rattle.claims_examples.specs.Listing.{bytes_of, example_line, example_listing, CodelistReturned, codelist_returned, ListingPrinted}
 use Rattle.claims_examples.proofs.Answers.{said-accepts}
 
@@ -36,13 +37,13 @@ text : answer_text (bytes_of example_line) ≡ bytes_of example_listing
 unfolding div sub add mul lt eq le of_int of_bits to_bits halve series logarithm edge_weight scaled reaches seek greatest half_weight largest some_above is_probability probabilities each joined layered all straight_edges straight_rows row_edges planar_row planar_layer planar_gap planar_boundary capacity_vertex rows width layer_edges gap_edges edges_of vertex_of layer_vertices vertices_of layer_vertex_num layer_edge_num gap_edge_num kind_known distance_sound rounds_sound code_refusal built_graph first_least start changes by_status offer relax_edge relax S.take_vertex stopped next settle from_left nearest_right crossing weights digits number decimal_sound decimal_of hex_sound hex_of well_formed size_in digits_of decimal ended vertex_lines edge_lines listing list_refusal weights_of crossing_of listing_of code_text
 text = refl
 
-by_text : (input text₀ column : List ℕ) (r : Listed) → CodeListed input text₀ column r → text_room ≤ length text₀ → (bytes : List ℕ) → answer_text input ≡ bytes
-    → (text_said r ≡ accepts (length bytes)) × (column ≡ over bytes text₀)
+by_text : (input text₀ column : List ℕ) (r : Result ℕ Refusal) → CodeListed input text₀ column r → text_room ≤ length text₀ → (bytes : List ℕ) → answer_text input ≡ bytes
+    → (said 0 r ≡ accepts (length bytes)) × (column ≡ over bytes text₀)
 by_text input text₀ column r c room bytes e =
     let z : text_refusal text₀ ≡ 0 = ap (λ b. ask b 6 0) (le-leb text_room (length text₀) room) in
     (said-accepts c.answers z ∙ ap (λ t. accepts (length t)) e, c.text_after ∙ after-accepted (text_refusal text₀) (answer_text input) text₀ z ∙ ap (λ t. over t text₀) e)
 
-listed_of : (input text₀ column : List ℕ) (r : Listed) → CodelistReturned input text₀ column r → CodeListed input text₀ column r
+listed_of : (input text₀ column : List ℕ) (r : Result ℕ Refusal) → CodelistReturned input text₀ column r → CodeListed input text₀ column r
 listed_of input text₀ column r (codelist_returned κs a q s h) = h
 
 pub printed : ListingPrinted

@@ -1,20 +1,19 @@
 -- Document 01's "Checked examples", those with a star, about the definitions that the contracts cite and about calls of the real functions.
-use Rattle.std.specs.Prelude.{◌≡◌, true, List, [], ◌∷◌, ℕ, ◌≤◌, length, take, replicate, Float, Result}
+use Rattle.columns.specs.declared.refusal.Refusal.TheVariants.{BadDistance, TooManyVertices}
+use Rattle.codes_calls.specs.declared.CodeCounts.{CodeCounts}
+use Rattle.codes_calls.specs.CreateCode.{code_counts, no_counts}
+use Rattle.columns.specs.declared.refusal.Refusal.{Refusal}
+use Rattle.std.specs.Prelude.{◌≡◌, true, List, [], ◌∷◌, ℕ, ◌≤◌, length, take, replicate, Float, Option, Result, Ok, Err}
 use Rattle.std.proofs.Math.Option.{Option, some}
 use Rattle.std.specs.Float.{binary64}
 use Rattle.std.specs.Float.Ieee.{of_bits}
 use Rattle.columns.specs.Lists.{over}
-use Rattle.columns.specs.declared.Done.{Done}
 use Rattle.columns_answers.specs.Said.{accepts, refuses, said}
-use Rattle.columns_answers.specs.Done.{done_said}
 use Rattle.columns.specs.Places.{zero_float}
 use Rattle.codes_writers.specs.Edges.{firsts, seconds, boundaries}
 use Rattle.codes_layers.specs.Codes.{edges_of, vertices_of}
-use Rattle.codes_questions.specs.declared.Count.TheVariants.{Counted, Refused}
 use Rattle.codes_questions.specs.Answers.{CountsVertices, CountsEdges}
-use Rattle.codes_calls.specs.declared.Created.{Created}
 use Rattle.codes_calls.specs.Columns.{CodeColumns, vertex_room, edge_room, long_enough}
-use Rattle.codes_calls.specs.CreateCode.{created_said}
 use Rattle.columns.specs.declared.refusal.Refusal.{Refusal}
 use Rattle.access_vertices.specs.Weights.{weights as doubled}
 use Rattle.access_calls.specs.Calls.{code, Initializer}
@@ -32,7 +31,6 @@ use Rattle.query_crossing_answer.specs.declared.CrossingReply.TheVariants.{Cross
 use Rattle.query_paths.specs.declared.PathAnswer.{PathAnswer}
 use Rattle.query_paths.specs.GetPath.{found_said, path_asked, path_refusal}
 use Rattle.weights_claims.specs.Called.{WeightsReturned}
-use Rattle.weights_diagonal.specs.declared.DiagonalProbability.{DiagonalProbability}
 use Rattle.claims.specs.BuildersCalled.{CreateReturned, NewReturned, NewDiagonalReturned, CodeBuilt}
 use Rattle.claims_examples.specs.Called.{InitializerReturned}
 use Rattle.claims.specs.Listed.{CallArguments, modify_by, listed_calls, tally_graph, tally_weights}
@@ -67,22 +65,22 @@ listing_engine = engine (counts 4 3 0) listing_graph.ends_a listing_graph.ends_b
 -- ---- builders
 
 -- Questions at the door, sentence 2: a builder's answer is a refusal by number q, other result fields 0, and no column changed.
-abbrev pub RefusedBy : ℕ → (c₀ c : CodeColumns) → Created → Type 0
-RefusedBy q c₀ c r = (created_said r ≡ refuses q (0, 0)) × (c ≡ c₀)
+abbrev pub RefusedBy : ℕ → (c₀ c : CodeColumns) → Result CodeCounts Refusal → Type 0
+RefusedBy q c₀ c r = (said no_counts r ≡ refuses q no_counts) × (c ≡ c₀)
 
 -- Six builders; Weights: whatever columns it is lent, and whatever p, M and diagonal probability it is given,
 -- each builder refuses by number q: `create_code`, `new`, and of kind 4 `new_diagonal`.
 pub record BuildersRefuse (kind d rounds q : ℕ) : Type 0 where
-  pub create : (c₀ c : CodeColumns) (r : Created) → CreateReturned kind d rounds c₀ c r → RefusedBy q c₀ c r
-  pub new : (p : Float) (max : ℕ) (c₀ c : CodeColumns) (r : Created) → NewReturned kind d rounds p max c₀ c r → RefusedBy q c₀ c r
-  pub new_diagonal_holds : kind ≡ 4 → (p : Float) (diagonal : DiagonalProbability) (max : ℕ) (c₀ c : CodeColumns) (r : Created)
+  pub create : (c₀ c : CodeColumns) (r : Result CodeCounts Refusal) → CreateReturned kind d rounds c₀ c r → RefusedBy q c₀ c r
+  pub new : (p : Float) (max : ℕ) (c₀ c : CodeColumns) (r : Result CodeCounts Refusal) → NewReturned kind d rounds p max c₀ c r → RefusedBy q c₀ c r
+  pub new_diagonal_holds : kind ≡ 4 → (p : Float) (diagonal : Option Float) (max : ℕ) (c₀ c : CodeColumns) (r : Result CodeCounts Refusal)
       → NewDiagonalReturned d rounds p diagonal max c₀ c r → RefusedBy q c₀ c r
 
 -- Six builders: wherever the columns lent are long enough, `create_code` answers with v vertices and e edges.
 abbrev pub CreateGives : (kind d rounds v e : ℕ) → Type 0
 CreateGives kind d rounds v e =
-    (c₀ c : CodeColumns) (r : Created) → CreateReturned kind d rounds c₀ c r → long_enough v e (vertex_room c₀) (edge_room c₀) (length c₀.neighbor_numbers) ≡ true
-    → created_said r ≡ accepts (v, e)
+    (c₀ c : CodeColumns) (r : Result CodeCounts Refusal) → CreateReturned kind d rounds c₀ c r → long_enough v e (vertex_room c₀) (edge_room c₀) (length c₀.neighbor_numbers) ≡ true
+    → said no_counts r ≡ accepts (code_counts v e)
 
 -- Checked examples, d 3, kind 5: the counts of the code, and its edges and boundary bytes in the columns' first places.
 pub record KindFive (v e : ℕ) (ends_a ends_b boundary : List ℕ) : Type 0 where
@@ -141,34 +139,34 @@ pub record StarredExamples : Type 0 where
   pub kind_5_built : CreateGives 5 3 0 8 9
   pub kind_5_left : (v e : ℕ) (ends_a ends_b boundary : List ℕ) → CodeBuilt 5 3 0 v e ends_a ends_b boundary → KindFive v e ends_a ends_b boundary
   -- "d 3, kind 4, rounds 1: 24 vertices, 41 edges. Kind 6: 16 and 26."
-  pub kind_4_vertices : CountsVertices 4 3 1 (Counted 24)
-  pub kind_4_edges : CountsEdges 4 3 1 (Counted 41)
-  pub kind_6_vertices : CountsVertices 6 3 1 (Counted 16)
-  pub kind_6_edges : CountsEdges 6 3 1 (Counted 26)
+  pub kind_4_vertices : CountsVertices 4 3 1 (Ok 24)
+  pub kind_4_edges : CountsEdges 4 3 1 (Ok 41)
+  pub kind_6_vertices : CountsVertices 6 3 1 (Ok 16)
+  pub kind_6_edges : CountsEdges 6 3 1 (Ok 26)
   pub kind_4_lists : (length (vertices_of 4 3 1) ≡ 24) × (length (edges_of 4 3 1) ≡ 41)
   pub kind_6_lists : (length (vertices_of 6 3 1) ≡ 16) × (length (edges_of 6 3 1) ≡ 26)
   pub kind_4_built : CreateGives 4 3 1 24 41
   pub kind_6_built : CreateGives 6 3 1 16 26
   -- "Kind 2: d 63 gives 4,032 vertices; d 65 refuses 5."
-  pub kind_2_d_63 : CountsVertices 2 63 0 (Counted 4032)
-  pub kind_2_d_65 : CountsVertices 2 65 0 (Refused 5)
+  pub kind_2_d_63 : CountsVertices 2 63 0 (Ok 4032)
+  pub kind_2_d_65 : CountsVertices 2 65 0 (Err TooManyVertices)
   pub kind_2_d_63_list : length (vertices_of 2 63 0) ≡ 4032
   pub kind_2_d_63_built : CreateGives 2 63 0 4032 7813
   pub kind_2_d_65_built : BuildersRefuse 2 65 0 5
   -- "Kind 3, d 3: rounds 340 gives 4,092; 341 refuses 5."
-  pub kind_3_rounds_340 : CountsVertices 3 3 340 (Counted 4092)
-  pub kind_3_rounds_341 : CountsVertices 3 3 341 (Refused 5)
+  pub kind_3_rounds_340 : CountsVertices 3 3 340 (Ok 4092)
+  pub kind_3_rounds_341 : CountsVertices 3 3 341 (Err TooManyVertices)
   pub kind_3_rounds_340_list : length (vertices_of 3 3 340) ≡ 4092
   pub kind_3_rounds_340_built : CreateGives 3 3 340 4092 6473
   pub kind_3_rounds_341_built : BuildersRefuse 3 3 341 5
   -- "d 4: 3." For every kind.
-  pub d_4 : (kind rounds : ℕ) → kind_known kind ≡ true → CountsVertices kind 4 rounds (Refused 3)
+  pub d_4 : (kind rounds : ℕ) → kind_known kind ≡ true → CountsVertices kind 4 rounds (Err BadDistance)
   pub d_4_built : (kind rounds : ℕ) → kind_known kind ≡ true → BuildersRefuse kind 4 rounds 3
   -- "The listing's graph": `new` with the kind, d, rounds, p and M of the example line builds it, wherever the columns lent are long enough.
-  pub listing_built : (c₀ c : CodeColumns) (r : Created) → NewReturned 1 3 0 listing_p 500 c₀ c r → long_enough 4 3 (vertex_room c₀) (edge_room c₀) (length c₀.neighbor_numbers) ≡ true
-      → (created_said r ≡ accepts (4, 3)) × (graph_of_code c ≡ listing_graph)
+  pub listing_built : (c₀ c : CodeColumns) (r : Result CodeCounts Refusal) → NewReturned 1 3 0 listing_p 500 c₀ c r → long_enough 4 3 (vertex_room c₀) (edge_room c₀) (length c₀.neighbor_numbers) ≡ true
+      → (said no_counts r ≡ accepts (code_counts 4 3)) × (graph_of_code c ≡ listing_graph)
   -- Weights, get_initializer: called on it then, `get_initializer` hands this graph on, with two virtual vertices, wherever its own columns have room.
-  pub listing_handed_on : (c₀ c : CodeColumns) (r : Created) (to₀ to : Initializer) (n : Result ℕ Refusal) → NewReturned 1 3 0 listing_p 500 c₀ c r
+  pub listing_handed_on : (c₀ c : CodeColumns) (r : Result CodeCounts Refusal) (to₀ to : Initializer) (n : Result ℕ Refusal) → NewReturned 1 3 0 listing_p 500 c₀ c r
       → long_enough 4 3 (vertex_room c₀) (edge_room c₀) (length c₀.neighbor_numbers) ≡ true
       → InitializerReturned 4 3 (code c.ends_a c.ends_b c.half_weight c.boundary) to₀ to n → InitializerRoom to₀
       → (said 0 n ≡ accepts 2) × (graph_handed_on c to ≡ listing_graph)
@@ -192,8 +190,8 @@ pub record StarredExamples : Type 0 where
   pub every_p_0 : (max n : ℕ) → is_largest_half_weight max ≡ true → half_weights max (replicate n zero_float) ≡ replicate n 1
   pub every_p_0_asked : (max n : ℕ) (column : List ℕ) → is_largest_half_weight max ≡ true → 1 ≤ n → n ≤ edge_limit → n ≤ length column
       → compute_refusal n (replicate n zero_float) column max ≡ 0
-  pub every_p_0_computed : (max n : ℕ) (column₀ column : List ℕ) (r : Done) → is_largest_half_weight max ≡ true → 1 ≤ n → n ≤ edge_limit → n ≤ length column₀
-      → WeightsReturned n (replicate n zero_float) column₀ max r column → (done_said r ≡ accepts tt) × (column ≡ over (replicate n 1) column₀)
+  pub every_p_0_computed : (max n : ℕ) (column₀ column : List ℕ) (r : Result (Unit {0}) Refusal) → is_largest_half_weight max ≡ true → 1 ≤ n → n ≤ edge_limit → n ≤ length column₀
+      → WeightsReturned n (replicate n zero_float) column₀ max r column → (said tt r ≡ accepts tt) × (column ≡ over (replicate n 1) column₀)
   -- "Path 2 to 2: 16."
   pub path_2_2 : path_refusal (path_asked listing_engine true 2 2 4 4) (path (Q.graph_in listing_engine) (Q.weights_in listing_engine) 2 2) ≡ 16
   pub path_2_2_called : (e : Engine) (r : PathAnswer) (columns₀ columns : PathColumns) (scratch₀ scratch : ScratchColumns) → OpenCalled 4 3 listing_graph e

@@ -11,7 +11,7 @@ use Rattle.columns.specs.Questions.{ask}
 use Rattle.columns.proofs.Columns.{sets_over}
 use Rattle.codes_layers.specs.Counts.{vertex_num, edge_num}
 use Rattle.codes_layers.specs.Accepts.{code_refusal}
-use Rattle.codes_questions.proofs.Clamped.{next_same}
+use Rattle.codes_questions.proofs.Later.{next_same}
 use Rattle.codes_calls.specs.Columns.{long_enough}
 use Rattle.codes_calls.specs.CreateCode.{create_refusal}
 
@@ -20,16 +20,3 @@ filled v x₀ m e h l = e ∙ ap (λ (k : ℕ). sets x₀ 0 (replicate k v)) h �
 
 pub written : {A B : Type 0} (f : A → B) (es : List A) (x₀ : List B) {x : List B} → x ≡ sets x₀ 0 (map f es) → length es ≤ length x₀ → x ≡ over (map f es) x₀
 written f es x₀ e l = e ∙ sets_over x₀ (map f es) (omega (arith, length-map es f))
-
--- question 6, asked of counts within the limits
-pub question_6 : (kind d rounds vr er nl d' rounds' q met v e : _) → ◌≡◌ {A = ℕ} q (ask met 6 0) → ◌≡◌ {A = Bool} met (long_enough v e vr er nl) → v ≡ vertex_num kind d' rounds' → e ≡ edge_num kind d' rounds'
-    → (3 ≤ d → d ≤ 4095 → d' ≡ d) → (rounds ≤ 4095 → rounds' ≡ rounds) → code_refusal kind d rounds q ≡ create_refusal kind d rounds vr er nl
-unfolding create_refusal
-question_6 kind d rounds vr er nl d' rounds' q met v e a b c h f g =
-    next_same kind d rounds q _ (λ x y z. a ∙ ap (λ (m : Bool). ask m 6 0) (b ∙ λ k. long_enough ((c ∙ ap₂' x y z) k) ((h ∙ ap₂'' x y z) k) vr er nl))
-  where
-    ap₂' : 3 ≤ d → d ≤ 4095 → rounds ≤ 4095 → vertex_num kind d' rounds' ≡ vertex_num kind d rounds
-    ap₂' x y z = λ k. vertex_num kind (f x y k) (g z k)
-
-    ap₂'' : 3 ≤ d → d ≤ 4095 → rounds ≤ 4095 → edge_num kind d' rounds' ≡ edge_num kind d rounds
-    ap₂'' x y z = λ k. edge_num kind (f x y k) (g z k)

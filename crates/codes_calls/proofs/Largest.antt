@@ -1,4 +1,5 @@
 -- The largest weight of a code's edges, from its two probabilities. Assumes nothing.
+use Rattle.std.specs.Prelude.{Option, None, Some}
 use mathlib.Core.Path.{◌≡◌, refl, sym, ap, ◌∙◌, subst}
 use mathlib.Core.Logic.{inl, inr}
 use mathlib.Core.Bool.{Bool, true, false, cond}
@@ -14,8 +15,6 @@ use Rattle.codes_layers.proofs.Accepted.{Accepted}
 use Rattle.weights_recipe.specs.Logarithm.{edge_weight}
 use Rattle.weights_diagonal.specs.Diagonal.{replaced}
 use Rattle.weights_calls.specs.Calls.{larger, largest, largest_weight, edge_weights}
-use Rattle.weights_diagonal.specs.declared.DiagonalProbability.{DiagonalProbability}
-use Rattle.weights_diagonal.specs.declared.DiagonalProbability.TheVariants.{None, Given}
 use Rattle.codes_calls.specs.Probabilities.{probabilities}
 use Rattle.codes_weights.specs.Steps.{diagonal_p, largest_of}
 use Rattle.codes_calls.specs.WeightedSteps.{DiagonalKind}
@@ -23,16 +22,16 @@ use Rattle.codes_calls.proofs.TwoWeights.{weight_of, first-v, all_first, some-ei
 use Rattle.codes_calls.proofs.Diagonals.{diagonal_edge, some_edge, none-diagonal, first_plain, some-diagonal}
 
 -- an edge that is not diagonal has p
-plain : (diagonal : DiagonalProbability) (p : Float) → replaced diagonal p false ≡ p
+plain : (diagonal : Option Float) (p : Float) → replaced diagonal p false ≡ p
 plain None p = refl
-plain (Given x) p = refl
+plain (Some x) p = refl
 
 -- the p of an edge by whether it is diagonal
-pub by_test : (diagonal : DiagonalProbability) (p : Float) (b : Bool) → replaced diagonal p b ≡ cond b (diagonal_p p diagonal) p
+pub by_test : (diagonal : Option Float) (p : Float) (b : Bool) → replaced diagonal p b ≡ cond b (diagonal_p p diagonal) p
 by_test diagonal p true = refl
 by_test diagonal p false = plain diagonal p
 
-weights_are : {A : Type 0} (test : A → Bool) (p : Float) (diagonal : DiagonalProbability) (xs : List A)
+weights_are : {A : Type 0} (test : A → Bool) (p : Float) (diagonal : Option Float) (xs : List A)
     → edge_weights (map (λ x. replaced diagonal p (test x)) xs) ≡ map (weight_of (edge_weight p) (edge_weight (diagonal_p p diagonal)) test) xs
 weights_are test p diagonal [] = refl
 weights_are test p diagonal (x ∷ xs) = λ k. (ap edge_weight (by_test diagonal p (test x)) ∙ go (test x)) k ∷ weights_are test p diagonal xs k
@@ -50,7 +49,7 @@ all_p test p (x ∷ xs) = λ k. go (test x) k ∷ all_p test p xs k
     go true = refl
     go false = refl
 
-module _ (kind d rounds : ℕ) (p : Float) (diagonal : DiagonalProbability) (ok : Accepted kind d rounds) where
+module _ (kind d rounds : ℕ) (p : Float) (diagonal : Option Float) (ok : Accepted kind d rounds) where
   abbrev v : Float
   v = edge_weight p
 
@@ -71,7 +70,7 @@ module _ (kind d rounds : ℕ) (p : Float) (diagonal : DiagonalProbability) (ok 
 
   absent : diagonal ≡ None → largest_weight (probabilities kind d rounds p diagonal) ≡ largest_of rounds p diagonal
   absent e =
-      let same : w ≡ v = ap (λ (x : DiagonalProbability). edge_weight (diagonal_p p x)) e in
+      let same : w ≡ v = ap (λ (x : Option Float). edge_weight (diagonal_p p x)) e in
       let all : largest_weight (probabilities kind d rounds p diagonal) ≡ larger zero_float v =
       weights-of ∙ ap (λ (x : Float). largest zero_float (map (weight_of v x (diagonal_edge kind d rounds)) (edges_of kind d rounds))) same
       ∙ ap (largest zero_float) (all_p (diagonal_edge kind d rounds) p (edges_of kind d rounds))
@@ -81,7 +80,7 @@ module _ (kind d rounds : ℕ) (p : Float) (diagonal : DiagonalProbability) (ok 
         | no f ↦ all ∙ sym (first-v v v) ∙ ap (larger (larger zero_float v)) (sym same) ∙ sym (some-rounds f)
       ]
 
-circuit : (d rounds : ℕ) (p : Float) (diagonal : DiagonalProbability) (ok : Accepted 4 d rounds) → largest_weight (probabilities 4 d rounds p diagonal) ≡ largest_of rounds p diagonal
+circuit : (d rounds : ℕ) (p : Float) (diagonal : Option Float) (ok : Accepted 4 d rounds) → largest_weight (probabilities 4 d rounds p diagonal) ≡ largest_of rounds p diagonal
 circuit d rounds p diagonal ok = elim (ℕ_discrete rounds 0) [
   | yes z ↦ weights-of 4 d rounds p diagonal ok
       ∙ all_first _ _ (diagonal_edge 4 d rounds) (edges_of 4 d rounds) (0, 0) (first_plain d rounds ok).1 (none-diagonal d rounds ok z) ∙ sym (no-rounds 4 d rounds p diagonal ok z)
@@ -91,7 +90,7 @@ circuit d rounds p diagonal ok = elim (ℕ_discrete rounds 0) [
       ∙ some-either _ _ (diagonal_edge 4 d rounds) (edges_of 4 d rounds) (0, 0) (first_plain d rounds ok).1 (first_plain d rounds ok).0 s.0 s.1.0 s.1.1 ∙ sym (some-rounds 4 d rounds p diagonal ok f)
 ]
 
-pub largest_is : (kind d rounds : ℕ) (p : Float) (diagonal : DiagonalProbability) (ok : Accepted kind d rounds) → DiagonalKind kind diagonal
+pub largest_is : (kind d rounds : ℕ) (p : Float) (diagonal : Option Float) (ok : Accepted kind d rounds) → DiagonalKind kind diagonal
     → largest_weight (probabilities kind d rounds p diagonal) ≡ largest_of rounds p diagonal
 largest_is kind d rounds p diagonal ok (inr e) = absent kind d rounds p diagonal ok e
 largest_is kind d rounds p diagonal ok (inl e) =

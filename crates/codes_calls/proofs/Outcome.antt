@@ -1,5 +1,5 @@
 -- The columns and the answer of `create_code`, accepted and refused. Assumes nothing.
-use mathlib.Core.Path.{◌≡◌, sym, ap, ◌∙◌}
+use mathlib.Core.Path.{◌≡◌, refl, sym, ap, ◌∙◌}
 use mathlib.Core.List.{List, ◌++◌}
 use Prim.Native.Nat.{ℕ, ◌+◌, ◌*◌, ◌≤◌, ◌<◌}
 use native.Mathlib.Omega.{arith}
@@ -19,10 +19,13 @@ use Rattle.codes_layers.specs.Accepts.{Buildable}
 use Rattle.codes_layers.proofs.Accepted.{Accepted, accepted, buildable, ask_zero, edges_few}
 use Rattle.codes_layers.proofs.Counted.{edges-counted}
 use Rattle.codes_graphs.proofs.AllEdges.{edge-facts}
-use Rattle.codes_calls.specs.declared.Created.TheVariants.{Code, Refused}
+use Rattle.std.specs.Prelude.{Result, Ok, Err}
+use Rattle.codes_calls.specs.declared.CodeCounts.{CodeCounts}
+use Rattle.columns.specs.declared.refusal.Refusal.{Refusal}
+use Rattle.columns.specs.Refusals.{number}
 use Rattle.codes_calls.specs.Columns.{CodeColumns, edge_room, vertex_room, long_enough, HandedBack}
-use Rattle.columns_answers.proofs.Said.{accepts-of, refuses-of}
-use Rattle.codes_calls.specs.CreateCode.{create_refusal, refusal_in, new_columns, CodeCreated}
+use Rattle.columns_answers.proofs.Said.{accepted-of, refusal-of, no_zero}
+use Rattle.codes_calls.specs.CreateCode.{code_counts, create_refusal, refusal_in, new_columns, CodeCreated, CreateCode}
 use Rattle.codes_calls.specs.Steps.{EdgeColumnsLong, EdgeColumnsFilled, VertexColumnsLong, VertexColumnsFilled}
 
 -- ---- the number, by the columns' lengths
@@ -53,6 +56,14 @@ opened kind d rounds lent e =
       edges = leb-true _ _ q.0;
       numbers = leb-true _ _ q.1;
     }
+
+-- the same by the columns' lengths, as they were asked
+module _ (kind d rounds : ℕ) (lent : CodeColumns) {vr er : ℕ} (z : 0 ≡ create_refusal kind d rounds vr er (length lent.neighbor_numbers)) (v : vr ≡ vertex_room lent) (e : er ≡ edge_room lent) where
+  pub accepted-number : refusal_in kind d rounds lent ≡ 0
+  accepted-number = sym (create_number kind d rounds 0 vr er _ _ _ _ z v e refl)
+
+  pub open_of : Open kind d rounds lent
+  open_of = opened kind d rounds lent accepted-number
 
 module _ (kind d rounds : ℕ) (lent : CodeColumns) (o : Open kind d rounds lent) where
   pub edges-long : EdgeColumnsLong (edge_num kind d rounds) lent.ends_a lent.ends_b lent.p lent.pe lent.half_weight lent.erasure
@@ -142,21 +153,23 @@ kept_back q new lent f = record {
   neighbor_numbers_after = sym (after-refused q new.neighbor_numbers lent.neighbor_numbers f);
 }
 
-pub refused : (kind d rounds q n : ℕ) (lent : CodeColumns) → n ≡ q → (n ≡ 0 → ⊥) → CodeCreated kind d rounds q lent lent (Refused n)
-refused kind d rounds q n lent e f = record { answers = refuses-of e f; columns_after = kept_back q (new_columns kind d rounds) lent (λ z. f (e ∙ z)) }
+pub refused : (kind d rounds : ℕ) (lent : CodeColumns) {answer : Result CodeCounts Refusal} {r : Refusal} → answer ≡ Err r → number r ≡ refusal_in kind d rounds lent → CreateCode kind d rounds lent lent answer
+refused kind d rounds lent {answer} {r} a e =
+    let q = refusal_in kind d rounds lent in
+    record { answers = rw a (refusal-of r e); columns_after = kept_back q (new_columns kind d rounds) lent (λ z. no_zero r (e ∙ z)) }
 
 module _ (kind d rounds q : ℕ) (lent back : CodeColumns) (z : q ≡ 0) (o : Open kind d rounds lent) (e v : ℕ) (list-ends : List ℕ) where
   pub built : EdgeColumnsFilled kind d rounds lent.ends_a lent.ends_b lent.p lent.pe lent.half_weight lent.erasure back.ends_a back.ends_b back.p back.pe back.half_weight back.erasure e
       → VertexColumnsFilled kind d rounds lent.pos_i lent.pos_j lent.pos_t lent.boundary lent.defect back.pos_i back.pos_j back.pos_t back.boundary back.defect v
       → ListsFilled back.ends_a back.ends_b e v lent.list_lengths lent.neighbor_numbers back.list_lengths back.neighbor_numbers list-ends
-      → CodeCreated kind d rounds q lent back (Code v e)
+      → CodeCreated kind d rounds q lent back (Ok (code_counts v e))
   built x y l =
       let a : List ℕ = firsts (edges_of kind d rounds) in
       let b : List ℕ = seconds (edges_of kind d rounds) in
       let pa : (k : ℕ) → k < edge_num kind d rounds → get_or back.ends_a k 0 ≡ get_or a k 0 = λ k h. ap (λ (r : List ℕ). get_or r k 0) x.in_a ∙ first-at kind d rounds o.ok lent.ends_a k h in
       let pb : (k : ℕ) → k < edge_num kind d rounds → get_or back.ends_b k 0 ≡ get_or b k 0 = λ k h. ap (λ (r : List ℕ). get_or r k 0) x.in_b ∙ second_at kind d rounds o.ok lent.ends_b k h in
       record {
-        answers = rw (y.count, x.count) (accepts-of z);
+        answers = rw (y.count, x.count) (accepted-of z);
         columns_after = record {
           ends_a_after = yes q (new_columns kind d rounds).ends_a lent.ends_a z x.in_a;
           ends_b_after = yes q (new_columns kind d rounds).ends_b lent.ends_b z x.in_b;

@@ -1,4 +1,5 @@
 -- The number, the columns and the answer of `new`, accepted and refused. Assumes nothing.
+use Rattle.std.specs.Prelude.{Option, None}
 use mathlib.Core.Path.{◌≡◌, refl, sym, ap, ◌∙◌, subst}
 use mathlib.Core.Logic.{inl, inr}
 use mathlib.Core.Bool.{Bool, true, false, ◌&&◌, cond}
@@ -31,18 +32,18 @@ use Rattle.weights_recipe.specs.Rounding.{half_weight}
 use Rattle.weights_recipe.specs.Probabilities.{is_probability}
 use Rattle.weights_diagonal.specs.Diagonal.{is_diagonal, replaced, new_diagonal, is_diagonal_probability}
 use Rattle.weights_calls.specs.Calls.{largest_weight, edge_weights, some_above, is_largest_half_weight, half_weights}
-use Rattle.weights_diagonal.specs.declared.DiagonalProbability.{DiagonalProbability}
-use Rattle.weights_diagonal.specs.declared.DiagonalProbability.TheVariants.{None}
 use Rattle.weights_calls.proofs.Largest.{some_above_lem}
-use Rattle.codes_calls.specs.declared.Created.{Created}
-use Rattle.codes_calls.specs.declared.Created.TheVariants.{Refused}
-use Rattle.columns_answers.proofs.Said.{refuses-of}
+use Rattle.std.specs.Prelude.{Result, Ok, Err}
+use Rattle.columns.specs.declared.refusal.Refusal.{Refusal}
+use Rattle.columns.specs.Refusals.{number, question_of}
+use Rattle.columns_answers.proofs.Said.{refusal-of, no_zero}
+use Rattle.codes_calls.specs.declared.CodeCounts.{CodeCounts}
 use Rattle.codes_calls.specs.Columns.{CodeColumns, long_enough}
 use Rattle.codes_calls.specs.CreateCode.{create_refusal, new_columns, CodeCreated}
 use Rattle.codes_calls.proofs.Outcome.{Open, edges-long, kept_back}
 use Rattle.codes_weights.specs.declared.Weighed.{Weighed}
 use Rattle.codes_calls.specs.Probabilities.{position_of, probabilities, diagonal_of}
-use Rattle.codes_calls.specs.NewCode.{new_refusal, weighted_columns, Weighted, WeightedCode}
+use Rattle.codes_calls.specs.NewCode.{new_refusal, new_refusal_in, weighted_columns, Weighted, WeightedCode}
 use Rattle.codes_weights.specs.Steps.{diagonal_p, largest_of, weighed_of, weights_refusal, diagonal_at, WeighRoom, EdgesWeighed}
 use Rattle.codes_calls.specs.WeightedSteps.{DiagonalKind}
 use Rattle.codes_calls.proofs.Diagonals.{diagonal_edge}
@@ -65,7 +66,7 @@ later : (kind d rounds : ℕ) (six : Bool) (x y : ℕ) → (code_refusal kind d 
 unfolding code_refusal
 later kind d rounds six x y f = chain (kind_known kind) (distance_sound d) (rounds_sound kind rounds) (leb (vertex_num kind d rounds) vertex_limit) six x y f
 
-pub number_is : (kind d rounds : ℕ) (p : Float) (diagonal : DiagonalProbability) (max vr er nl q : ℕ) (l : Float) → DiagonalKind kind diagonal → l ≡ largest_of rounds p diagonal
+pub number_is : (kind d rounds : ℕ) (p : Float) (diagonal : Option Float) (max vr er nl q : ℕ) (l : Float) → DiagonalKind kind diagonal → l ≡ largest_of rounds p diagonal
     → q ≡ weights_refusal (create_refusal kind d rounds vr er nl) (is_largest_half_weight max) (is_probability p && is_diagonal_probability diagonal) (lt zero_float l)
     → q ≡ new_refusal kind d rounds p diagonal max vr er nl
 unfolding weights_refusal create_refusal new_refusal
@@ -77,7 +78,7 @@ number_is kind d rounds p diagonal max vr er nl q l k e f =
     ap (λ (b : Bool). ask (is_largest_half_weight max) 8 (ask (is_probability p && is_diagonal_probability diagonal) 9 (ask b 10 0))) ten)
 
 -- the same by the columns' lengths
-pub new_number_lem : (kind d rounds : ℕ) (p : Float) (diagonal : DiagonalProbability) (max q vr er nl vr' er' nl' : ℕ) → q ≡ new_refusal kind d rounds p diagonal max vr er nl → vr ≡ vr' → er ≡ er' → nl ≡ nl'
+pub new_number_lem : (kind d rounds : ℕ) (p : Float) (diagonal : Option Float) (max q vr er nl vr' er' nl' : ℕ) → q ≡ new_refusal kind d rounds p diagonal max vr er nl → vr ≡ vr' → er ≡ er' → nl ≡ nl'
     → q ≡ new_refusal kind d rounds p diagonal max vr' er' nl'
 new_number_lem kind d rounds p diagonal max q vr er nl vr' er' nl' a b c e = a ∙ λ i. new_refusal kind d rounds p diagonal max (b i) (c i) (e i)
 
@@ -87,16 +88,21 @@ unfolding weights_refusal
 refusal_zero zero e n t z = refl
 refusal_zero (suc q) e n t z = let y : suc q ≡ 0 = sym (ap (λ (b : Bool). cond b (ask e 8 (ask n 9 (ask t 10 0))) (suc q)) (ne_eqb (suc q) 0 (λ w. omega arith))) ∙ z in absurd (omega arith)
 
+-- where one of 2 to 6 refuses, the later ones do not matter
+pub earlier_refuse : (q : ℕ) (e n t : Bool) → (q ≡ 0 → ⊥) → weights_refusal q e n t ≡ q
+unfolding weights_refusal
+earlier_refuse q e n t f = simp (ne_eqb q 0 f)
+
 pub created_too : (kind d rounds vr er nl vr' er' nl' q : ℕ) (e n t : Bool) → q ≡ weights_refusal (create_refusal kind d rounds vr er nl) e n t → q ≡ 0 → vr ≡ vr' → er ≡ er' → nl ≡ nl' → create_refusal kind d rounds vr' er' nl' ≡ 0
 created_too kind d rounds vr er nl vr' er' nl' q e n t f z a b c = sym (λ i. create_refusal kind d rounds (a i) (b i) (c i)) ∙ refusal_zero (create_refusal kind d rounds vr er nl) e n t (sym f ∙ z)
 
 -- ---- refused
 
-pub refused : (kind d rounds : ℕ) (p : Float) (diagonal : DiagonalProbability) (max q n : ℕ) (lent : CodeColumns) → n ≡ q → (n ≡ 0 → ⊥) → Weighted kind d rounds p diagonal max q lent lent (Refused n)
-refused kind d rounds p diagonal max q n lent e f = record {
-  answers = refuses-of e f;
-  columns_after = kept_back q (weighted_columns kind d rounds p diagonal max) lent (λ z. f (e ∙ z));
-}
+pub refused : (kind d rounds : ℕ) (p : Float) (diagonal : Option Float) (max : ℕ) (lent : CodeColumns) {answer : Result CodeCounts Refusal} {r : Refusal} → answer ≡ Err r
+    → number r ≡ new_refusal_in kind d rounds p diagonal max lent → WeightedCode kind d rounds p diagonal max lent lent answer
+refused kind d rounds p diagonal max lent {answer} {r} a e =
+    let q = new_refusal_in kind d rounds p diagonal max lent in
+    record { answers = rw a (refusal-of r e); columns_after = kept_back q (weighted_columns kind d rounds p diagonal max) lent (λ z. no_zero r (e ∙ z)) }
 
 -- ---- accepted
 
@@ -104,7 +110,7 @@ refused kind d rounds p diagonal max q n lent e f = record {
 wrote : {A : Type 0} (q : ℕ) (vs lent : List A) {back : List A} → q ≡ 0 → back ≡ after q vs lent → back ≡ over vs lent
 wrote q vs lent z e = e ∙ after-accepted q vs lent z
 
-pub weigh_room : (kind d rounds : ℕ) (lent mid : CodeColumns) (q n : ℕ) (r : Created) → Open kind d rounds lent → q ≡ 0 → CodeCreated kind d rounds q lent mid r → n ≡ edge_num kind d rounds
+pub weigh_room : (kind d rounds : ℕ) (lent mid : CodeColumns) (q n : ℕ) (r : Result CodeCounts Refusal) → Open kind d rounds lent → q ≡ 0 → CodeCreated kind d rounds q lent mid r → n ≡ edge_num kind d rounds
     → WeighRoom n mid.ends_a mid.ends_b mid.p mid.half_weight
 weigh_room kind d rounds lent mid q n r o z m e =
     let es = edges_of kind d rounds in
@@ -161,7 +167,7 @@ module _ (kind d rounds : ℕ) (ok : Accepted kind d rounds) (a b : List ℕ) (i
       ∙ (λ n. is_diagonal (position-over kind d rounds ok i j t (get_or es k (0, 0)).0 first n) (position-over kind d rounds ok i j t (get_or es k (0, 0)).1 second n))
 
   -- the p of each edge
-  pub probabilities-are : (p : Float) (diagonal : DiagonalProbability) → each (edge_num kind d rounds) (λ k. cond (byColumns k) (diagonal_p p diagonal) p) ≡ probabilities kind d rounds p diagonal
+  pub probabilities-are : (p : Float) (diagonal : Option Float) → each (edge_num kind d rounds) (λ k. cond (byColumns k) (diagonal_p p diagonal) p) ≡ probabilities kind d rounds p diagonal
   unfolding probabilities
   probabilities-are p diagonal =
       let count = edges-counted kind d ok.distance.three rounds in
@@ -171,7 +177,7 @@ module _ (kind d rounds : ℕ) (ok : Accepted kind d rounds) (a b : List ℕ) (i
       ∙ ap (map f) (ap (λ (n : ℕ). each n (λ k. get_or es k (0, 0))) (sym count) ∙ each-getD es (0, 0))
 
   -- the half weight of each edge
-  pub halves_are : (p : Float) (diagonal : DiagonalProbability) (max : ℕ) (l : Float) → l ≡ largest_weight (probabilities kind d rounds p diagonal)
+  pub halves_are : (p : Float) (diagonal : Option Float) (max : ℕ) (l : Float) → l ≡ largest_weight (probabilities kind d rounds p diagonal)
       → each (edge_num kind d rounds) (λ k. cond (byColumns k) (half_weight max (edge_weight (diagonal_p p diagonal)) l) (half_weight max (edge_weight p) l)) ≡ half_weights max (probabilities kind d rounds p diagonal)
   halves_are p diagonal max l e =
       let g : Float → ℕ = λ q. half_weight max (edge_weight q) l in
@@ -184,7 +190,7 @@ module _ (kind d rounds : ℕ) (ok : Accepted kind d rounds) (a b : List ℕ) (i
       go g true = refl
       go g false = refl
 
-pub sized : (kind d rounds : ℕ) (p : Float) (diagonal : DiagonalProbability) → Accepted kind d rounds → length (probabilities kind d rounds p diagonal) ≡ edge_num kind d rounds
+pub sized : (kind d rounds : ℕ) (p : Float) (diagonal : Option Float) → Accepted kind d rounds → length (probabilities kind d rounds p diagonal) ≡ edge_num kind d rounds
 unfolding probabilities
 sized kind d rounds p diagonal ok = length-map (edges_of kind d rounds) (λ (e : Ends). replaced diagonal p (diagonal_edge kind d rounds e)) ∙ edges-counted kind d ok.distance.three rounds
 
@@ -206,7 +212,7 @@ with_weights mid p h = record {
   neighbor_numbers = mid.neighbor_numbers;
 }
 
-module _ (kind d rounds : ℕ) (p : Float) (diagonal : DiagonalProbability) (max q q₀ n : ℕ) (lent mid : CodeColumns) (r : Created) (l : Float) (straight other : Weighed) (p' : List Float) (h' : List ℕ)
+module _ (kind d rounds : ℕ) (p : Float) (diagonal : Option Float) (max q q₀ n : ℕ) (lent mid : CodeColumns) (r : Result CodeCounts Refusal) (l : Float) (straight other : Weighed) (p' : List Float) (h' : List ℕ)
     (o : Open kind d rounds lent) (k : DiagonalKind kind diagonal) (z : q ≡ 0) (z₀ : q₀ ≡ 0) where
   pub built : CodeCreated kind d rounds q₀ lent mid r → n ≡ edge_num kind d rounds → l ≡ largest_of rounds p diagonal → straight ≡ weighed_of p max l → other ≡ weighed_of (diagonal_p p diagonal) max l
       → EdgesWeighed n (diagonal_at mid.ends_a mid.ends_b mid.pos_i mid.pos_j mid.pos_t) straight other mid.p mid.half_weight p' h'
@@ -257,6 +263,6 @@ diagonal_kind kind p = elim (native.Mathlib.Decide.ℕ_discrete kind 4) [
   | no f ↦ inr (ap (λ (b : Bool). cond b (new_diagonal p) None) (ne_eqb kind 4 f))
 ]
 
-pub with_diagonal : {kind d rounds : ℕ} {p : Float} {max : ℕ} {lent back : CodeColumns} {r : Created} (x y : DiagonalProbability) → x ≡ y
+pub with_diagonal : {kind d rounds : ℕ} {p : Float} {max : ℕ} {lent back : CodeColumns} {r : Result CodeCounts Refusal} (x y : Option Float) → x ≡ y
     → WeightedCode kind d rounds p x max lent back r → WeightedCode kind d rounds p y max lent back r
-with_diagonal {kind} {d} {rounds} {p} {max} {lent} {back} {r} x y e w = subst (λ (z : DiagonalProbability). WeightedCode kind d rounds p z max lent back r) e w
+with_diagonal {kind} {d} {rounds} {p} {max} {lent} {back} {r} x y e w = subst (λ (z : Option Float). WeightedCode kind d rounds p z max lent back r) e w

@@ -1,21 +1,24 @@
 -- `create_code`: questions 2 to 6, the answer, and each column afterwards.
-use Rattle.std.specs.Prelude.{ℕ, length, replicate}
+use Rattle.std.specs.Prelude.{ℕ, length, replicate, Result}
 use Rattle.columns.specs.Places.{zero_float}
 use Rattle.columns.specs.Questions.{ask}
-use Rattle.columns_answers.specs.Said.{Said, accepts, refuses, Answered}
+use Rattle.columns_answers.specs.Said.{said, Answered}
 use Rattle.columns_neighbors.specs.Lists.{degrees, lists}
 use Rattle.codes_writers.specs.Edges.{firsts, seconds, boundaries, positions_i, positions_j, positions_t}
 use Rattle.codes_layers.specs.Codes.{edges_of, vertices_of}
 use Rattle.codes_layers.specs.Counts.{vertex_num, edge_num}
 use Rattle.codes_layers.specs.Accepts.{code_refusal}
-use Rattle.codes_calls.specs.declared.Created.{Created}
-use Rattle.codes_calls.specs.declared.Created.TheVariants.{Code, Refused}
+use Rattle.codes_calls.specs.declared.CodeCounts.{CodeCounts}
+use Rattle.columns.specs.declared.refusal.Refusal.{Refusal}
 use Rattle.codes_calls.specs.Columns.{CodeColumns, edge_room, vertex_room, long_enough, HandedBack}
 
--- Expected forms by place, last paragraph: document 01's number and values for each case of `Created`; the values are how many vertices and how many edges.
-abbrev pub created_said : Created → Said (ℕ × ℕ)
-created_said (Code vertices edges) = accepts (vertices, edges)
-created_said (Refused number) = refuses number (0, 0)
+-- Six builders, Vertices and Edges: so many vertices and so many edges.
+abbrev pub code_counts : ℕ → ℕ → CodeCounts
+code_counts v e = record { vertices = v; edges = e }
+
+-- Questions at the door, sentence 2: what a refused call answers beside the number.
+abbrev pub no_counts : CodeCounts
+no_counts = code_counts 0 0
 
 -- Questions at the door, 2 to 6, in order, of `create_code`, by the columns' lengths.
 unfoldable pub create_refusal : (kind d rounds vertex_room edge_room numbers : ℕ) → ℕ
@@ -45,10 +48,10 @@ new_columns kind d rounds = record {
 }
 
 -- Six builders: the answer of `create_code`, and its columns afterwards; q is the question's number.
-pub record CodeCreated (kind d rounds q : ℕ) (c₀ c : CodeColumns) (answer : Created) : Type 0 where
-  pub answers : Answered (created_said answer) q (vertex_num kind d rounds, edge_num kind d rounds) (0, 0)
+pub record CodeCreated (kind d rounds q : ℕ) (c₀ c : CodeColumns) (answer : Result CodeCounts Refusal) : Type 0 where
+  pub answers : Answered (said no_counts answer) q (code_counts (vertex_num kind d rounds) (edge_num kind d rounds)) no_counts
   pub columns_after : HandedBack q (new_columns kind d rounds) c₀ c
 
 -- Six builders: what `create_code` answers and leaves.
-abbrev pub CreateCode : (kind d rounds : ℕ) (c₀ c : CodeColumns) (answer : Created) → Type 0
+abbrev pub CreateCode : (kind d rounds : ℕ) (c₀ c : CodeColumns) (answer : Result CodeCounts Refusal) → Type 0
 CreateCode kind d rounds c₀ c answer = CodeCreated kind d rounds (refusal_in kind d rounds c₀) c₀ c answer

@@ -1,42 +1,42 @@
 // `create_code`: builds a code into lent columns.
 ghost use Rattle.std.specs.Prelude.{◌≡◌, length};
+ghost use Rattle.columns.specs.Refusals.{question_of};
 ghost use Rattle.codes_layers.specs.Counts.{vertex_num, edge_num};
 ghost use Rattle.codes_layers.specs.Accepts.{Buildable};
 ghost use Rattle.codes_calls.specs.Columns.{shortest, code_in};
 ghost use Rattle.codes_calls.specs.CreateCode.{create_refusal, CreateCode};
 ghost use Rattle.codes_calls.specs.Steps.{EdgeColumnsLong, EdgeColumnsFilled, VertexColumnsLong, VertexColumnsFilled};
 
-use super::Created;
-use codes_questions::{code_refusal, distance_within, rounds_within};
+use super::CodeCounts;
+use codes_questions::code_questions;
 use columns::Weight;
-use columns::questions::{asked, lesser};
+use columns::refusal::{Refusal, require};
 use columns_room::long_enough;
-use columns_stores::{fill_f64, fill_u8, fill_weights};
+use columns_stores::fill;
 
 // The least of six lengths.
 pub fn shortest_of(a: usize, b: usize, c: usize, d: usize, e: usize, f: usize) -> usize
     ensures { result ≡ shortest a b c d e f }
 {
-    lesser(a, lesser(b, lesser(c, lesser(d, lesser(e, f)))))
+    a.min(b.min(c.min(d.min(e.min(f)))))
 }
 
 // Questions 2 to 6.
-pub fn refusal_of(
+pub fn create_questions(
     kind: u32,
     d: u32,
     rounds: u32,
     vertex_room: usize,
     edge_room: usize,
     numbers: usize,
-) -> u32
-    ensures { result ≡ create_refusal kind d rounds vertex_room edge_room numbers }
+) -> Result<(), Refusal>
+    ensures { question_of result ≡ create_refusal kind d rounds vertex_room edge_room numbers }
 {
-    let distance = distance_within(d);
-    let within = rounds_within(rounds);
-    let vertices = codes_layers::counts::vertex_num(kind, distance, within);
-    let edges = codes_layers::counts::edge_num(kind, distance, within);
-    let met = long_enough(vertices, edges, vertex_room, edge_room, numbers);
-    code_refusal(kind, d, rounds, asked(met, 6, 0))
+    code_questions(kind, d, rounds)?;
+    let vertices = codes_layers::counts::vertex_num(kind, d, rounds);
+    let edges = codes_layers::counts::edge_num(kind, d, rounds);
+    let long = long_enough(vertices, edges, vertex_room, edge_room, numbers);
+    require(long, Refusal::ShortColumn)
 }
 
 // The edge columns.
@@ -56,10 +56,10 @@ fn fill_edges(
     ensures { EdgeColumnsFilled kind d rounds ends_a.old ends_b.old p.old pe.old half_weight.old erasure.old ends_a.new ends_b.new p.new pe.new half_weight.new erasure.new result }
 {
     let n = codes_edges::code_edges(ends_a, ends_b, kind, d, rounds);
-    fill_f64(p, n, 0.0);
-    fill_f64(pe, n, 0.0);
-    fill_weights(half_weight, n, 0);
-    fill_u8(erasure, n, 0);
+    fill(p, n, 0.0);
+    fill(pe, n, 0.0);
+    fill(half_weight, n, 0);
+    fill(erasure, n, 0);
     n
 }
 
@@ -79,7 +79,7 @@ fn fill_vertices(
     ensures { VertexColumnsFilled kind d rounds pos_i.old pos_j.old pos_t.old boundary.old defect.old pos_i.new pos_j.new pos_t.new boundary.new defect.new result }
 {
     let n = codes_layers::vertices::code_vertices(boundary, pos_i, pos_j, pos_t, kind, d, rounds);
-    fill_u8(defect, n, 0);
+    fill(defect, n, 0);
     n
 }
 
@@ -102,7 +102,7 @@ fn create_in(
     list_lengths: &mut [u32],
     neighbor_numbers: &mut [u32],
     list_ends: &mut [u32],
-) -> Created
+) -> Result<CodeCounts, Refusal>
     requires { length list_ends.old ≡ 4096 }
     ensures { CreateCode kind d rounds
         (code_in ends_a.old ends_b.old p.old pe.old half_weight.old erasure.old pos_i.old pos_j.old pos_t.old boundary.old defect.old list_lengths.old neighbor_numbers.old)
@@ -125,17 +125,14 @@ fn create_in(
         defect.len(),
         list_lengths.len(),
     );
-    let q = refusal_of(
+    create_questions(
         kind,
         d,
         rounds,
         vertex_room,
         edge_room,
         neighbor_numbers.len(),
-    );
-    if q != 0 {
-        return Created::Refused(q);
-    }
+    )?;
     let e = fill_edges(kind, d, rounds, ends_a, ends_b, p, pe, half_weight, erasure);
     let v = fill_vertices(kind, d, rounds, pos_i, pos_j, pos_t, boundary, defect);
     columns_neighbors::lists::fill_lists(
@@ -147,7 +144,10 @@ fn create_in(
         list_ends,
         v,
     );
-    Created::Code(v as u32, e as u32)
+    Ok(CodeCounts {
+        vertices: v as u32,
+        edges: e as u32,
+    })
 }
 
 // Builds a code: questions 2 to 6, then every column's first places.
@@ -168,7 +168,7 @@ pub fn create_code(
     defect: &mut [u8],
     list_lengths: &mut [u32],
     neighbor_numbers: &mut [u32],
-) -> Created
+) -> Result<CodeCounts, Refusal>
     ensures { CreateCode kind d rounds
         (code_in ends_a.old ends_b.old p.old pe.old half_weight.old erasure.old pos_i.old pos_j.old pos_t.old boundary.old defect.old list_lengths.old neighbor_numbers.old)
         (code_in ends_a.new ends_b.new p.new pe.new half_weight.new erasure.new pos_i.new pos_j.new pos_t.new boundary.new defect.new list_lengths.new neighbor_numbers.new)

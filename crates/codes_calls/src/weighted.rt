@@ -2,6 +2,7 @@
 ghost use Rattle.std.specs.Prelude.{◌≡◌, ◌&&◌};
 ghost use Rattle.std.specs.Float.Ieee.{lt};
 ghost use Rattle.columns.specs.Places.{zero_float};
+ghost use Rattle.columns.specs.Refusals.{question_of};
 ghost use Rattle.weights_recipe.specs.Probabilities.{is_probability};
 ghost use Rattle.weights_diagonal.specs.Diagonal.{is_diagonal_probability};
 ghost use Rattle.weights_calls.specs.Calls.{is_largest_half_weight};
@@ -14,21 +15,22 @@ ghost use Rattle.codes_calls.specs.NewCode.{WeightedCode, NewCode, NewDiagonal};
 ghost use Rattle.codes_calls.specs.WeightedSteps.{DiagonalKind};
 ghost use Rattle.codes_calls.specs.Columns.{code_in};
 
-use super::Created;
-use super::create::{create_code, refusal_of, shortest_of};
-use codes_weights::questions::{largest_weight, weights_refusal};
+use super::CodeCounts;
+use super::create::{create_code, create_questions, shortest_of};
+use codes_weights::questions::{largest_weight, weights_questions};
 use codes_weights::weigh::{diagonal_p, weigh_edges, weighed};
 use columns::Weight;
-use weights_diagonal::{DiagonalProbability, new_diagonal_probability};
+use columns::refusal::Refusal;
+use weights_diagonal::new_diagonal_probability;
 
 // The diagonal probability that `new` gives.
-fn diagonal_of(kind: u32, p: f64) -> DiagonalProbability
+fn diagonal_of(kind: u32, p: f64) -> Option<f64>
     ensures { result ≡ diagonal_of kind p }
 {
     if kind == 4 {
         new_diagonal_probability(p)
     } else {
-        DiagonalProbability::None
+        None
     }
 }
 
@@ -48,21 +50,21 @@ struct CodeRoom {
     numbers: usize,
 }
 
-// The number of the first question that is not met, 0 where there is none.
-fn new_refusal(
+// Questions 2 to 6 and 8 to 10, in order.
+fn new_questions(
     kind: u32,
     d: u32,
     rounds: u32,
     p: f64,
-    diagonal: DiagonalProbability,
+    diagonal: Option<f64>,
     max_half_weight: Weight,
     largest: f64,
     room: CodeRoom,
-) -> u32
-    ensures { result ≡ weights_refusal (create_refusal kind d rounds room.vertices room.edges room.numbers) (is_largest_half_weight max_half_weight) (is_probability p && is_diagonal_probability diagonal) (lt zero_float largest) }
+) -> Result<(), Refusal>
+    ensures { question_of result ≡ weights_refusal (create_refusal kind d rounds room.vertices room.edges room.numbers) (is_largest_half_weight max_half_weight) (is_probability p && is_diagonal_probability diagonal) (lt zero_float largest) }
 {
-    let q = refusal_of(kind, d, rounds, room.vertices, room.edges, room.numbers);
-    weights_refusal(q, p, diagonal, max_half_weight, largest)
+    create_questions(kind, d, rounds, room.vertices, room.edges, room.numbers)?;
+    weights_questions(p, diagonal, max_half_weight, largest)
 }
 
 // Builds a code: questions 2 to 6 and 8 to 10, then every column's first places. Question 10 is decided from the two probabilities, before anything is written.
@@ -71,7 +73,7 @@ fn build(
     d: u32,
     rounds: u32,
     probability: f64,
-    diagonal: DiagonalProbability,
+    diagonal: Option<f64>,
     max_half_weight: Weight,
     ends_a: &mut [u32],
     ends_b: &mut [u32],
@@ -86,7 +88,7 @@ fn build(
     defect: &mut [u8],
     list_lengths: &mut [u32],
     neighbor_numbers: &mut [u32],
-) -> Created
+) -> Result<CodeCounts, Refusal>
     requires { DiagonalKind kind diagonal }
     ensures { WeightedCode kind d rounds probability diagonal max_half_weight
         (code_in ends_a.old ends_b.old p.old pe.old half_weight.old erasure.old pos_i.old pos_j.old pos_t.old boundary.old defect.old list_lengths.old neighbor_numbers.old)
@@ -110,7 +112,7 @@ fn build(
         list_lengths.len(),
     );
     let largest = largest_weight(rounds, probability, diagonal);
-    let q = new_refusal(
+    new_questions(
         kind,
         d,
         rounds,
@@ -123,10 +125,7 @@ fn build(
             edges: edge_room,
             numbers: neighbor_numbers.len(),
         },
-    );
-    if q != 0 {
-        return Created::Refused(q);
-    }
+    )?;
     let n = edge_count(kind, d, rounds);
     let straight = weighed(probability, max_half_weight, largest);
     let other = weighed(diagonal_p(probability, diagonal), max_half_weight, largest);
@@ -183,7 +182,7 @@ pub fn new(
     defect: &mut [u8],
     list_lengths: &mut [u32],
     neighbor_numbers: &mut [u32],
-) -> Created
+) -> Result<CodeCounts, Refusal>
     ensures { NewCode kind d rounds probability max_half_weight
         (code_in ends_a.old ends_b.old p.old pe.old half_weight.old erasure.old pos_i.old pos_j.old pos_t.old boundary.old defect.old list_lengths.old neighbor_numbers.old)
         (code_in ends_a.new ends_b.new p.new pe.new half_weight.new erasure.new pos_i.new pos_j.new pos_t.new boundary.new defect.new list_lengths.new neighbor_numbers.new)
@@ -218,7 +217,7 @@ pub fn new_diagonal(
     rounds: u32,
     probability: f64,
     max_half_weight: Weight,
-    diagonal: DiagonalProbability,
+    diagonal: Option<f64>,
     ends_a: &mut [u32],
     ends_b: &mut [u32],
     p: &mut [f64],
@@ -232,7 +231,7 @@ pub fn new_diagonal(
     defect: &mut [u8],
     list_lengths: &mut [u32],
     neighbor_numbers: &mut [u32],
-) -> Created
+) -> Result<CodeCounts, Refusal>
     ensures { NewDiagonal d rounds probability diagonal max_half_weight
         (code_in ends_a.old ends_b.old p.old pe.old half_weight.old erasure.old pos_i.old pos_j.old pos_t.old boundary.old defect.old list_lengths.old neighbor_numbers.old)
         (code_in ends_a.new ends_b.new p.new pe.new half_weight.new erasure.new pos_i.new pos_j.new pos_t.new boundary.new defect.new list_lengths.new neighbor_numbers.new)

@@ -71,10 +71,8 @@ fn circuit_row(
 {
     let bias = base + row * (d + 1);
     let mut next = at;
-    let mut i: u32 = 0;
-    while i < d - 1 {
+    for i in 0..d - 1 {
         next = circuit_cell(ends_a, ends_b, next, d, size, bias, row, i);
-        i += 1;
     }
     next
 }
@@ -87,10 +85,8 @@ pub fn circuit_gap(ends_a: &mut [u32], ends_b: &mut [u32], at: usize, d: u32, ba
 {
     let size = d * (d + 1);
     let mut next = at;
-    let mut row: u32 = 0;
-    while row < d {
+    for row in 0..d {
         next = circuit_row(ends_a, ends_b, next, d, size, base, row);
-        row += 1;
     }
     next
 }

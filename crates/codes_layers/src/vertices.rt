@@ -78,11 +78,9 @@ fn row_vertices(
 {
     let w = width_of(kind, d);
     let mut next = at;
-    let mut i: u32 = 0;
-    while i < w {
+    for i in 0..w {
         let v = vertex_of(kind, d, t, row, i);
         next = push_vertex(boundary, pos_i, pos_j, pos_t, next, v);
-        i += 1;
     }
     next
 }
@@ -104,10 +102,8 @@ fn layer_vertices(
 {
     let rows = rows_of(kind, d);
     let mut next = at;
-    let mut row: u32 = 0;
-    while row < rows {
+    for row in 0..rows {
         next = row_vertices(boundary, pos_i, pos_j, pos_t, next, kind, d, t, row);
-        row += 1;
     }
     next
 }
@@ -127,10 +123,8 @@ pub fn code_vertices(
     ensures { Placed boundary.old pos_i.old pos_j.old pos_t.old 0 (vertices_of kind d rounds) boundary.new pos_i.new pos_j.new pos_t.new result }
 {
     let mut next: usize = 0;
-    let mut t: u32 = 0;
-    while t < rounds + 1 {
+    for t in 0..rounds + 1 {
         next = layer_vertices(boundary, pos_i, pos_j, pos_t, next, kind, d, t);
-        t += 1;
     }
     next
 }

@@ -15,8 +15,7 @@ pub fn row_edges(ends_a: &mut [u32], ends_b: &mut [u32], at: usize, d: u32, bias
     ensures { Wrote ends_a.old ends_b.old at (row_edges d bias) ends_a.new ends_b.new result }
 {
     let mut next = at;
-    let mut i: u32 = 0;
-    while i < d - 1 {
+    for i in 0..d - 1 {
         next = push(
             ends_a,
             ends_b,
@@ -24,7 +23,6 @@ pub fn row_edges(ends_a: &mut [u32], ends_b: &mut [u32], at: usize, d: u32, bias
             VertexIndex(bias + i),
             VertexIndex(bias + i + 1),
         );
-        i += 1;
     }
     push(
         ends_a,
@@ -69,10 +67,8 @@ pub fn planar_layer(ends_a: &mut [u32], ends_b: &mut [u32], at: usize, d: u32, b
     ensures { Wrote ends_a.old ends_b.old at (planar_layer d base) ends_a.new ends_b.new result }
 {
     let mut next = at;
-    let mut row: u32 = 0;
-    while row < d {
+    for row in 0..d {
         next = planar_row(ends_a, ends_b, next, d, base, row);
-        row += 1;
     }
     next
 }

@@ -1,2 +1,2 @@
--- Clamped: question 5 asked of counts within the limits.
-pub mod Clamped
+-- Later: what is asked after questions 2 to 5.
+pub mod Later

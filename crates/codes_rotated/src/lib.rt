@@ -42,12 +42,10 @@ fn rotated_row(
     let even = row % 2 == 0;
     let odd = row % 2 == 1;
     let mut next = at;
-    let mut i: u32 = 0;
-    while i < d {
+    for i in 0..d {
         let a = bias + rotated_place(even, i);
         let b = bias + w + rotated_place(odd, i);
         next = push(ends_a, ends_b, next, VertexIndex(a), VertexIndex(b));
-        i += 1;
     }
     next
 }
@@ -59,10 +57,8 @@ pub fn rotated_layer(ends_a: &mut [u32], ends_b: &mut [u32], at: usize, d: u32, 
     ensures { Wrote ends_a.old ends_b.old at (rotated_layer d base) ends_a.new ends_b.new result }
 {
     let mut next = at;
-    let mut row: u32 = 0;
-    while row < d {
+    for row in 0..d {
         next = rotated_row(ends_a, ends_b, next, d, base, row);
-        row += 1;
     }
     next
 }

@@ -1,5 +1,5 @@
 -- What the functions of this crate promise. No contract of a customer's call cites it.
-use Rattle.std.specs.Prelude.{ℕ, ◌≤◌, ◌≡◌, Bool, true, cond, List, eqb, length, get_or, Float}
+use Rattle.std.specs.Prelude.{ℕ, ◌≤◌, ◌≡◌, Bool, true, cond, List, eqb, length, get_or, Float, Option}
 use Rattle.std.proofs.lemmas.List.Edits.{sets}
 use Rattle.columns.specs.Lists.{each}
 use Rattle.columns.specs.Places.{zero_float, position_at}
@@ -8,15 +8,14 @@ use Rattle.weights_recipe.specs.Logarithm.{edge_weight}
 use Rattle.weights_recipe.specs.Rounding.{half_weight}
 use Rattle.weights_diagonal.specs.Diagonal.{is_diagonal, replaced}
 use Rattle.weights_calls.specs.Calls.{larger}
-use Rattle.weights_diagonal.specs.declared.DiagonalProbability.{DiagonalProbability}
 use Rattle.codes_weights.specs.declared.Weighed.{Weighed}
 
 -- Weights, on the diagonal probability, sentence 1: the p of a diagonal edge.
-abbrev pub diagonal_p : Float → DiagonalProbability → Float
+abbrev pub diagonal_p : Float → Option Float → Float
 diagonal_p p diagonal = replaced diagonal p true
 
 -- Weights, on half weights, sentence 1: the largest w, where an edge that is not diagonal is there, and a diagonal one from one round on.
-unfoldable pub largest_of : (rounds : ℕ) (p : Float) (diagonal : DiagonalProbability) → Float
+unfoldable pub largest_of : (rounds : ℕ) (p : Float) (diagonal : Option Float) → Float
 largest_of rounds p diagonal =
     cond (eqb rounds 0) (larger zero_float (edge_weight p)) (larger (larger zero_float (edge_weight p)) (edge_weight (diagonal_p p diagonal)))
 

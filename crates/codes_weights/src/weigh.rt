@@ -4,18 +4,15 @@ ghost use Rattle.codes_weights.specs.Steps.{diagonal_p, weighed_of, diagonal_at,
 
 use super::Weighed;
 use columns::{VisualizePosition, Weight, wide};
-use weights_diagonal::{DiagonalProbability, is_diagonal};
+use weights_diagonal::is_diagonal;
 use weights_recipe::logarithm::edge_weight;
 use weights_recipe::rounding::half_weight;
 
 // The p of a diagonal edge.
-pub fn diagonal_p(p: f64, diagonal: DiagonalProbability) -> f64
+pub fn diagonal_p(p: f64, diagonal: Option<f64>) -> f64
     ensures { result ≡ diagonal_p p diagonal }
 {
-    match diagonal {
-        DiagonalProbability::None => p,
-        DiagonalProbability::Given(x) => x,
-    }
+    diagonal.unwrap_or(p)
 }
 
 // What an edge with this p gets.
@@ -35,6 +32,7 @@ fn picked(test: bool, x: Weighed, y: Weighed) -> Weighed
 }
 
 // Whether an edge is diagonal.
+#[tactic(auto, unfolding(crate::specs::Steps::diagonal_at))]
 fn diagonal_at(
     ends_a: &[u32],
     ends_b: &[u32],
@@ -76,10 +74,8 @@ pub fn weigh_edges(
     requires { WeighRoom n ends_a.now ends_b.now p.old half_weight.old }
     ensures { EdgesWeighed n (diagonal_at ends_a.now ends_b.now pos_i.now pos_j.now pos_t.now) straight other p.old half_weight.old p.new half_weight.new }
 {
-    let mut i: usize = 0;
-    while i < n {
+    for i in 0..n {
         let diagonal = diagonal_at(ends_a, ends_b, pos_i, pos_j, pos_t, i);
         store_weighed(picked(diagonal, other, straight), i, p, half_weight);
-        i += 1;
     }
 }

@@ -63,8 +63,7 @@ pub fn straight_edges(
     ensures { Wrote ends_a.old ends_b.old at (straight_edges n bias far) ends_a.new ends_b.new result }
 {
     let mut next = at;
-    let mut i: u32 = 0;
-    while i < n {
+    for i in 0..n {
         next = push(
             ends_a,
             ends_b,
@@ -72,7 +71,6 @@ pub fn straight_edges(
             VertexIndex(bias + i),
             VertexIndex(bias + i + far),
         );
-        i += 1;
     }
     next
 }
@@ -93,10 +91,8 @@ pub fn straight_rows(
     ensures { Wrote ends_a.old ends_b.old at (straight_rows rows n w base far) ends_a.new ends_b.new result }
 {
     let mut next = at;
-    let mut row: u32 = 0;
-    while row < rows {
+    for row in 0..rows {
         next = straight_edges(ends_a, ends_b, next, n, base + row * w, far);
-        row += 1;
     }
     next
 }

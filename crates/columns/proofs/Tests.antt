@@ -83,6 +83,16 @@ module _ {A : Type 0} (test : A → Bool) where
     pub all_end : (n i : ℕ) → i ≤ n → min n (length s) ≤ i → all test (take i s) ≡ true → all test (take n s) ≡ true
     all_end n i k h p = all_whole n i k h ∙ p
 
+-- a loop over the first m elements, m the lesser of n and the length, at its end
+pub all_ends : {A : Type 0} (test : A → Bool) (s : List A) (n m k : ℕ) → m ≡ min n (length s) → length (take m s) ≤ k → all test (take k (take m s)) ≡ all test (take n s)
+all_ends test s n m k e h = ap (all test) (take_all k (take m s) h ∙ first s n m e)
+  where
+    first : {A : Type 0} (s : List A) (n m : ℕ) → m ≡ min n (length s) → take m s ≡ take n s
+    first s n m e = elim (native.Mathlib.Decide.dec_le n (length s)) [
+      | yes l ↦ ap (λ (j : ℕ). take j s) (omega arith)
+      | no l ↦ take_all m s (omega arith) ∙ sym (take_all n s (omega arith))
+    ]
+
 -- every number below a count
 module _ (test : ℕ → Bool) where
   pub every-at : (n : ℕ) → every n test ≡ true → (k : ℕ) → k < n → test k ≡ true

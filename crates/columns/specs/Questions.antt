@@ -1,5 +1,5 @@
 -- The tests that document 01's "Questions at the door" are made of.
-use Rattle.std.specs.Prelude.{ℕ, zero, suc, Bool, true, ◌&&◌, cond, List, [], ◌∷◌, take, leb, ltb}
+use Rattle.std.specs.Prelude.{ℕ, zero, suc, ◌≡◌, Bool, true, ◌&&◌, cond, List, [], ◌∷◌, take, leb, ltb}
 use Rattle.columns.specs.Limits.{vertex_limit, edge_limit, half_weight_limit, weight_limit, boundary_limit, mark_limit}
 
 -- Questions at the door, sentences 1 and 2: one question; yes goes on to the next, no yields its number.
@@ -10,6 +10,10 @@ ask met number next = cond met next number
 unfoldable pub all : {A : Type 0} → (A → Bool) → List A → Bool
 all test [] = true
 all test (x ∷ xs) = test x && all test xs
+
+-- Questions at the door, sentence 1: what a closure answers is whether the element passes the test.
+abbrev pub Decides : {A : Type 0} → (post : A → Bool → Type 0) → (A → Bool) → Type 0
+Decides {A} post test = (x : A) (b : Bool) → post x b → b ≡ test x
 
 -- Questions at the door, sentence 1, over a count: every number below n passes a test.
 unfoldable pub every : ℕ → (ℕ → Bool) → Bool

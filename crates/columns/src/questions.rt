@@ -1,7 +1,7 @@
 // The tests that the questions at the door are made of. Each is total and equal to one definition.
-ghost use Rattle.std.specs.Prelude.{◌≡◌, ◌&&◌, ◌||◌, ◌+◌, min, leb, eqb, take};
+ghost use Rattle.std.specs.Prelude.{◌≡◌, Bool, ◌&&◌, ◌||◌, ◌+◌, min, leb, eqb, take};
 ghost use Rattle.columns.specs.Limits.{weight_limit};
-ghost use Rattle.columns.specs.Questions.{ask, all_below, all_within, vertex_count_sound, edge_count_sound, boundaries_sound, marks_sound, half_weights_sound, weights_sound};
+ghost use Rattle.columns.specs.Questions.{ask, all, Decides, all_below, all_within, vertex_count_sound, edge_count_sound, boundaries_sound, marks_sound, half_weights_sound, weights_sound};
 
 use super::{
     BOUNDARY_LIMIT, EDGE_LIMIT, HALF_WEIGHT_LIMIT, MARK_LIMIT, VERTEX_LIMIT, WEIGHT_LIMIT, Weight,
@@ -46,10 +46,7 @@ pub fn equal(a: usize, b: usize) -> bool
 pub fn has_room(used: usize, more: usize, places: usize) -> bool
     ensures { result ≡ leb (used + more) places }
 {
-    if places < used {
-        return false;
-    }
-    more <= places - used
+    used <= places && more <= places - used
 }
 
 // The lesser of two sizes.
@@ -59,18 +56,23 @@ pub fn lesser(a: usize, b: usize) -> usize
     if a <= b { a } else { b }
 }
 
+// Whether each of the first n elements, or of all where there are fewer, passes a test. Every element is tested.
+pub fn all_pass<T: Copy, F: Fn(T) -> bool>(s: &[T], n: usize, test: F) -> bool
+    requires { F.IsAlwaysCallable test }
+    ensures { (passes : T → Bool) → Decides (F.post test) passes → result ≡ all passes (take n s.now) }
+{
+    let mut pass = true;
+    for x in &s[..n.min(s.len())] {
+        pass &= test(*x);
+    }
+    pass
+}
+
 // Whether the first n numbers, or all where there are fewer, are below the limit.
 pub fn all_below(s: &[u32], n: usize, limit: u32) -> bool
     ensures { result ≡ all_below limit (take n s.now) }
 {
-    let m = lesser(n, s.len());
-    let mut i: usize = 0;
-    let mut below = true;
-    while i < m {
-        below = both(below, s[i] < limit);
-        i += 1;
-    }
-    below
+    all_pass(s, n, |x| x < limit)
 }
 
 // Question 13, of a list that a caller hands over: whether every number is below the limit.
@@ -84,35 +86,21 @@ pub fn each_below(list: &[u32], limit: u32) -> bool
 fn weights_within(s: &[Weight], n: usize, limit: Weight) -> bool
     ensures { result ≡ all_within limit (take n s.now) }
 {
-    let m = lesser(n, s.len());
-    let mut i: usize = 0;
-    let mut within = true;
-    while i < m {
-        within = both(within, s[i] <= limit);
-        i += 1;
-    }
-    within
+    all_pass(s, n, |x| x <= limit)
 }
 
 // Whether the first n bytes, or all where there are fewer, are at most the limit.
 fn bytes_within(s: &[u8], n: usize, limit: u8) -> bool
     ensures { result ≡ all_within limit (take n s.now) }
 {
-    let m = lesser(n, s.len());
-    let mut i: usize = 0;
-    let mut within = true;
-    while i < m {
-        within = both(within, s[i] <= limit);
-        i += 1;
-    }
-    within
+    all_pass(s, n, |x| x <= limit)
 }
 
 // Question 7: 1 to 4,096 vertices.
 pub fn vertex_count_sound(vertex_num: u32) -> bool
     ensures { result ≡ vertex_count_sound vertex_num }
 {
-    both(1 <= vertex_num, vertex_num <= VERTEX_LIMIT)
+    1 <= vertex_num && vertex_num <= VERTEX_LIMIT
 }
 
 // Question 7: 0 to 32,768 edges.

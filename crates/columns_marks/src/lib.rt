@@ -7,7 +7,7 @@ ghost use Rattle.columns.specs.Lists.{when, over};
 ghost use Rattle.columns_marks.specs.Marks.{is_set, listed, marks, Continued};
 
 use columns::questions::both;
-use columns_stores::fill_u8;
+use columns_stores::fill;
 
 // Whether a byte is set.
 pub fn is_set(byte: u8) -> bool
@@ -35,11 +35,9 @@ fn list_between(column: &[u8], from: u32, to: u32, list: &mut [u32], before: u32
     ensures { (result ≡ length (listed to column.now)) × Continued column.now from to list.old list.new }
 {
     let mut count = before;
-    let mut k = from;
-    while k < to {
+    for k in from..to {
         let ok = is_set(column[k as usize]);
         count = push_if(ok, list, count, k);
-        k += 1;
     }
     count
 }
@@ -50,10 +48,8 @@ fn all_zero(column: &[u8], at: usize) -> bool
     ensures { result ≡ true → listed (at + 8) column.now ≡ listed at column.now }
 {
     let mut zero = true;
-    let mut i: usize = 0;
-    while i < 8 {
+    for i in 0..8 {
         zero = both(zero, column[at + i] == 0);
-        i += 1;
     }
     zero
 }
@@ -98,10 +94,8 @@ pub fn set_marks(column: &mut [u8], n: usize, list: &[u32])
     requires by_index { (i : ℕ) → i < length list.now → get_or list.now i 0 < n }
     ensures { column.new ≡ over (marks n list.now) column.old }
 {
-    fill_u8(column, n, 0);
-    let mut i: usize = 0;
-    while i < list.len() {
+    fill(column, n, 0);
+    for i in 0..list.len() {
         mark(column, list[i]);
-        i += 1;
     }
 }

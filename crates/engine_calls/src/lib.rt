@@ -6,8 +6,9 @@ ghost use Rattle.engine_columns.specs.Calls.{Modified, load_erasures, load_weigh
 ghost use Rattle.engine_columns.specs.Open.{Opened, graph_columns};
 
 use columns::Weight;
-use columns_stores::{copy_u8, copy_u32, copy_weights};
-use engine_columns::{EngineAnswer, EngineCounts};
+use columns::refusal::Refusal;
+use columns_stores::copy;
+use engine_columns::EngineCounts;
 use engine_log::{erase_all, undo_all, weigh_all};
 use engine_questions::{load_erasures_refusal, load_weights_refusal, open_refusal, reset_refusal};
 
@@ -21,13 +22,13 @@ pub fn load_erasures(
     log_edges: &mut [u32],
     log_weights: &mut [Weight],
     list: &[u32],
-) -> EngineAnswer
+) -> Result<EngineCounts, Refusal>
     ensures { Modified (load_erasures list.now)
         (engine_in c ends_a.now ends_b.now weights.old boundary.now log_edges.old log_weights.old)
         result
         (engine_in (kept c result) ends_a.now ends_b.now weights.new boundary.now log_edges.new log_weights.new) }
 {
-    let no = load_erasures_refusal(
+    load_erasures_refusal(
         c,
         ends_a,
         ends_b,
@@ -36,16 +37,12 @@ pub fn load_erasures(
         log_edges,
         log_weights,
         list,
-    );
-    if no == 0 {
-        erase_all(weights, log_edges, log_weights, list);
-        return EngineAnswer::Counts(EngineCounts {
-            vertices: c.vertices,
-            edges: c.edges,
-            entries: list.len(),
-        });
-    }
-    EngineAnswer::Refused(no)
+    )?;
+    erase_all(weights, log_edges, log_weights, list);
+    Ok(EngineCounts {
+        entries: list.len(),
+        ..c
+    })
 }
 
 // Sets each named edge to the weight given for it, in list order. It needs an empty log, and keeps the earlier weights there.
@@ -59,13 +56,13 @@ pub fn load_dynamic_weights(
     log_weights: &mut [Weight],
     list: &[u32],
     values: &[Weight],
-) -> EngineAnswer
+) -> Result<EngineCounts, Refusal>
     ensures { Modified (load_weights list.now values.now)
         (engine_in c ends_a.now ends_b.now weights.old boundary.now log_edges.old log_weights.old)
         result
         (engine_in (kept c result) ends_a.now ends_b.now weights.new boundary.now log_edges.new log_weights.new) }
 {
-    let no = load_weights_refusal(
+    load_weights_refusal(
         c,
         ends_a,
         ends_b,
@@ -75,16 +72,12 @@ pub fn load_dynamic_weights(
         log_weights,
         list,
         values,
-    );
-    if no == 0 {
-        weigh_all(weights, log_edges, log_weights, list, values);
-        return EngineAnswer::Counts(EngineCounts {
-            vertices: c.vertices,
-            edges: c.edges,
-            entries: list.len(),
-        });
-    }
-    EngineAnswer::Refused(no)
+    )?;
+    weigh_all(weights, log_edges, log_weights, list, values);
+    Ok(EngineCounts {
+        entries: list.len(),
+        ..c
+    })
 }
 
 // Undoes the log from its end.
@@ -96,22 +89,15 @@ pub fn reset(
     boundary: &[u8],
     log_edges: &[u32],
     log_weights: &[Weight],
-) -> EngineAnswer
+) -> Result<EngineCounts, Refusal>
     ensures { Modified reset
         (engine_in c ends_a.now ends_b.now weights.old boundary.now log_edges.now log_weights.now)
         result
         (engine_in (kept c result) ends_a.now ends_b.now weights.new boundary.now log_edges.now log_weights.now) }
 {
-    let no = reset_refusal(c, ends_a, ends_b, weights, boundary, log_edges, log_weights);
-    if no == 0 {
-        undo_all(weights, log_edges, log_weights, c.entries);
-        return EngineAnswer::Counts(EngineCounts {
-            vertices: c.vertices,
-            edges: c.edges,
-            entries: 0,
-        });
-    }
-    EngineAnswer::Refused(no)
+    reset_refusal(c, ends_a, ends_b, weights, boundary, log_edges, log_weights)?;
+    undo_all(weights, log_edges, log_weights, c.entries);
+    Ok(EngineCounts { entries: 0, ..c })
 }
 
 // Opens a graph: copies ends, weights and boundary bytes into the engine's own columns, with an empty log.
@@ -126,14 +112,14 @@ pub fn open(
     ends_b: &mut [u32],
     weights: &mut [Weight],
     boundary: &mut [u8],
-) -> EngineAnswer
+) -> Result<EngineCounts, Refusal>
     ensures { Opened vertices edges
         (graph_columns in_a.now in_b.now in_weights.now in_boundary.now)
         (graph_columns ends_a.old ends_b.old weights.old boundary.old)
         result
         (graph_columns ends_a.new ends_b.new weights.new boundary.new) }
 {
-    let no = open_refusal(
+    open_refusal(
         vertices,
         edges,
         in_a,
@@ -144,18 +130,15 @@ pub fn open(
         ends_b,
         weights,
         boundary,
-    );
-    if no == 0 {
-        let n = edges as usize;
-        copy_u32(ends_a, in_a, n);
-        copy_u32(ends_b, in_b, n);
-        copy_weights(weights, in_weights, n);
-        copy_u8(boundary, in_boundary, vertices as usize);
-        return EngineAnswer::Counts(EngineCounts {
-            vertices,
-            edges,
-            entries: 0,
-        });
-    }
-    EngineAnswer::Refused(no)
+    )?;
+    let n = edges as usize;
+    copy(ends_a, in_a, n);
+    copy(ends_b, in_b, n);
+    copy(weights, in_weights, n);
+    copy(boundary, in_boundary, vertices as usize);
+    Ok(EngineCounts {
+        vertices,
+        edges,
+        entries: 0,
+    })
 }

@@ -2,6 +2,7 @@
 use mathlib.Core.Path.{◌≡◌, refl, sym, ap, ◌∙◌, subst}
 use mathlib.Core.Bool.{cond}
 use mathlib.Core.List.{List}
+use Rattle.std.specs.Prelude.{Ok}
 use Prim.Native.Nat.{ℕ}
 use native.Mathlib.Omega.{arith}
 use lib.ListN.{length, get_or}
@@ -12,7 +13,6 @@ use Rattle.columns_answers.proofs.Said.{zero_of}
 use Rattle.engine_log.specs.Load.{loaded, earlier, named, undone, erased, given}
 use Rattle.engine_log.proofs.Loads.{named_at, earlier_at, undo_load}
 use Rattle.engine_columns.specs.declared.EngineCounts.{EngineCounts}
-use Rattle.engine_columns.specs.declared.EngineAnswer.TheVariants.{Counts}
 use Rattle.engine_columns.specs.Records.{Engine, counts}
 use Rattle.engine_columns.specs.Calls.{Call, load_erasures, load_weights, reset, engine_refusal, changed, loaded_by, Modified}
 use Rattle.engine_columns.proofs.Refusals.{Loads, loads_of, named_of, weighed_of_lem, reset-long, reset-named}
@@ -21,7 +21,7 @@ use Rattle.engine_claims.specs.Log.{LastWins, LoadLeaves, ResetLeaves, LoadsAndR
 use Rattle.engine_claims.proofs.Places.{last-wins, named_past, earlier_past, first-wins, load_past, back_past}
 
 -- an accepted call leaves what it is defined to change
-changed_by : (call : Call) (e₀ e : Engine) (c : EngineCounts) → Modified call e₀ (Counts c) e → e ≡ changed call e₀
+changed_by : (call : Call) (e₀ e : Engine) (c : EngineCounts) → Modified call e₀ (Ok c) e → e ≡ changed call e₀
 changed_by call e₀ e c m = m.engine_after ∙ ap (λ (n : ℕ). cond (eqb n 0) (changed call e₀) e₀) (zero_of m.answers)
 
 -- ---- loads
@@ -56,11 +56,11 @@ record LoadIs (es : List ℕ) (x : ℕ → ℕ) (e₀ e : Engine) : Type 0 where
 load_is : {es : List ℕ} {x : ℕ → ℕ} {e₀ e : Engine} → LoadAccepted es x e₀ e → LoadIs es x e₀ e
 load_is (erasures_accepted κs a c s h) = erasures-is _ _ _ c h
   where
-    erasures-is : (es : List ℕ) (e₀ e : Engine) (c : EngineCounts) → Modified (load_erasures es) e₀ (Counts c) e → LoadIs es erased e₀ e
+    erasures-is : (es : List ℕ) (e₀ e : Engine) (c : EngineCounts) → Modified (load_erasures es) e₀ (Ok c) e → LoadIs es erased e₀ e
     erasures-is es e₀ e c m = record { rest = 0; met = loads_of es e₀ 0 (zero_of m.answers); left_is = changed_by (load_erasures es) e₀ e c m }
 load_is (weights_accepted κs a c s h) = weights-is _ _ _ _ c h
   where
-    weights-is : (es xs : List ℕ) (e₀ e : Engine) (c : EngineCounts) → Modified (load_weights es xs) e₀ (Counts c) e → LoadIs es (given xs) e₀ e
+    weights-is : (es xs : List ℕ) (e₀ e : Engine) (c : EngineCounts) → Modified (load_weights es xs) e₀ (Ok c) e → LoadIs es (given xs) e₀ e
     weights-is es xs e₀ e c m = record {
       rest = ask (all_within weight_limit xs) 15 0;
       met = (weighed_of_lem es xs e₀ (zero_of m.answers)).loads;
@@ -76,7 +76,7 @@ record ResetIs (e₀ e : Engine) : Type 0 where
 reset_is : {e₀ e : Engine} → ResetAccepted e₀ e → ResetIs e₀ e
 reset_is (reset_accepted κs a c s h) = go _ _ c h
   where
-    go : (e₀ e : Engine) (c : EngineCounts) → Modified reset e₀ (Counts c) e → ResetIs e₀ e
+    go : (e₀ e : Engine) (c : EngineCounts) → Modified reset e₀ (Ok c) e → ResetIs e₀ e
     go e₀ e c m = record { met = zero_of m.answers; left_is = changed_by reset e₀ e c m }
 
 -- an empty log

@@ -1,25 +1,21 @@
--- What the number 0 says of the columns, and a step from its parts. Assumes nothing.
-use mathlib.Core.Path.{◌≡◌, sym, ap, ◌∙◌}
-use mathlib.Core.Bool.{Bool, true, ◌&&◌, cond}
+-- What the number 0 says of the columns. Assumes nothing.
+use mathlib.Core.Path.{◌≡◌}
+use mathlib.Core.Bool.{true, ◌&&◌}
 use mathlib.Core.List.{List}
 use Prim.Native.Nat.{ℕ, ◌+◌, ◌≤◌, ◌<◌}
 use native.Mathlib.Omega.{arith}
-use borrow.Author.Tests.{leb-true, le-leb, eqb-true, ne_eqb}
+use borrow.Author.Tests.{leb-true, le-leb, eqb-true}
 use lib.ListN.{length, get_or, take}
 use lib.Dec.{leb, eqb}
 use Rattle.columns.specs.Limits.{weight_limit}
 use Rattle.columns.specs.Questions.{ask, all_below, all_within, weights_sound, boundaries_sound}
 use Rattle.columns.proofs.Tests.{and_both, both_and, below_at, below_first}
-use Rattle.columns_answers.proofs.Said.{accepts-of, refuses-of}
 use Rattle.columns_neighbors.specs.Sound.{graph_sound, log_sound}
 use Rattle.columns_room.specs.Room.{three_long}
 use Rattle.columns_room.proofs.Refusals.{three_long_lem}
-use Rattle.engine_columns.specs.declared.EngineCounts.{EngineCounts}
-use Rattle.engine_columns.specs.declared.EngineAnswer.{EngineAnswer}
-use Rattle.engine_columns.specs.declared.EngineAnswer.TheVariants.{Counts, Refused}
-use Rattle.engine_columns.specs.Records.{Engine, engine, counts}
+use Rattle.engine_columns.specs.Records.{Engine}
 use Rattle.engine_columns.specs.Questions.{columns_long, engine_long, columns_sound, engine_sound}
-use Rattle.engine_columns.specs.Calls.{Call, load_weights, reset, engine_refusal, changed, Modified}
+use Rattle.engine_columns.specs.Calls.{load_weights, reset, engine_refusal}
 use Rattle.engine_columns.specs.Open.{GraphColumns, open_refusal}
 use Rattle.columns.proofs.Refusals.{met, goes_on}
 
@@ -93,29 +89,6 @@ sound_of e h =
 pub sound_from : (e : Engine) → Sound e → engine_sound e ≡ true
 unfolding engine_sound log_sound
 sound_from e s = both_and (columns-sound-from _ _ _ _ _ _ s.columns) (both_and s.log_edges s.log_weights)
-
--- ---- a step from its parts: accepted, and refused
-
-pub accepted : (call : Call) (before last : Engine) (r : EngineAnswer) → engine_refusal call before ≡ 0
-    → r ≡ Counts (changed call before).counts → last ≡ changed call before → Modified call before r last
-accepted call before last r z q p = record {
-  answers = rw q (accepts-of z);
-  engine_after = p ∙ ap (λ (n : ℕ). cond (eqb n 0) (changed call before) before) (sym z);
-}
-
-pub refused : (call : Call) (before last : Engine) (r : EngineAnswer) (n : ℕ) → n ≡ engine_refusal call before → (n ≡ 0 → ⊥)
-    → r ≡ Refused n → last ≡ before → Modified call before r last
-refused call before last r n d h q p = record {
-  answers = rw q (refuses-of d h);
-  engine_after = p
-      ∙ ap (λ (b : Bool). cond b (changed call before) before) (sym (ne_eqb n 0 h))
-      ∙ ap (λ (k : ℕ). cond (eqb k 0) (changed call before) before) d;
-}
-
--- an engine's columns, from theirs
-pub columns : (c : EngineCounts) (a b : List ℕ) (w w' m e e' l l' : List ℕ) → w ≡ w' → e ≡ e' → l ≡ l'
-    → engine c a b w m e l ≡ engine c a b w' m e' l'
-columns c a b w w' m e e' l l' p q r = cc
 
 -- ---- what an accepted call says
 

@@ -1,10 +1,11 @@
 -- What a load or a reset answers and what it leaves in every lent column: the relation that the contracts in engine_calls cite.
-use Rattle.std.specs.Prelude.{ℕ, ◌≡◌, cond, List, length, eqb}
+use Rattle.std.specs.Prelude.{ℕ, ◌≡◌, cond, List, length, eqb, Result}
 use Rattle.columns.specs.Limits.{weight_limit}
 use Rattle.columns.specs.Questions.{ask, all_below, all_within}
-use Rattle.columns_answers.specs.Said.{Answered}
-use Rattle.engine_columns.specs.declared.EngineAnswer.{EngineAnswer}
-use Rattle.engine_columns.specs.Records.{Engine, engine, counts, no_counts, engine_said}
+use Rattle.columns.specs.declared.refusal.Refusal.{Refusal}
+use Rattle.columns_answers.specs.Said.{said, Answered}
+use Rattle.engine_columns.specs.declared.EngineCounts.{EngineCounts}
+use Rattle.engine_columns.specs.Records.{Engine, engine, counts, no_counts}
 use Rattle.engine_log.specs.Load.{loaded, earlier, named, undone, erased, given}
 use Rattle.engine_columns.specs.Questions.{engine_long, engine_sound}
 
@@ -46,6 +47,6 @@ changed reset e =
     (undone e.log_edges e.log_weights e.counts.entries e.weights) e.boundary e.log_edges e.log_weights
 
 -- Engine, Load and Reset; Questions at the door, sentence 2: the answer, and every column left, refusals included.
-pub record Modified (call : Call) (e₀ : Engine) (answer : EngineAnswer) (e : Engine) : Type 0 where
-  pub answers : Answered (engine_said answer) (engine_refusal call e₀) (changed call e₀).counts no_counts
+pub record Modified (call : Call) (e₀ : Engine) (answer : Result EngineCounts Refusal) (e : Engine) : Type 0 where
+  pub answers : Answered (said no_counts answer) (engine_refusal call e₀) (changed call e₀).counts no_counts
   pub engine_after : e ≡ cond (eqb (engine_refusal call e₀) 0) (changed call e₀) e₀

@@ -1,10 +1,11 @@
 -- What open answers and leaves.
-use Rattle.std.specs.Prelude.{ℕ, ◌≡◌, ◌&&◌, List, take}
+use Rattle.std.specs.Prelude.{ℕ, ◌≡◌, ◌&&◌, List, take, Result}
 use Rattle.columns.specs.Lists.{after}
 use Rattle.columns.specs.Questions.{ask}
-use Rattle.columns_answers.specs.Said.{Answered}
-use Rattle.engine_columns.specs.declared.EngineAnswer.{EngineAnswer}
-use Rattle.engine_columns.specs.Records.{counts, no_counts, engine_said}
+use Rattle.columns.specs.declared.refusal.Refusal.{Refusal}
+use Rattle.columns_answers.specs.Said.{said, Answered}
+use Rattle.engine_columns.specs.declared.EngineCounts.{EngineCounts}
+use Rattle.engine_columns.specs.Records.{counts, no_counts}
 use Rattle.engine_columns.specs.Questions.{columns_long, columns_sound}
 
 -- Records, on engine graphs: the columns of a graph without its log.
@@ -25,8 +26,8 @@ open_refusal v e handed lent =
     (ask (columns_sound v e handed.ends_a handed.ends_b handed.weights handed.boundary) 7 0)
 
 -- Engine, Open: the answer, and every column: an accepted open copies, and the log is empty.
-pub record Opened (v e : ℕ) (handed lent₀ : GraphColumns) (answer : EngineAnswer) (lent : GraphColumns) : Type 0 where
-  pub answers : Answered (engine_said answer) (open_refusal v e handed lent₀) (counts v e 0) no_counts
+pub record Opened (v e : ℕ) (handed lent₀ : GraphColumns) (answer : Result EngineCounts Refusal) (lent : GraphColumns) : Type 0 where
+  pub answers : Answered (said no_counts answer) (open_refusal v e handed lent₀) (counts v e 0) no_counts
   pub ends_a_after : lent.ends_a ≡ after (open_refusal v e handed lent₀) (take e handed.ends_a) lent₀.ends_a
   pub ends_b_after : lent.ends_b ≡ after (open_refusal v e handed lent₀) (take e handed.ends_b) lent₀.ends_b
   pub weights_after : lent.weights ≡ after (open_refusal v e handed lent₀) (take e handed.weights) lent₀.weights

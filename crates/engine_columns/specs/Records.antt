@@ -1,9 +1,7 @@
 -- The engine graph of document 01's "Records": the columns that a caller lends, with their counts.
-use Rattle.std.specs.Prelude.{ℕ, List, []}
-use Rattle.columns_answers.specs.Said.{Said, accepts, refuses}
+use Rattle.std.specs.Prelude.{ℕ, List, [], Result, Ok, Err}
+use Rattle.columns.specs.declared.refusal.Refusal.{Refusal}
 use Rattle.engine_columns.specs.declared.EngineCounts.{EngineCounts}
-use Rattle.engine_columns.specs.declared.EngineAnswer.{EngineAnswer}
-use Rattle.engine_columns.specs.declared.EngineAnswer.TheVariants.{Counts, Refused}
 
 -- Records, on engine graphs: ends, a weight for each edge, boundary bytes and a log, with
 -- their counts. Every column is whole, as it is lent: places past a count are in it.
@@ -37,12 +35,7 @@ counts v e n = record { vertices = v; edges = e; entries = n }
 abbrev pub no_counts : EngineCounts
 no_counts = counts 0 0 0
 
--- Expected forms by place, last paragraph: document 01's number and values for each case of `EngineAnswer`; the counts to go on with are 0 at a refusal.
-abbrev pub engine_said : EngineAnswer → Said EngineCounts
-engine_said (Counts c) = accepts c
-engine_said (Refused number) = refuses number no_counts
-
 -- Engine, Tally, sentence 2: the counts after an answer, which the next call is lent: an accepted call hands them back, a refused one leaves them.
-abbrev pub kept : EngineCounts → EngineAnswer → EngineCounts
-kept c (Counts k) = k
-kept c (Refused n) = c
+abbrev pub kept : EngineCounts → Result EngineCounts Refusal → EngineCounts
+kept c (Ok k) = k
+kept c (Err r) = c

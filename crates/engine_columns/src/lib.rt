@@ -6,7 +6,7 @@ ghost use Rattle.engine_columns.specs.Records.{engine_in};
 ghost use Rattle.engine_columns.specs.Questions.{columns_long, engine_long, columns_sound, engine_sound};
 
 use columns::Weight;
-use columns::questions::{at_most, both, boundaries_sound, has_room, weights_sound};
+use columns::questions::{boundaries_sound, has_room, weights_sound};
 use columns_neighbors::sound::{graph_sound, log_sound};
 use columns_room::three_long;
 
@@ -18,14 +18,8 @@ pub struct EngineCounts {
     pub entries: usize,
 }
 
-// The counts to go on with, or the number of the question that was not met.
-#[derive(Clone, Copy)]
-pub enum EngineAnswer {
-    Counts(EngineCounts),
-    Refused(u32),
-}
-
 // Question 6, of ends, weights and boundary bytes.
+#[tactic(auto, unfolding(crate::specs::Questions::columns_long))]
 pub fn columns_long(
     vertices: u32,
     edges: u32,
@@ -36,13 +30,12 @@ pub fn columns_long(
 ) -> bool
     ensures { result ≡ columns_long vertices edges ends_a.now ends_b.now weights.now boundary.now }
 {
-    let e = edges as usize;
-    let edge_columns = three_long(e, ends_a.len(), ends_b.len(), weights.len());
-    let bytes = at_most(vertices as usize, boundary.len());
-    both(edge_columns, bytes)
+    three_long(edges as usize, ends_a.len(), ends_b.len(), weights.len())
+        && vertices as usize <= boundary.len()
 }
 
 // Question 6, with room in the log for n entries more.
+#[tactic(auto, unfolding(crate::specs::Questions::engine_long))]
 pub fn long_enough(
     c: EngineCounts,
     ends_a: &[u32],
@@ -55,13 +48,13 @@ pub fn long_enough(
 ) -> bool
     ensures { result ≡ engine_long n (engine_in c ends_a.now ends_b.now weights.now boundary.now log_edges.now log_weights.now) }
 {
-    let long = columns_long(c.vertices, c.edges, ends_a, ends_b, weights, boundary);
-    let e = has_room(c.entries, n, log_edges.len());
-    let w = has_room(c.entries, n, log_weights.len());
-    both(long, both(e, w))
+    columns_long(c.vertices, c.edges, ends_a, ends_b, weights, boundary)
+        && has_room(c.entries, n, log_edges.len())
+        && has_room(c.entries, n, log_weights.len())
 }
 
 // Question 7, of ends, weights and boundary bytes.
+#[tactic(auto, unfolding(crate::specs::Questions::columns_sound))]
 pub fn columns_sound(
     vertices: u32,
     edges: u32,
@@ -72,13 +65,13 @@ pub fn columns_sound(
 ) -> bool
     ensures { result ≡ columns_sound vertices edges ends_a.now ends_b.now weights.now boundary.now }
 {
-    let graph = graph_sound(vertices, edges, ends_a, ends_b);
-    let w = weights_sound(weights, edges as usize);
-    let m = boundaries_sound(boundary, vertices as usize);
-    both(graph, both(w, m))
+    graph_sound(vertices, edges, ends_a, ends_b)
+        && weights_sound(weights, edges as usize)
+        && boundaries_sound(boundary, vertices as usize)
 }
 
 // Question 7.
+#[tactic(auto, unfolding(crate::specs::Questions::engine_sound))]
 pub fn engine_sound(
     c: EngineCounts,
     ends_a: &[u32],
@@ -90,7 +83,6 @@ pub fn engine_sound(
 ) -> bool
     ensures { result ≡ engine_sound (engine_in c ends_a.now ends_b.now weights.now boundary.now log_edges.now log_weights.now) }
 {
-    let graph = columns_sound(c.vertices, c.edges, ends_a, ends_b, weights, boundary);
-    let log = log_sound(c.edges, c.entries, log_edges, log_weights);
-    both(graph, log)
+    columns_sound(c.vertices, c.edges, ends_a, ends_b, weights, boundary)
+        && log_sound(c.edges, c.entries, log_edges, log_weights)
 }

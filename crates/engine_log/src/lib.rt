@@ -40,10 +40,8 @@ pub fn erase_all(
     ensures log_edges_after { log_edges.new ≡ named list.now (length list.now) log_edges.old }
     ensures log_weights_after { log_weights.new ≡ earlier list.now erased (length list.now) weights.old log_weights.old }
 {
-    let mut i = 0;
-    while i < list.len() {
+    for i in 0..list.len() {
         set_weight(weights, log_edges, log_weights, i, EdgeIndex(list[i]), 0);
-        i += 1;
     }
 }
 
@@ -61,8 +59,7 @@ pub fn weigh_all(
     ensures log_edges_after { log_edges.new ≡ named list.now (length list.now) log_edges.old }
     ensures log_weights_after { log_weights.new ≡ earlier list.now (given values.now) (length list.now) weights.old log_weights.old }
 {
-    let mut i = 0;
-    while i < list.len() {
+    for i in 0..list.len() {
         set_weight(
             weights,
             log_edges,
@@ -71,7 +68,6 @@ pub fn weigh_all(
             EdgeIndex(list[i]),
             values[i],
         );
-        i += 1;
     }
 }
 

@@ -16,8 +16,11 @@ use Rattle.columns.proofs.Columns.{take-over, over-in, length_over, after-accept
 use Rattle.columns_neighbors.specs.Sound.{SoundGraph}
 use Rattle.columns_neighbors.proofs.Ends.{graph-says, says-graph}
 use Rattle.engine_columns.specs.declared.EngineCounts.{EngineCounts}
-use Rattle.engine_columns.specs.declared.EngineAnswer.{EngineAnswer}
-use Rattle.engine_columns.specs.Records.{Engine, engine, counts, engine_said}
+use Rattle.std.specs.Prelude.{Result}
+use Rattle.columns.specs.declared.refusal.Refusal.{Refusal}
+use Rattle.columns.specs.Refusals.{question_of}
+use Rattle.columns_answers.proofs.Said.{question-of}
+use Rattle.engine_columns.specs.Records.{Engine, engine, counts}
 use Rattle.engine_log.specs.Load.{loaded, earlier, named, undone, erased, given}
 use Rattle.engine_columns.specs.Questions.{columns_long, engine_long}
 use Rattle.engine_columns.specs.Calls.{Call, load_erasures, load_weights, reset, engine_refusal, changed, loaded_by, Modified}
@@ -156,10 +159,10 @@ accepted_agrees (load_weights es xs) t e a z =
 accepted_agrees reset t e a z = reset_agrees t e a
 
 -- one call
-pub step_agrees : (call : Call) (t : Tally) (e e₁ : Engine) (r : EngineAnswer) → Agrees t e → Modified call e r e₁
-    → ((engine_said r).number ≡ tally_refusal call (lengths_of e) t) × Agrees (tally_step (record { call = call; lent = lengths_of e }) t) e₁
+pub step_agrees : (call : Call) (t : Tally) (e e₁ : Engine) (r : Result EngineCounts Refusal) → Agrees t e → Modified call e r e₁
+    → (question_of r ≡ tally_refusal call (lengths_of e) t) × Agrees (tally_step (record { call = call; lent = lengths_of e }) t) e₁
 step_agrees call t e e₁ r a s = (
-  s.answers.number_is ∙ refusal_same call t e a,
+  question-of r s.answers ∙ refusal_same call t e a,
   rw (s.engine_after, ← refusal_same call t e a) (go (eqb (engine_refusal call e) 0) refl),
 )
   where
@@ -195,10 +198,10 @@ copied_graph v e a b a' b' la lb s =
       apart = λ j k h l o. s.apart j k h l (rw (ga j (omega arith), gb j (omega arith), ga k l, gb k l) at o);
     }
 
-pub opened_agrees : (v e : ℕ) (h l o : GraphColumns) (r : EngineAnswer) (le lw : List ℕ) → Opened v e h l r o → (engine_said r).number ≡ 0
+pub opened_agrees : (v e : ℕ) (h l o : GraphColumns) (r : Result EngineCounts Refusal) (le lw : List ℕ) → Opened v e h l r o → question_of r ≡ 0
     → Agrees (tally_of v e h) (engine (counts v e 0) o.ends_a o.ends_b o.weights o.boundary le lw)
 opened_agrees v e h l o r le lw s z =
-    let d : open_refusal v e h l ≡ 0 = sym s.answers.number_is ∙ z in
+    let d : open_refusal v e h l ≡ 0 = sym (question-of r s.answers) ∙ z in
     let p : Opens v e h l = opens_of v e h l d in
     let f = p.from in
     let g = p.to in

@@ -82,10 +82,8 @@ pub fn clear(node: &mut [u64], leaf: &mut [u64], n: usize)
     ensures node_len_unchanged { length node.new ≡ length node.old }
     ensures leaf_len_unchanged { length leaf.new ≡ length leaf.old }
 {
-    let mut i = 0;
-    while i < n {
+    for i in 0..n {
         node[i] = NONE;
         leaf[i] = NONE;
-        i += 1;
     }
 }

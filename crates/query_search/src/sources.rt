@@ -14,7 +14,7 @@ fn begin_at(status: &mut [u8], a: VertexIndex)
     ensures { status.new ≡ set (replicate (length status.old) 0) a.0 1 }
 {
     let n = status.len();
-    columns_stores::fill_u8(status, n, 0);
+    columns_stores::fill(status, n, 0);
     let at = a.0 as usize;
     if at < n {
         status[at] = 1;
@@ -114,7 +114,7 @@ pub fn begin(
     ensures previous_after { previous.new ≡ each (length status.now) (λ v. v) }
 {
     let n = status.len();
-    columns_stores::fill_weights(weight, n, 0);
+    columns_stores::fill(weight, n, 0);
     own_previous(previous);
     put_sources(status, node, leaf);
 }

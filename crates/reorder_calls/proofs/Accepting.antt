@@ -1,27 +1,23 @@
--- What an accepted call says of its columns, and what a call answers and leaves, accepted and refused. Assumes nothing.
-use mathlib.Core.Path.{◌≡◌, refl, sym, ap, ◌∙◌}
-use mathlib.Core.Bool.{Bool, true, ◌&&◌}
+-- What an accepted call says of its columns, and what it answers and leaves. Assumes nothing.
+use mathlib.Core.Path.{◌≡◌, sym, ap, ◌∙◌}
+use mathlib.Core.Bool.{true, ◌&&◌}
 use mathlib.Core.List.{List}
 use Prim.Native.Nat.{ℕ, ◌≤◌, ◌<◌}
 use native.Mathlib.Omega.{arith}
 use lib.ListN.{length, get_or, take}
 use Rattle.columns.specs.Places.{zero_float}
 use lib.Dec.{leb, eqb}
-use borrow.Author.Tests.{leb-true, le-leb, lt-leb, eqb-true, eq-eqb, ne_eqb}
+use borrow.Author.Tests.{leb-true, eqb-true}
 use Rattle.columns.specs.Limits.{vertex_limit}
 use Rattle.columns.specs.Lists.{over}
 use Rattle.columns.specs.Questions.{ask, all_below, marks_sound}
-use Rattle.columns.specs.Answers.{done}
-use Rattle.columns_answers.proofs.Said.{accepts-of, refuses-of}
-use Rattle.columns_answers.proofs.Done.{said_of}
-use Rattle.columns.specs.declared.Done.{Done}
-use Rattle.columns.specs.declared.Done.TheVariants as done-is
-use Rattle.columns.proofs.Columns.{after-accepted, after-refused}
+use Rattle.std.specs.Prelude.{Ok}
+use Rattle.columns_answers.proofs.Said.{accepted-of}
+use Rattle.columns.proofs.Columns.{after-accepted}
 use Rattle.columns.proofs.Tests.{and_both, below_at}
-use Rattle.columns.proofs.Refusals.{met, goes_on, asks}
-use Rattle.reorder_calls.specs.declared.TranslatedAnswer.TheVariants.{Count, Refused}
-use Rattle.reorder_orders.specs.Order.{none_twice, old_to_new, renamed, moved}
-use Rattle.reorder_calls.specs.Numbers.{build_refusal, BuiltOldToNew, translate_refusal, TranslatedDefects}
+use Rattle.columns.proofs.Refusals.{met, goes_on}
+use Rattle.reorder_orders.specs.Order.{none_twice, renamed, moved}
+use Rattle.reorder_calls.specs.Numbers.{build_refusal, translate_refusal}
 use Rattle.columns_neighbors.specs.Lists.{sum_to}
 use Rattle.columns_room.specs.Graph.{code_graph, code_sound}
 use Rattle.columns_room.specs.Room.{two_long, three_long, lists_long}
@@ -29,25 +25,10 @@ use Rattle.columns_room.proofs.Refusals.{three_long_lem, lists_long_lem}
 use Rattle.columns_room.proofs.Graph.{CodeSound, code_sound_of}
 use Rattle.reorder_calls.specs.Columns.{ReorderColumns, moved_lists, reorder_long, reorder_sound, order_refusal, reorder_refusal, ReorderedVertices}
 use Rattle.reorder_orders.specs.Steps.{IsOrder}
-use Rattle.reorder_orders.proofs.Asking.{stops, passes}
 
 -- ---- build_old_to_new
 
 module _ (order column : List ℕ) where
-  pub build-6 : length column < length order → 6 ≡ build_refusal order column
-  unfolding build_refusal
-  build-6 h = stops (leb (length order) (length column)) 6 _ (lt-leb (length order) (length column) h)
-
-  pub build-11 : length order ≤ length column → vertex_limit < length order → 11 ≡ build_refusal order column
-  unfolding build_refusal
-  build-11 h g = passes (leb (length order) (length column)) 6 _ (le-leb (length order) (length column) h) (stops (leb (length order) vertex_limit) 11 _ (lt-leb (length order) vertex_limit g))
-
-  pub build-on : {r : ℕ} {b : Bool} → length order ≤ length column → length order ≤ vertex_limit → b ≡ all_below (length order) order → r ≡ ask b 13 (ask (none_twice order) 14 0) → r ≡ build_refusal order column
-  unfolding build_refusal
-  build-on h g e q =
-      passes (leb (length order) (length column)) 6 _ (le-leb (length order) (length column) h)
-      (passes (leb (length order) vertex_limit) 11 _ (le-leb (length order) vertex_limit g) (q ∙ asks 13 e refl))
-
   pub build-met : build_refusal order column ≡ 0 → IsOrder order × (length order ≤ length column)
   unfolding build_refusal
   build-met z =
@@ -65,36 +46,9 @@ module _ (order column : List ℕ) where
         leb-true (length order) (length column) (met (leb (length order) (length column)) 5 q₁₁ z),
       )
 
-  pub built-refused : {r : Done} {n : ℕ} → n ≡ build_refusal order column → (n ≡ 0 → ⊥) → r ≡ done n → BuiltOldToNew order column r column
-  built-refused e f q = record {
-    answers = said_of _ _ (q ∙ ap done e);
-    column_after = sym (after-refused (build_refusal order column) (old_to_new order) column (λ z. f (e ∙ z)));
-  }
-
-  pub built-accepted : {last : List ℕ} → build_refusal order column ≡ 0 → last ≡ over (old_to_new order) column → BuiltOldToNew order column done-is.Accepted last
-  built-accepted z q = record {
-    answers = accepts-of z;
-    column_after = q ∙ sym (after-accepted (build_refusal order column) (old_to_new order) column z);
-  }
-
 -- ---- translated_defect_to_reordered
 
 module _ (order list column : List ℕ) where
-  pub translate-6 : length column < length list → 6 ≡ translate_refusal order list column
-  unfolding translate_refusal
-  translate-6 h = stops (leb (length list) (length column)) 6 _ (lt-leb (length list) (length column) h)
-
-  pub translate-11 : length list ≤ length column → vertex_limit < length order → 11 ≡ translate_refusal order list column
-  unfolding translate_refusal
-  translate-11 h g = passes (leb (length list) (length column)) 6 _ (le-leb (length list) (length column) h) (stops (leb (length order) vertex_limit) 11 _ (lt-leb (length order) vertex_limit g))
-
-  pub translate-on : {r : ℕ} {b : Bool} → length list ≤ length column → length order ≤ vertex_limit → b ≡ (all_below (length order) order && all_below (length order) list)
-      → r ≡ ask b 13 (ask (none_twice order) 14 0) → r ≡ translate_refusal order list column
-  unfolding translate_refusal
-  translate-on h g e q =
-      passes (leb (length list) (length column)) 6 _ (le-leb (length list) (length column) h)
-      (passes (leb (length order) vertex_limit) 11 _ (le-leb (length order) vertex_limit g) (q ∙ asks 13 e refl))
-
   pub record TranslateMet : Type 0 where
     pub order_is : IsOrder order
     pub room : length list ≤ length column
@@ -120,31 +74,9 @@ module _ (order list column : List ℕ) where
         listed = below_at (length order) list y;
       }
 
-  pub translated-refused : {n : ℕ} → n ≡ translate_refusal order list column → (n ≡ 0 → ⊥) → TranslatedDefects order list column (Refused n) column
-  translated-refused e f =
-      let g : translate_refusal order list column ≡ 0 → ⊥ = λ z. f (e ∙ z) in
-      record {
-        answers = refuses-of e f;
-        column_after = sym (after-refused (translate_refusal order list column) (renamed order list) column g);
-      }
-
-  pub translated-accepted : {last : List ℕ} → translate_refusal order list column ≡ 0 → last ≡ over (renamed order list) column → TranslatedDefects order list column (Count (length list)) last
-  translated-accepted z q = record {
-    answers = accepts-of z;
-    column_after = q ∙ sym (after-accepted (translate_refusal order list column) (renamed order list) column z);
-  }
-
 -- ---- reorder_vertices
 
 -- 11, 13 and 14 of an order for v vertices
-pub order_stops : (v : ℕ) (order : List ℕ) → (length order ≡ v → ⊥) → 11 ≡ order_refusal v order
-unfolding order_refusal
-order_stops v order f = stops (eqb (length order) v) 11 _ (ne_eqb (length order) v f)
-
-pub order_on : (v : ℕ) (order : List ℕ) {r : ℕ} {b : Bool} → length order ≡ v → b ≡ all_below v order → r ≡ ask b 13 (ask (none_twice order) 14 0) → r ≡ order_refusal v order
-unfolding order_refusal
-order_on v order e f q = passes (eqb (length order) v) 11 _ (eq-eqb (length order) v e) (q ∙ asks 13 f refl)
-
 pub order_met : (v : ℕ) (order : List ℕ) → v ≤ vertex_limit → order_refusal v order ≡ 0 → IsOrder order × (length order ≡ v)
 unfolding order_refusal
 order_met v order few z =
@@ -209,37 +141,19 @@ reorder_met v e order c z =
       marks = marks;
     }
 
--- the answer and the columns, refused and accepted
+-- the answer and the columns
 module _ (v e : ℕ) (order : List ℕ) (b : ReorderColumns) where
-  pub reordered-refused : {r : Done} {n : ℕ} → n ≡ reorder_refusal v e order b → (n ≡ 0 → ⊥) → r ≡ done n → ReorderedVertices v e order b r b
-  reordered-refused {r} {n} q f h =
-      let refusal = reorder_refusal v e order b in
-      let g : refusal ≡ 0 → ⊥ = λ z. f (q ∙ z) in
-      record {
-        answers = said_of _ _ (h ∙ ap done q);
-        ends_a_after = sym (after-refused refusal (renamed order (take e b.ends_a)) b.ends_a g);
-        ends_b_after = sym (after-refused refusal (renamed order (take e b.ends_b)) b.ends_b g);
-        boundary_after = sym (after-refused refusal (moved order 0 b.boundary) b.boundary g);
-        defect_after = sym (after-refused refusal (moved order 0 b.defect) b.defect g);
-        pos_i_after = sym (after-refused refusal (moved order zero_float b.pos_i) b.pos_i g);
-        pos_j_after = sym (after-refused refusal (moved order zero_float b.pos_j) b.pos_j g);
-        pos_t_after = sym (after-refused refusal (moved order zero_float b.pos_t) b.pos_t g);
-        list_lengths_after = sym (after-refused refusal (moved order 0 b.list_lengths) b.list_lengths g);
-        neighbor_numbers_after = sym (after-refused refusal (moved_lists order b.list_lengths b.neighbor_numbers) b.neighbor_numbers g);
-        scratch_after = sym (after-refused refusal (take (sum_to v b.list_lengths) b.neighbor_numbers) b.scratch g);
-      }
-
   pub reordered-accepted : (last : ReorderColumns) → reorder_refusal v e order b ≡ 0 → length order ≡ v
       → last.ends_a ≡ over (renamed order (take e b.ends_a)) b.ends_a → last.ends_b ≡ over (renamed order (take e b.ends_b)) b.ends_b
       → last.boundary ≡ over (moved order 0 b.boundary) b.boundary → last.defect ≡ over (moved order 0 b.defect) b.defect
       → last.pos_i ≡ over (moved order zero_float b.pos_i) b.pos_i → last.pos_j ≡ over (moved order zero_float b.pos_j) b.pos_j
       → last.pos_t ≡ over (moved order zero_float b.pos_t) b.pos_t → last.list_lengths ≡ over (moved order 0 b.list_lengths) b.list_lengths
       → last.neighbor_numbers ≡ over (moved_lists order b.list_lengths b.neighbor_numbers) b.neighbor_numbers
-      → last.scratch ≡ over (take (sum_to (length order) b.list_lengths) b.neighbor_numbers) b.scratch → ReorderedVertices v e order b done-is.Accepted last
+      → last.scratch ≡ over (take (sum_to (length order) b.list_lengths) b.neighbor_numbers) b.scratch → ReorderedVertices v e order b (Ok tt) last
   reordered-accepted last z many pa pb pm pd pi pj pt pl pn ps =
       let refusal = reorder_refusal v e order b in
       record {
-        answers = accepts-of z;
+        answers = accepted-of z;
         ends_a_after = pa ∙ sym (after-accepted refusal (renamed order (take e b.ends_a)) b.ends_a z);
         ends_b_after = pb ∙ sym (after-accepted refusal (renamed order (take e b.ends_b)) b.ends_b z);
         boundary_after = pm ∙ sym (after-accepted refusal (moved order 0 b.boundary) b.boundary z);

@@ -4,10 +4,9 @@ use mathlib.Core.List.{List, [], ◌∷◌, ◌++◌}
 use Prim.Native.Nat.{ℕ, zero, suc, ◌+◌, ◌≤◌, ◌<◌}
 use native.Mathlib.Nat.{zero-add}
 use native.Mathlib.Decide.{ℕ_discrete}
-use native.Mathlib.Numerals.{add-one}
 use native.Mathlib.Omega.{arith}
 use lib.ListN.{length, get_or, set, take, drop, length-take, length-drop, length-append}
-use lib.Seq.{sets, length-take-le, take-suc, take-length, get_or-take, get_or-drop, get_or-set_same, get_or-set_other, ext_get_or}
+use lib.Seq.{sets, take-suc, take-length, get_or-take, get_or-drop, get_or-set_same, get_or-set_other, ext_get_or}
 use Rattle.columns.specs.Lists.{joined, over}
 use Rattle.columns.proofs.Columns.{sets-append, sets_over}
 use Rattle.columns.proofs.Counting.{joined-more, joined_same, joined-room}
@@ -32,20 +31,6 @@ starts_more i xs starts {sum} room e f u h = elim (ℕ_discrete u i) [
   | yes q ↦ ap (λ (k : ℕ). get_or (set starts i sum) k 0) q ∙ get_or-set_same starts i sum 0 room ∙ e ∙ ap (λ (k : ℕ). sum_to k xs) (sym q)
   | no q ↦ get_or-set_other starts i u sum 0 q ∙ f u (omega arith)
 ]
-
--- ---- a run of numbers
-
-module _ (from : List ℕ) (start : ℕ) (to₀ : List ℕ) (at : ℕ) where
-  pub run_more : (i : ℕ) {to : List ℕ} → start + i < length from → to ≡ sets to₀ at (take i (drop start from))
-      → set to (at + i) (get_or from (start + i) 0) ≡ sets to₀ at (take (i + 1) (drop start from))
-  run_more i {to} h e =
-      let long : i < length (drop start from) = omega (arith, length-drop start from) in
-      let here : length (take i (drop start from)) ≡ i = length-take-le i (drop start from) (omega arith) in
-      ap (λ (t : List ℕ). set t (at + i) (get_or from (start + i) 0)) e
-      ∙ ap (set (sets to₀ at (take i (drop start from))) (at + i)) (sym (get_or-drop start from i 0))
-      ∙ ap (λ (k : ℕ). set (sets to₀ at (take i (drop start from))) (at + k) (get_or (drop start from) i 0)) (sym here)
-      ∙ sym (sets-append to₀ at (take i (drop start from)) (get_or (drop start from) i 0 ∷ []))
-      ∙ ap (sets to₀ at) (sym (take-suc (drop start from) i 0 long) ∙ ap (λ (k : ℕ). take k (drop start from)) (sym (add-one i)))
 
 -- ---- lists
 
@@ -77,43 +62,46 @@ unfolding along
 along_same f g [] h = refl
 along_same f g (x ∷ xs) h = omega (arith, h 0 (omega arith), along_same f g xs (λ i l. h (suc i) (omega arith)))
 
+-- the lists in the new order, as far as they are stored
+abbrev pub listsTo : (order lengths numbers : List ℕ) → ℕ → List ℕ
+listsTo order lengths numbers k = joined k (λ j. neighbor_list_at lengths numbers (get_or order j 0))
+
 module _ (order lengths numbers : List ℕ) (o : IsOrder order) (fits : sum_to (length order) lengths ≤ length numbers) where
-  -- the lists in the new order, as far as they are stored
-  abbrev pub listsTo : ℕ → List ℕ
-  listsTo k = joined k (λ j. neighbor_list_at lengths numbers (get_or order j 0))
+  abbrev stored : ℕ → List ℕ
+  stored = listsTo order lengths numbers
 
   -- moved lists are as long together as the lists were
-  pub length-lists : length (listsTo (length order)) ≡ sum_to (length order) lengths
+  pub length-lists : length (stored (length order)) ≡ sum_to (length order) lengths
   length-lists =
       joined_along order (neighbor_list_at lengths numbers) (length order) (omega arith)
       ∙ ap (along (λ u. length (neighbor_list_at lengths numbers u))) (take-length order)
       ∙ along_same (λ u. length (neighbor_list_at lengths numbers u)) (λ u. get_or lengths u 0) order (λ i h. length-list lengths numbers (length order) (get_or order i 0) (order_below order o i h) fits)
       ∙ along-order order o (λ u. get_or lengths u 0) ∙ total_sum (length order) lengths
 
-  pub list_room : (k : ℕ) → k < length order → length (listsTo k) + get_or lengths (get_or order k 0) 0 ≤ sum_to (length order) lengths
+  pub list_room : (k : ℕ) → k < length order → length (stored k) + get_or lengths (get_or order k 0) 0 ≤ sum_to (length order) lengths
   list_room k h =
       omega (arith, joined-room (length order) (λ j. neighbor_list_at lengths numbers (get_or order j 0)) k h, length-lists, length-list lengths numbers (length order) (get_or order k 0) (order_below order o k h) fits)
 
   -- one list more is stored
-  pub lists_more : (k : ℕ) (to₀ : List ℕ) {to to' : List ℕ} {at start count : ℕ} → k < length order → at ≡ length (listsTo k) → to ≡ sets to₀ 0 (listsTo k)
-      → start ≡ sum_to (get_or order k 0) lengths → count ≡ get_or lengths (get_or order k 0) 0 → to' ≡ sets to at (take count (drop start numbers)) → to' ≡ sets to₀ 0 (listsTo (k + 1))
+  pub lists_more : (k : ℕ) (to₀ : List ℕ) {to to' : List ℕ} {at start count : ℕ} → k < length order → at ≡ length (stored k) → to ≡ sets to₀ 0 (stored k)
+      → start ≡ sum_to (get_or order k 0) lengths → count ≡ get_or lengths (get_or order k 0) 0 → to' ≡ sets to at (take count (drop start numbers)) → to' ≡ sets to₀ 0 (stored (k + 1))
   lists_more k to₀ {to} {to'} {at} {start} {count} h ea et es ec e =
       e ∙ ap (λ (t : List ℕ). sets t at (take count (drop start numbers))) et
-      ∙ ap (λ (x : ℕ). sets (sets to₀ 0 (listsTo k)) at (take count (drop x numbers))) es
-      ∙ ap (λ (x : ℕ). sets (sets to₀ 0 (listsTo k)) at (take x (drop (sum_to (get_or order k 0) lengths) numbers))) ec
-      ∙ ap (λ (x : ℕ). sets (sets to₀ 0 (listsTo k)) x (neighbor_list_at lengths numbers (get_or order k 0))) (ea ∙ sym (zero-add (length (listsTo k))))
-      ∙ sym (sets-append to₀ 0 (listsTo k) (neighbor_list_at lengths numbers (get_or order k 0)))
+      ∙ ap (λ (x : ℕ). sets (sets to₀ 0 (stored k)) at (take count (drop x numbers))) es
+      ∙ ap (λ (x : ℕ). sets (sets to₀ 0 (stored k)) at (take x (drop (sum_to (get_or order k 0) lengths) numbers))) ec
+      ∙ ap (λ (x : ℕ). sets (sets to₀ 0 (stored k)) x (neighbor_list_at lengths numbers (get_or order k 0))) (ea ∙ sym (zero-add (length (stored k))))
+      ∙ sym (sets-append to₀ 0 (stored k) (neighbor_list_at lengths numbers (get_or order k 0)))
       ∙ ap (sets to₀ 0) (sym (joined-more k (λ j. neighbor_list_at lengths numbers (get_or order j 0))))
 
-  pub lists-count : (k : ℕ) {at count : ℕ} → k < length order → at ≡ length (listsTo k) → count ≡ get_or lengths (get_or order k 0) 0 → at + count ≡ length (listsTo (k + 1))
+  pub lists-count : (k : ℕ) {at count : ℕ} → k < length order → at ≡ length (stored k) → count ≡ get_or lengths (get_or order k 0) 0 → at + count ≡ length (stored (k + 1))
   lists-count k h ea ec =
-      let more = ap length (joined-more k (λ j. neighbor_list_at lengths numbers (get_or order j 0))) ∙ length-append (listsTo k) (neighbor_list_at lengths numbers (get_or order k 0)) in
+      let more = ap length (joined-more k (λ j. neighbor_list_at lengths numbers (get_or order j 0))) ∙ length-append (stored k) (neighbor_list_at lengths numbers (get_or order k 0)) in
       omega (arith, more, length-list lengths numbers (length order) (get_or order k 0) (order_below order o k h) fits)
 
-  pub lists-end : (k : ℕ) (to₀ : List ℕ) {to : List ℕ} → k ≡ length order → sum_to (length order) lengths ≤ length to₀ → to ≡ sets to₀ 0 (listsTo k) → to ≡ over (moved_lists order lengths numbers) to₀
+  pub lists-end : (k : ℕ) (to₀ : List ℕ) {to : List ℕ} → k ≡ length order → sum_to (length order) lengths ≤ length to₀ → to ≡ sets to₀ 0 (stored k) → to ≡ over (moved_lists order lengths numbers) to₀
   unfolding moved_lists
   lists-end k to₀ h room e =
-      e ∙ ap (λ (n : ℕ). sets to₀ 0 (listsTo n)) h ∙ sets_over to₀ (listsTo (length order)) (omega (arith, length-lists))
+      e ∙ ap (λ (n : ℕ). sets to₀ 0 (stored n)) h ∙ sets_over to₀ (stored (length order)) (omega (arith, length-lists))
 
 -- the lists of a copy
 pub lists_copy : (order lengths numbers scratch₀ : List ℕ) {scratch : List ℕ} {sum : ℕ} → IsOrder order → sum ≡ sum_to (length order) lengths → sum ≤ length numbers → sum ≤ length scratch₀

@@ -1,11 +1,10 @@
 -- `reorder_vertices`: boundary, defect, position, list length and neighbour list move with the vertex, edge ends are renamed.
-use Rattle.std.specs.Prelude.{ℕ, ◌≡◌, Bool, ◌&&◌, List, length, get_or, take, eqb, Float}
+use Rattle.std.specs.Prelude.{ℕ, ◌≡◌, Bool, ◌&&◌, List, length, get_or, take, eqb, Float, Result}
 use Rattle.columns.specs.Lists.{joined, after}
 use Rattle.columns.specs.Questions.{ask, all_below, marks_sound}
 use Rattle.columns.specs.Places.{zero_float}
-use Rattle.columns_answers.specs.Said.{Answered}
-use Rattle.columns_answers.specs.Done.{done_said}
-use Rattle.columns.specs.declared.Done.{Done}
+use Rattle.columns.specs.declared.refusal.Refusal.{Refusal}
+use Rattle.columns_answers.specs.Said.{said, Answered}
 use Rattle.columns_neighbors.specs.Lists.{sum_to, neighbor_list_at}
 use Rattle.columns_room.specs.Room.{two_long, three_long, lists_long}
 use Rattle.columns_room.specs.Graph.{code_graph, code_sound}
@@ -73,8 +72,8 @@ reorder_refusal v e order c =
 
 -- Sampling, syndromes, reordering, paragraph 2, sentence 5: the answer, and every column afterwards;
 -- after an accepted call the scratch starts with the old neighbour lists.
-pub record ReorderedVertices (v e : ℕ) (order : List ℕ) (c₀ : ReorderColumns) (answer : Done) (c : ReorderColumns) : Type 0 where
-  pub answers : Answered (done_said answer) (reorder_refusal v e order c₀) tt tt
+pub record ReorderedVertices (v e : ℕ) (order : List ℕ) (c₀ : ReorderColumns) (answer : Result (Unit {0}) Refusal) (c : ReorderColumns) : Type 0 where
+  pub answers : Answered (said tt answer) (reorder_refusal v e order c₀) tt tt
   pub ends_a_after : c.ends_a ≡ after (reorder_refusal v e order c₀) (renamed order (take e c₀.ends_a)) c₀.ends_a
   pub ends_b_after : c.ends_b ≡ after (reorder_refusal v e order c₀) (renamed order (take e c₀.ends_b)) c₀.ends_b
   pub boundary_after : c.boundary ≡ after (reorder_refusal v e order c₀) (moved order 0 c₀.boundary) c₀.boundary

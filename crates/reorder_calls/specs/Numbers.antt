@@ -1,13 +1,10 @@
 -- `build_old_to_new` and `translated_defect_to_reordered`: the order list's own length is the vertex count.
-use Rattle.std.specs.Prelude.{ℕ, ◌≡◌, ◌&&◌, List, length, leb}
+use Rattle.std.specs.Prelude.{ℕ, ◌≡◌, ◌&&◌, List, length, leb, Result}
 use Rattle.columns.specs.Limits.{vertex_limit}
 use Rattle.columns.specs.Lists.{after}
 use Rattle.columns.specs.Questions.{ask, all_below}
-use Rattle.columns_answers.specs.Said.{Said, accepts, refuses, Answered}
-use Rattle.columns_answers.specs.Done.{done_said}
-use Rattle.columns.specs.declared.Done.{Done}
-use Rattle.reorder_calls.specs.declared.TranslatedAnswer.{TranslatedAnswer}
-use Rattle.reorder_calls.specs.declared.TranslatedAnswer.TheVariants.{Count, Refused}
+use Rattle.columns.specs.declared.refusal.Refusal.{Refusal}
+use Rattle.columns_answers.specs.Said.{said, Answered}
 use Rattle.reorder_orders.specs.Order.{none_twice, old_to_new, renamed}
 
 -- ---- build_old_to_new
@@ -21,16 +18,11 @@ build_refusal order column =
     (ask (none_twice order) 14 0)))
 
 -- Sampling, syndromes, reordering, paragraph 2, sentence 5: the answer, and the new number of each old vertex.
-pub record BuiltOldToNew (order column₀ : List ℕ) (answer : Done) (column : List ℕ) : Type 0 where
-  pub answers : Answered (done_said answer) (build_refusal order column₀) tt tt
+pub record BuiltOldToNew (order column₀ : List ℕ) (answer : Result (Unit {0}) Refusal) (column : List ℕ) : Type 0 where
+  pub answers : Answered (said tt answer) (build_refusal order column₀) tt tt
   pub column_after : column ≡ after (build_refusal order column₀) (old_to_new order) column₀
 
 -- ---- translated_defect_to_reordered
-
--- Expected forms by place, last paragraph: document 01's number and values for each case of `TranslatedAnswer`; the value is how many numbers were translated.
-abbrev pub count_said : TranslatedAnswer → Said ℕ
-count_said (Count n) = accepts n
-count_said (Refused number) = refuses number 0
 
 -- Questions at the door, 6, 11, 13 of both lists, and 14, in order, of `translated_defect_to_reordered`.
 unfoldable pub translate_refusal : (order list column : List ℕ) → ℕ
@@ -40,7 +32,7 @@ translate_refusal order list column =
     (ask (all_below (length order) order && all_below (length order) list) 13
     (ask (none_twice order) 14 0)))
 
--- Sampling, syndromes, reordering, paragraph 2, sentence 4: a translated list keeps its order; the answer, and the column afterwards.
-pub record TranslatedDefects (order list column₀ : List ℕ) (answer : TranslatedAnswer) (column : List ℕ) : Type 0 where
-  pub answers : Answered (count_said answer) (translate_refusal order list column₀) (length list) 0
+-- Sampling, syndromes, reordering, paragraph 2, sentence 4: a translated list keeps its order; the answer, how many numbers were translated, and the column afterwards.
+pub record TranslatedDefects (order list column₀ : List ℕ) (answer : Result ℕ Refusal) (column : List ℕ) : Type 0 where
+  pub answers : Answered (said 0 answer) (translate_refusal order list column₀) (length list) 0
   pub column_after : column ≡ after (translate_refusal order list column₀) (renamed order list) column₀

@@ -7,7 +7,7 @@ ghost use Rattle.reorder_calls.specs.Columns.{moved_lists};
 ghost use Rattle.reorder_orders.specs.Steps.{IsOrder};
 
 use columns::wide;
-use columns_stores::copy_u32;
+use columns_stores::copy;
 
 // Where each of the first n lists starts, and the end of the last.
 fn list_starts(lengths: &[u32], n: usize, starts: &mut [usize]) -> usize
@@ -15,11 +15,9 @@ fn list_starts(lengths: &[u32], n: usize, starts: &mut [usize]) -> usize
     ensures { (result ≡ sum_to n lengths.now) × ((u : ℕ) → u < n → get_or starts.new u 0 ≡ sum_to u lengths.now) }
 {
     let mut sum: usize = 0;
-    let mut i: usize = 0;
-    while i < n {
+    for (i, length) in lengths[..n].iter().enumerate() {
         starts[i] = sum;
-        sum += wide(lengths[i]);
-        i += 1;
+        sum += wide(*length);
     }
     sum
 }
@@ -29,11 +27,7 @@ fn copy_run(from: &[u32], start: usize, count: usize, to: &mut [u32], at: usize)
     requires { (start + count ≤ length from.now) × (at + count ≤ length to.old) }
     ensures { to.new ≡ sets to.old at (take count (drop start from.now)) }
 {
-    let mut i: usize = 0;
-    while i < count {
-        to[at + i] = from[start + i];
-        i += 1;
-    }
+    to[at..at + count].copy_from_slice(&from[start..start + count]);
 }
 
 // Stores the lists in the new order, one after another.
@@ -44,13 +38,11 @@ fn gather_lists(order: &[u32], lengths: &[u32], starts: &[usize], from: &[u32], 
     ensures { to.new ≡ over (moved_lists order.now lengths.now from.now) to.old }
 {
     let mut at: usize = 0;
-    let mut k: usize = 0;
-    while k < order.len() {
-        let u = wide(order[k]);
+    for vertex in order {
+        let u = wide(*vertex);
         let count = wide(lengths[u]);
         copy_run(from, starts[u], count, to, at);
         at += count;
-        k += 1;
     }
 }
 
@@ -67,7 +59,7 @@ fn move_lists_in(
     ensures scratch_after { scratch.new ≡ over (take (sum_to (length order.now) lengths.now) numbers.old) scratch.old }
 {
     let sum = list_starts(lengths, order.len(), starts);
-    copy_u32(scratch, numbers, sum);
+    copy(scratch, numbers, sum);
     gather_lists(order, lengths, starts, scratch, numbers);
 }
 

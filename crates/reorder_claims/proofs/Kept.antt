@@ -13,7 +13,7 @@ use borrow.Author.Tests.{eq-eqb, ne_eqb}
 use Rattle.columns.specs.Lists.{over}
 use Rattle.columns.specs.Questions.{all_within}
 use Rattle.columns_answers.proofs.Said.{zero_of}
-use Rattle.columns.specs.declared.Done.TheVariants.{Accepted}
+use Rattle.std.specs.Prelude.{Ok}
 use Rattle.columns.proofs.Columns.{get_d_any, after-accepted, over-in, length_over}
 use Rattle.columns.proofs.Tests.{both_and, within_first, at_within}
 use Rattle.columns_neighbors.specs.Sound.{SoundGraph}
@@ -60,11 +60,11 @@ crossing_carried g g' f h mark back on off w k c = record {
 }
 
 -- what the call promises
-pub promise : {v e : ℕ} {order : List ℕ} {c₀ c : ReorderColumns} → VerticesReordered v e order c₀ c → ReorderedVertices v e order c₀ Accepted c
+pub promise : {v e : ℕ} {order : List ℕ} {c₀ c : ReorderColumns} → VerticesReordered v e order c₀ c → ReorderedVertices v e order c₀ (Ok tt) c
 promise (vertices_reordered κs a s h) = h
 
 -- an accepted reordering
-module _ (v e : ℕ) (order : List ℕ) (c₀ c : ReorderColumns) (call : ReorderedVertices v e order c₀ Accepted c) where
+module _ (v e : ℕ) (order : List ℕ) (c₀ c : ReorderColumns) (call : ReorderedVertices v e order c₀ (Ok tt) c) where
   pub refusal_is : reorder_refusal v e order c₀ ≡ 0
   refusal_is = zero_of call.answers
 

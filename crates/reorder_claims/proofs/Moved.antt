@@ -8,7 +8,7 @@ use lib.ListN.{length, get_or, take, drop, length-append}
 use lib.Seq.{take_at, drop_at}
 use Rattle.columns.specs.Lists.{joined, when, over}
 use Rattle.columns.specs.Places.{zero_float, position}
-use Rattle.columns.specs.declared.Done.TheVariants.{Accepted}
+use Rattle.std.specs.Prelude.{Ok}
 use Rattle.columns.proofs.Columns.{after-accepted}
 use Rattle.columns.proofs.Counting.{joined-more, joined-plus, joined_same}
 use Rattle.columns_neighbors.specs.Lists.{hits, neighbors, sum_to, neighbor_list_at}
@@ -24,7 +24,7 @@ use Rattle.reorder_claims.proofs.Kept.{promise, refusal_is, k, o, new_in, column
 part_is : (xs ys zs : List ℕ) (p q : ℕ) → length xs ≡ p → length ys ≡ q → take q (drop p (xs ++ (ys ++ zs))) ≡ ys
 part_is xs ys zs p q e f = ap (take q) (drop_at xs (ys ++ zs) p e) ∙ take_at ys zs q f
 
-module _ (v e : ℕ) (order : List ℕ) (c₀ c : ReorderColumns) (call : ReorderedVertices v e order c₀ Accepted c) where
+module _ (v e : ℕ) (order : List ℕ) (c₀ c : ReorderColumns) (call : ReorderedVertices v e order c₀ (Ok tt) c) where
   -- ---- vertex columns
 
   abbrev q : ℕ

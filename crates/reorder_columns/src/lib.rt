@@ -8,7 +8,7 @@ ghost use Rattle.reorder_orders.specs.Order.{moved};
 ghost use Rattle.reorder_orders.specs.Steps.{IsOrder};
 
 use columns::{VisualizePosition, wide};
-use columns_stores::{copy_f64, copy_u8, copy_u32};
+use columns_stores::copy;
 use reorder_orders::gather_u32;
 
 // Stores the byte that stands at each listed place.
@@ -16,11 +16,8 @@ fn gather_u8(list: &[u32], from: &[u8], to: &mut [u8])
     requires { ((i : ℕ) → i < length list.now → get_or list.now i 0 < length from.now) × (length list.now ≤ length to.old) }
     ensures { to.new ≡ over (moved list.now 0 from.now) to.old }
 {
-    let mut i: usize = 0;
-    while i < list.len() {
-        let at = wide(list[i]);
-        to[i] = from[at];
-        i += 1;
+    for (i, place) in list.iter().enumerate() {
+        to[i] = from[wide(*place)];
     }
 }
 
@@ -28,7 +25,7 @@ fn move_u8_in(order: &[u32], column: &mut [u8], copy: &mut [u8])
     requires { IsOrder order.now × (length order.now ≤ length column.old) × (length order.now ≤ length copy.old) }
     ensures { column.new ≡ over (moved order.now 0 column.old) column.old }
 {
-    copy_u8(copy, column, order.len());
+    columns_stores::copy(copy, column, order.len());
     gather_u8(order, copy, column);
 }
 
@@ -45,7 +42,7 @@ fn move_u32_in(order: &[u32], column: &mut [u32], copy: &mut [u32])
     requires { IsOrder order.now × (length order.now ≤ length column.old) × (length order.now ≤ length copy.old) }
     ensures { column.new ≡ over (moved order.now 0 column.old) column.old }
 {
-    copy_u32(copy, column, order.len());
+    columns_stores::copy(copy, column, order.len());
     gather_u32(order, copy, column);
 }
 
@@ -73,12 +70,10 @@ fn gather_positions(
     ensures pos_j_after { pos_j.new ≡ over (moved list.now zero_float from_j.now) pos_j.old }
     ensures pos_t_after { pos_t.new ≡ over (moved list.now zero_float from_t.now) pos_t.old }
 {
-    let mut k: usize = 0;
-    while k < list.len() {
-        let at = wide(list[k]);
+    for (k, place) in list.iter().enumerate() {
+        let at = wide(*place);
         let position = VisualizePosition::load(from_i, from_j, from_t, at);
         position.store(pos_i, pos_j, pos_t, k);
-        k += 1;
     }
 }
 
@@ -98,9 +93,9 @@ fn move_positions_in(
     ensures pos_t_after { pos_t.new ≡ over (moved order.now zero_float pos_t.old) pos_t.old }
 {
     let n = order.len();
-    copy_f64(copy_i, pos_i, n);
-    copy_f64(copy_j, pos_j, n);
-    copy_f64(copy_t, pos_t, n);
+    copy(copy_i, pos_i, n);
+    copy(copy_j, pos_j, n);
+    copy(copy_t, pos_t, n);
     gather_positions(order, copy_i, copy_j, copy_t, pos_i, pos_j, pos_t);
 }
 

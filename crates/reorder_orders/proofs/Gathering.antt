@@ -4,6 +4,7 @@ use mathlib.Core.Bool.{Bool, true, false, not, ◌&&◌, cond}
 use mathlib.Core.List.{List, [], ◌∷◌, ◌++◌, map}
 use Prim.Native.Nat.{ℕ, zero, suc, ◌+◌, ◌≤◌, ◌<◌}
 use native.Mathlib.Decide.{ℕ_discrete}
+use native.Mathlib.Nat.{suc-add}
 use native.Mathlib.Numerals.{add-one}
 use native.Mathlib.Omega.{arith}
 use lib.ListN.{length, get_or, set, take, drop, length-set, length-take, length-map, take-append-drop}
@@ -12,7 +13,7 @@ use lib.Dec.{eqb}
 use borrow.Author.Tests.{eq-eqb, ne_eqb}
 use Rattle.columns.specs.Lists.{each, over}
 use Rattle.columns.specs.Questions.{every}
-use Rattle.columns.proofs.Columns.{sets_over, over-in, over-past}
+use Rattle.columns.proofs.Columns.{sets_over, over-in}
 use Rattle.columns.proofs.Counting.{length-each, getD-each}
 use Rattle.columns.proofs.Tests.{every-not}
 use Rattle.columns_neighbors.proofs.Placing.{each-places}
@@ -32,29 +33,21 @@ module _ {A : Type 0} (f : ℕ → A) (s : List ℕ) (l₀ : List A) where
       e ∙ ap (λ (k : ℕ). sets l₀ 0 (map f (take k s))) h ∙ ap (λ (t : List ℕ). sets l₀ 0 (map f t)) (take-length s)
       ∙ sets_over l₀ (map f s) (omega (arith, length-map s f))
 
--- a place that is not stored to yet
-pub not_yet : {A : Type 0} (l vs : List A) (i : ℕ) (d : A) → length vs ≤ i → i < length l → get_or (sets l 0 vs) i d ≡ get_or l i d
-not_yet l vs i d h k = ap (λ (t : List _). get_or t i d) (sets_over l vs (omega arith)) ∙ over-past vs l d i h
+-- a loop that writes f of each element where it stands: the element at its turn, and one turn more
+module _ (f : ℕ → ℕ) where
+  stands : (s : List ℕ) (i : ℕ) → get_or (map f (take i s) ++ drop i s) i 0 ≡ get_or s i 0
+  stands [] zero = refl
+  stands [] (suc i) = refl
+  stands (x ∷ xs) zero = refl
+  stands (x ∷ xs) (suc i) = stands xs i
 
--- a loop that stores f of each of the first n elements, where they stand
-module _ {A : Type 0} (f : A → A) where
-  module _ (l₀ : List A) (n i : ℕ) where
-    within : {l : List A} (d : A) → i < n → n ≤ length l₀ → l ≡ sets l₀ 0 (map f (take i (take n l₀))) → get_or l i d ≡ get_or (take n l₀) i d
-    within {l} d h room e =
-        ap (λ (t : List A). get_or t i d) e
-        ∙ not_yet l₀ (map f (take i (take n l₀))) i d (omega (arith, length-map (take i (take n l₀)) f, length-take i (take n l₀))) (omega arith)
-        ∙ sym (get_or-take n l₀ i d h)
+  turned : (s : List ℕ) (i : ℕ) → i < length s → set (map f (take i s) ++ drop i s) i (f (get_or s i 0)) ≡ map f (take (i + 1) s) ++ drop (i + 1) s
+  turned [] i h = absurd (omega arith)
+  turned (x ∷ xs) zero h = refl
+  turned (x ∷ xs) (suc i) h = rw suc-add (ap (λ (t : List ℕ). f x ∷ t) (turned xs i (omega arith)))
 
-module _ (f : ℕ → ℕ) (l₀ : List ℕ) (n i : ℕ) {l : List ℕ} where
-  pub rename-reads : i < n → n ≤ length l₀ → l ≡ sets l₀ 0 (map f (take i (take n l₀))) → get_or l i 0 ≡ get_or l₀ i 0
-  rename-reads h room e = within f l₀ n i 0 h room e ∙ get_or-take n l₀ i 0 h
-
-  pub rename-more : {x : ℕ} → i < n → n ≤ length l₀ → l ≡ sets l₀ 0 (map f (take i (take n l₀))) → x ≡ f (get_or l i 0) → set l i x ≡ sets l₀ 0 (map f (take (i + 1) (take n l₀)))
-  rename-more {x} h room e q =
-      gather-more f (take n l₀) l₀ i (omega (arith, length-take n l₀)) e (q ∙ ap f (within f l₀ n i 0 h room e))
-
-  pub rename-end : i ≡ n → n ≤ length l₀ → l ≡ sets l₀ 0 (map f (take i (take n l₀))) → l ≡ over (map f (take n l₀)) l₀
-  rename-end h room e = gather-end f (take n l₀) l₀ i (omega (arith, length-take n l₀)) (omega (arith, length-take n l₀)) e
+  pub rename_more : (s : List ℕ) (i : ℕ) {l : List ℕ} {x : ℕ} → i < length s → l ≡ map f (take i s) ++ drop i s → x ≡ f (get_or l i 0) → set l i x ≡ map f (take (i + 1) s) ++ drop (i + 1) s
+  rename_more s i {l} {x} h e q = rw (q, e, stands s i) (turned s i h)
 
 -- equal values at the listed places
 pub map-listed : {A : Type 0} (f g : ℕ → A) (l : List ℕ) → ((i : ℕ) → i < length l → f (get_or l i 0) ≡ g (get_or l i 0)) → map f l ≡ map g l
@@ -157,10 +150,6 @@ module _ (order : List ℕ) (o : IsOrder order) where
       ap (λ (t : List ℕ). get_or t (get_or l i 0) 0) e
       ∙ over-in (each (length order) (new_number order)) column₀ 0 (get_or l i 0) (omega (arith, h i b, length-each (length order) (new_number order)))
       ∙ getD-each (length order) (new_number order) 0 (get_or l i 0) (h i b))
-
-  pub length-oldToNew : length (old_to_new order) ≡ length order
-  unfolding old_to_new
-  length-oldToNew = length-each (length order) (new_number order)
 
 -- the first n of a list
 pub first_listed : (l : List ℕ) (n limit : ℕ) → ((i : ℕ) → i < n → get_or l i 0 < limit) → (i : ℕ) → i < length (take n l) → get_or (take n l) i 0 < limit

@@ -1,5 +1,4 @@
 -- Laws that later crates cite too.
--- Permutation: an order names each vertex exactly once. Gathering: stores through a list of places. Asking: a question that is met, and one that is not.
+-- Permutation: an order names each vertex exactly once. Gathering: stores through a list of places.
 pub mod Permutation
 pub mod Gathering
-pub mod Asking

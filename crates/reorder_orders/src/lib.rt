@@ -4,10 +4,11 @@
 ghost use Rattle.std.specs.Prelude.{◌≡◌, true, ℕ, ◌<◌, ◌≤◌, length, get_or, take};
 ghost use Rattle.columns.specs.Lists.{over};
 ghost use Rattle.columns.specs.Questions.{ask, all_below};
+ghost use Rattle.columns.specs.Refusals.{question_of};
 ghost use Rattle.reorder_orders.specs.Order.{none_twice, old_to_new, renamed, moved};
 ghost use Rattle.reorder_orders.specs.Steps.{IsOrder};
 
-use columns::questions::asked;
+use columns::refusal::{Refusal, require};
 use columns::wide;
 
 // Whether no number is twice in the order; seen holds 0 alone.
@@ -15,14 +16,12 @@ fn fresh_in(order: &[u32], seen: &mut [u8]) -> bool
     requires { ((i : ℕ) → i < length order.now → get_or order.now i 0 < length seen.old) × ((u : ℕ) → get_or seen.old u 0 ≡ 0) }
     ensures { result ≡ none_twice order.now }
 {
-    let mut i: usize = 0;
-    while i < order.len() {
-        let at = wide(order[i]);
+    for vertex in order {
+        let at = wide(*vertex);
         if seen[at] == 1 {
             return false;
         }
         seen[at] = 1;
-        i += 1;
     }
     true
 }
@@ -37,15 +36,13 @@ fn none_twice(order: &[u32]) -> bool
 }
 
 // Questions 13 and 14 of an order of at most 4,096 vertices.
-pub fn order_questions(in_range: bool, order: &[u32]) -> u32
+pub fn order_questions(in_range: bool, order: &[u32]) -> Result<(), Refusal>
     requires order_len_bound { length order.now ≤ 4096 }
     requires order_value { in_range ≡ true → all_below (length order.now) order.now ≡ true }
-    ensures { result ≡ ask in_range 13 (ask (none_twice order.now) 14 0) }
+    ensures { question_of result ≡ ask in_range 13 (ask (none_twice order.now) 14 0) }
 {
-    if !in_range {
-        return 13;
-    }
-    asked(none_twice(order), 14, 0)
+    require(in_range, Refusal::NumberOutOfRange)?;
+    require(none_twice(order), Refusal::RepeatedVertex)
 }
 
 // Stores the new number of each old vertex.
@@ -53,11 +50,9 @@ pub fn place_numbers(order: &[u32], new_numbers: &mut [u32])
     requires { IsOrder order.now × (length order.now ≤ length new_numbers.old) }
     ensures { new_numbers.new ≡ over (old_to_new order.now) new_numbers.old }
 {
-    let mut i: usize = 0;
-    while i < order.len() {
-        let at = wide(order[i]);
+    for (i, vertex) in order.iter().enumerate() {
+        let at = wide(*vertex);
         new_numbers[at] = i as u32;
-        i += 1;
     }
 }
 
@@ -66,11 +61,8 @@ pub fn gather_u32(list: &[u32], from: &[u32], to: &mut [u32])
     requires { ((i : ℕ) → i < length list.now → get_or list.now i 0 < length from.now) × (length list.now ≤ length to.old) }
     ensures { to.new ≡ over (moved list.now 0 from.now) to.old }
 {
-    let mut i: usize = 0;
-    while i < list.len() {
-        let at = wide(list[i]);
-        to[i] = from[at];
-        i += 1;
+    for (i, place) in list.iter().enumerate() {
+        to[i] = from[wide(*place)];
     }
 }
 
@@ -98,11 +90,8 @@ fn rename_by(new_numbers: &[u32], ends: &mut [u32], n: usize)
     requires { ((i : ℕ) → i < n → get_or ends.old i 0 < length new_numbers.now) × (n ≤ length ends.old) }
     ensures { ends.new ≡ over (moved (take n ends.old) 0 new_numbers.now) ends.old }
 {
-    let mut i: usize = 0;
-    while i < n {
-        let at = wide(ends[i]);
-        ends[i] = new_numbers[at];
-        i += 1;
+    for end in &mut ends[..n] {
+        *end = new_numbers[wide(*end)];
     }
 }
 

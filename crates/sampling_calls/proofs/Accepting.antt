@@ -1,4 +1,4 @@
--- What an accepted call says of its columns, and what a call answers and leaves, accepted and refused. Assumes nothing.
+-- What an accepted call says of its columns, and what it answers and leaves. Assumes nothing.
 use mathlib.Core.Path.{◌≡◌, sym, ap, ◌∙◌}
 use mathlib.Core.Bool.{Bool, true, ◌&&◌}
 use mathlib.Core.List.{List, ◌++◌}
@@ -12,13 +12,12 @@ use lib.Dec.{leb, eqb}
 use borrow.Author.Tests.{leb-true, eq-eqb, ne_eqb}
 use Rattle.columns.specs.Lists.{over}
 use Rattle.columns.specs.Questions.{ask, all_below, marks_sound}
-use Rattle.columns.specs.declared.Done.TheVariants.{Refused}
-use Rattle.columns.proofs.Columns.{after-accepted, after-refused, over-in}
+use Rattle.std.specs.Prelude.{Ok}
+use Rattle.columns.proofs.Columns.{after-accepted, over-in}
 use Rattle.columns.proofs.Tests.{and_both, below_at}
 use Rattle.columns_neighbors.specs.Steps.{InRange}
 use Rattle.columns.proofs.Refusals.{met, goes_on}
-use Rattle.columns_answers.specs.declared.SyndromeCounts.TheVariants as syndrome
-use Rattle.columns_answers.specs.declared.ListCount.TheVariants as list
+use Rattle.columns_answers.specs.Counts.{syndrome_lengths}
 use Rattle.columns_room.specs.Room.{two_long}
 use Rattle.columns_room.proofs.Refusals.{two_long_lem}
 use Rattle.columns_room.proofs.Graph.{GraphLong, graph_long_of, CodeSound, code_sound_of}
@@ -26,7 +25,7 @@ use Rattle.columns_room.specs.Graph.{CodeGraph, graph_long, code_sound}
 use Rattle.sampling_calls.specs.Records.{SyndromeColumns, syndrome_long}
 use Rattle.columns_marks.specs.Marks.{is_set, listed}
 use Rattle.sampling_flips.specs.Flip.{flip_each}
-use Rattle.columns_answers.proofs.Said.{accepts-of, refuses-of}
+use Rattle.columns_answers.proofs.Said.{accepted-of}
 use Rattle.sampling_calls.specs.Errors.{SyndromeAfter, errors_refusal}
 use Rattle.sampling_calls.specs.Syndrome.{ends_in, is_defect_of, syndrome_of, syndrome_refusal, FoundSyndrome}
 use Rattle.sampling_flips.specs.Steps.{Fits}
@@ -116,37 +115,26 @@ flip_each-over v e a b m ks xs d l ra rb named =
     (omega (arith, x), omega (arith, y)))
     ∙ ap (λ (k : ℕ). flip_each a b m ks xs ++ drop k d) (sym (length-flipEach a b m ks xs))
 
--- ---- what a call answers and leaves
+-- ---- what an accepted call answers and leaves
 
-module _ (number v e : ℕ) (defects erasures : List ℕ) (before : SyndromeColumns) where
-  pub left-refused : {n : ℕ} → n ≡ number → (n ≡ 0 → ⊥) → SyndromeAfter number v e defects erasures before (syndrome.Refused n) before
-  left-refused {n} e f =
-      let g : number ≡ 0 → ⊥ = λ z. f (e ∙ z) in
-      record {
-        answers = refuses-of e f;
-        defect_after = sym (after-refused number defects before.defect g);
-        erasure_after = sym (after-refused number erasures before.erasure g);
-        defect_list_after = sym (after-refused number (listed v defects) before.defect_list g);
-        erasure_list_after = sym (after-refused number (listed _ erasures) before.erasure_list g);
-      }
-
-  pub left-accepted : (last : SyndromeColumns) {d s : ℕ} → number ≡ 0
+module _ (q v e : ℕ) (defects erasures : List ℕ) (before : SyndromeColumns) where
+  pub left-accepted : (last : SyndromeColumns) {d s : ℕ} → q ≡ 0
       → length defects ≡ v → length erasures ≡ e
       → last.defect ≡ over defects before.defect → last.erasure ≡ over erasures before.erasure
       → d ≡ length (listed v last.defect) → last.defect_list ≡ over (listed v last.defect) before.defect_list
       → s ≡ length (listed e last.erasure) → last.erasure_list ≡ over (listed e last.erasure) before.erasure_list
-      → SyndromeAfter number v e defects erasures before (syndrome.Counts d s) last
+      → SyndromeAfter q v e defects erasures before (Ok (syndrome_lengths d s)) last
   left-accepted last {d} {s} z ld ls pd ps nd xd ns xs =
       let md : listed v last.defect ≡ listed v defects = ap (listed v) pd ∙ listed-over v defects before.defect ld in
       let ms : listed e last.erasure ≡ listed e erasures = ap (listed e) ps ∙ listed-over e erasures before.erasure ls in
       let cd : d ≡ length (listed v defects) = nd ∙ ap length md in
       let cs : s ≡ length (listed e erasures) = ns ∙ ap length ms in
       record {
-        answers = rw (cd, cs) (accepts-of z);
-        defect_after = pd ∙ sym (after-accepted number defects before.defect z);
-        erasure_after = ps ∙ sym (after-accepted number erasures before.erasure z);
-        defect_list_after = xd ∙ ap (λ (l : List ℕ). over l before.defect_list) md ∙ sym (after-accepted number (listed v defects) before.defect_list z);
-        erasure_list_after = xs ∙ ap (λ (l : List ℕ). over l before.erasure_list) ms ∙ sym (after-accepted number (listed e erasures) before.erasure_list z);
+        answers = rw (cd, cs) (accepted-of z);
+        defect_after = pd ∙ sym (after-accepted q defects before.defect z);
+        erasure_after = ps ∙ sym (after-accepted q erasures before.erasure z);
+        defect_list_after = xd ∙ ap (λ (l : List ℕ). over l before.defect_list) md ∙ sym (after-accepted q (listed v defects) before.defect_list z);
+        erasure_list_after = xs ∙ ap (λ (l : List ℕ). over l before.erasure_list) ms ∙ sym (after-accepted q (listed e erasures) before.erasure_list z);
       }
 
 -- ---- syndrome_of
@@ -191,17 +179,9 @@ unfolding listed syndrome_of
 listed-syndrome g ks d l z = chosen_same g.vertices _ _ (λ u h. syndrome_bytes g ks d u (omega arith) (z u h))
 
 module _ (g : CodeGraph) (ks defect_list : List ℕ) where
-  pub syndrome-refused : {n : ℕ} → n ≡ syndrome_refusal g ks defect_list → (n ≡ 0 → ⊥) → FoundSyndrome g ks defect_list (list.Refused n) defect_list
-  syndrome-refused {n} e f =
-      let h : syndrome_refusal g ks defect_list ≡ 0 → ⊥ = λ z. f (e ∙ z) in
-      record {
-        answers = refuses-of e f;
-        defect_list_after = sym (after-refused (syndrome_refusal g ks defect_list) (syndrome_of g ks) defect_list h);
-      }
-
   pub syndrome-accepted : {last : List ℕ} {n : ℕ} → syndrome_refusal g ks defect_list ≡ 0 → n ≡ length (syndrome_of g ks) → last ≡ over (syndrome_of g ks) defect_list
-      → FoundSyndrome g ks defect_list (list.Count n) last
+      → FoundSyndrome g ks defect_list (Ok n) last
   syndrome-accepted z p q = record {
-    answers = rw p (accepts-of z);
+    answers = rw p (accepted-of z);
     defect_list_after = q ∙ sym (after-accepted (syndrome_refusal g ks defect_list) (syndrome_of g ks) defect_list z);
   }

@@ -1,12 +1,13 @@
 -- `generate_random_errors`: errors and erasures by two draws of the seeded generator for every edge.
-use Rattle.std.specs.Prelude.{ℕ, Bool, ◌&&◌, List, length, take, replicate, Float}
+use Rattle.std.specs.Prelude.{ℕ, Bool, ◌&&◌, List, length, take, replicate, Float, Result}
 use Rattle.columns.specs.Questions.{ask, all}
 use Rattle.sampling_generator.specs.declared.DeterministicRng.{DeterministicRng}
 use Rattle.sampling_generator.specs.Random.{seed_from_u64}
 use Rattle.weights_recipe.specs.Probabilities.{is_probability, is_erasure_probability}
 use Rattle.sampling_flips.specs.Flip.{flip_each}
 use Rattle.sampling_edges.specs.Draws.{sampled_erasures, sampled_errors}
-use Rattle.columns_answers.specs.declared.SyndromeCounts.{SyndromeCounts}
+use Rattle.columns.specs.declared.refusal.Refusal.{Refusal}
+use Rattle.columns_answers.specs.declared.SyndromeLengths.{SyndromeLengths}
 use Rattle.columns_room.specs.Room.{two_long}
 use Rattle.columns_room.specs.Graph.{CodeGraph, graph_long, code_sound}
 use Rattle.sampling_calls.specs.Records.{SyndromeColumns, syndrome_long}
@@ -29,7 +30,7 @@ sampling_refusal g p pe s =
     (ask (probabilities_sound g.edges p pe) 9 0))
 
 -- Sampling, syndromes, reordering, paragraph 1, sentences 1 and 5: defects and erasures by the draws of the seeded generator.
-abbrev pub GeneratedRandomErrors : (seed : ℕ) → CodeGraph → (p pe : List Float) → SyndromeColumns → SyndromeCounts → SyndromeColumns → Type 0
+abbrev pub GeneratedRandomErrors : (seed : ℕ) → CodeGraph → (p pe : List Float) → SyndromeColumns → Result SyndromeLengths Refusal → SyndromeColumns → Type 0
 GeneratedRandomErrors seed g p pe s₀ answer s =
     SyndromeAfter (sampling_refusal g p pe s₀) g.vertices g.edges
     (sampled_defects (seed_from_u64 seed) g p pe) (sampled_erasures (seed_from_u64 seed) pe g.edges)

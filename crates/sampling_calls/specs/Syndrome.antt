@@ -1,13 +1,12 @@
 -- `syndrome_of`.
-use Rattle.std.specs.Prelude.{ℕ, ◌+◌, ◌%◌, ◌≡◌, Bool, ◌&&◌, cond, List, [], ◌∷◌, length, get_or, eqb, leb}
+use Rattle.std.specs.Prelude.{ℕ, ◌+◌, ◌%◌, ◌≡◌, Bool, ◌&&◌, cond, List, [], ◌∷◌, length, get_or, eqb, leb, Result}
 use Rattle.columns.specs.Limits.{inner}
 use Rattle.columns.specs.Lists.{after}
 use Rattle.columns.specs.Questions.{ask, all_below}
 use Rattle.columns_neighbors.specs.Lists.{chosen}
-use Rattle.columns_answers.specs.declared.ListCount.{ListCount}
+use Rattle.columns.specs.declared.refusal.Refusal.{Refusal}
 use Rattle.columns_room.specs.Graph.{CodeGraph, graph_long, code_sound}
-use Rattle.columns_answers.specs.Said.{Answered}
-use Rattle.columns_answers.specs.Counts.{list_said}
+use Rattle.columns_answers.specs.Said.{said, Answered}
 
 -- Sampling, syndromes, reordering, paragraph 2, sentence 3: 1 where x is vertex v, else 0.
 abbrev pub hit : (v x : ℕ) → ℕ
@@ -35,6 +34,6 @@ syndrome_refusal g edges defect_list =
     (ask (all_below g.edges edges) 13 0))
 
 -- Sampling, syndromes, reordering, paragraph 2, sentences 3 and 4: the answer is how many defects there are, and the list names them.
-pub record FoundSyndrome (g : CodeGraph) (edges defectList₀ : List ℕ) (answer : ListCount) (defect_list : List ℕ) : Type 0 where
-  pub answers : Answered (list_said answer) (syndrome_refusal g edges defectList₀) (length (syndrome_of g edges)) 0
+pub record FoundSyndrome (g : CodeGraph) (edges defectList₀ : List ℕ) (answer : Result ℕ Refusal) (defect_list : List ℕ) : Type 0 where
+  pub answers : Answered (said 0 answer) (syndrome_refusal g edges defectList₀) (length (syndrome_of g edges)) 0
   pub defect_list_after : defect_list ≡ after (syndrome_refusal g edges defectList₀) (syndrome_of g edges) defectList₀

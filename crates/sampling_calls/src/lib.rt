@@ -12,9 +12,10 @@ ghost use Rattle.sampling_calls.specs.Sampling.{GeneratedRandomErrors};
 ghost use Rattle.sampling_calls.specs.Syndrome.{syndrome_of, FoundSyndrome};
 ghost use Rattle.sampling_flips.specs.Steps.{Fits};
 
-pub use columns_answers::{ListCount, SyndromeCounts};
+use columns::refusal::Refusal;
+pub use columns_answers::SyndromeLengths;
 use columns_marks::list_set;
-use columns_stores::fill_u8;
+use columns_stores::fill;
 use questions::{errors_refusal, sampling_refusal, syndrome_refusal};
 pub use sampling_clear::clear_errors;
 use sampling_edges::sample_edges;
@@ -35,13 +36,13 @@ pub fn generate_random_errors(
     erasure: &mut [u8],
     defect_list: &mut [u32],
     erasure_list: &mut [u32],
-) -> SyndromeCounts
+) -> Result<SyndromeLengths, Refusal>
     ensures { GeneratedRandomErrors seed (code_graph vertex_num edge_num ends_a.now ends_b.now boundary.now) p.now pe.now
         (syndrome_columns defect.old erasure.old defect_list.old erasure_list.old)
         result
         (syndrome_columns defect.new erasure.new defect_list.new erasure_list.new) }
 {
-    let number = sampling_refusal(
+    sampling_refusal(
         vertex_num,
         edge_num,
         ends_a,
@@ -53,18 +54,15 @@ pub fn generate_random_errors(
         erasure,
         defect_list,
         erasure_list,
+    )?;
+    fill(defect, vertex_num as usize, 0);
+    let rng = DeterministicRng::seed_from_u64(seed);
+    sample_edges(
+        vertex_num, edge_num, ends_a, ends_b, p, pe, boundary, rng, defect, erasure,
     );
-    if number == 0 {
-        fill_u8(defect, vertex_num as usize, 0);
-        let rng = DeterministicRng::seed_from_u64(seed);
-        sample_edges(
-            vertex_num, edge_num, ends_a, ends_b, p, pe, boundary, rng, defect, erasure,
-        );
-        let defects = list_set(defect, vertex_num, defect_list);
-        let erasures = list_set(erasure, edge_num, erasure_list);
-        return SyndromeCounts::Counts { defects, erasures };
-    }
-    SyndromeCounts::Refused(number)
+    let defects = list_set(defect, vertex_num, defect_list);
+    let erasures = list_set(erasure, edge_num, erasure_list);
+    Ok(SyndromeLengths { defects, erasures })
 }
 
 // An error on each listed edge, over the standing defects; lists the defects and the erasures.
@@ -79,13 +77,13 @@ pub fn generate_errors(
     erasure: &[u8],
     defect_list: &mut [u32],
     erasure_list: &mut [u32],
-) -> SyndromeCounts
+) -> Result<SyndromeLengths, Refusal>
     ensures { GeneratedErrors (code_graph vertex_num edge_num ends_a.now ends_b.now boundary.now) list.now
         (syndrome_columns defect.old erasure.now defect_list.old erasure_list.old)
         result
         (syndrome_columns defect.new erasure.now defect_list.new erasure_list.new) }
 {
-    let number = errors_refusal(
+    errors_refusal(
         vertex_num,
         edge_num,
         ends_a,
@@ -96,14 +94,11 @@ pub fn generate_errors(
         erasure,
         defect_list,
         erasure_list,
-    );
-    if number == 0 {
-        flip_all(vertex_num, edge_num, ends_a, ends_b, boundary, list, defect);
-        let defects = list_set(defect, vertex_num, defect_list);
-        let erasures = list_set(erasure, edge_num, erasure_list);
-        return SyndromeCounts::Counts { defects, erasures };
-    }
-    SyndromeCounts::Refused(number)
+    )?;
+    flip_all(vertex_num, edge_num, ends_a, ends_b, boundary, list, defect);
+    let defects = list_set(defect, vertex_num, defect_list);
+    let erasures = list_set(erasure, edge_num, erasure_list);
+    Ok(SyndromeLengths { defects, erasures })
 }
 
 // The defects of errors on the listed edges; bytes holds 0 alone.
@@ -166,10 +161,19 @@ pub fn syndrome_of(
     boundary: &[u8],
     list: &[u32],
     defect_list: &mut [u32],
-) -> ListCount
+) -> Result<u32, Refusal>
     ensures { FoundSyndrome (code_graph vertex_num edge_num ends_a.now ends_b.now boundary.now) list.now defect_list.old result defect_list.new }
 {
-    let number = syndrome_refusal(
+    syndrome_refusal(
+        vertex_num,
+        edge_num,
+        ends_a,
+        ends_b,
+        boundary,
+        list,
+        defect_list,
+    )?;
+    let defects = find_defects(
         vertex_num,
         edge_num,
         ends_a,
@@ -178,17 +182,5 @@ pub fn syndrome_of(
         list,
         defect_list,
     );
-    if number == 0 {
-        let defects = find_defects(
-            vertex_num,
-            edge_num,
-            ends_a,
-            ends_b,
-            boundary,
-            list,
-            defect_list,
-        );
-        return ListCount::Count(defects);
-    }
-    ListCount::Refused(number)
+    Ok(defects)
 }

@@ -1,9 +1,10 @@
 -- Every list handed back names the numbers that pass a test, from the smallest on, in a column's first places. Assumes nothing.
 use mathlib.Core.List.{List}
 use Prim.Native.Nat.{ℕ}
+use Rattle.std.specs.Prelude.{Ok}
 use Rattle.columns_marks.specs.Marks.{AscendingList}
 use Rattle.columns_marks.proofs.Listing.{chosen_list, listed_list}
-use Rattle.columns_answers.specs.declared.SyndromeCounts.TheVariants.{Counts}
+use Rattle.columns_answers.specs.Counts.{syndrome_lengths}
 use Rattle.columns_answers.proofs.Said.{zero_of}
 use Rattle.sampling_calls.specs.Records.{SyndromeColumns}
 use Rattle.sampling_calls.specs.Errors.{SyndromeAfter}
@@ -13,7 +14,7 @@ use Rattle.sampling_calls.proofs.Draws.{sampling_met}
 use Rattle.sampling_claims.specs.Lists.{ListsAscend}
 use Rattle.sampling_claims.proofs.Accepted.{door, sampling_promise, errors_promise, syndrome_promise, how-many-defects, how-many-erasures, defectList-over, erasureList-over, how-many, syndrome-over}
 
-both : {q v e : ℕ} {defects erasures : List ℕ} {s₀ s : SyndromeColumns} {m n : ℕ} → SyndromeLong v e s₀ → SyndromeAfter q v e defects erasures s₀ (Counts m n) s
+both : {q v e : ℕ} {defects erasures : List ℕ} {s₀ s : SyndromeColumns} {m n : ℕ} → SyndromeLong v e s₀ → SyndromeAfter q v e defects erasures s₀ (Ok (syndrome_lengths m n)) s
     → AscendingList m s₀.defect_list s.defect_list × AscendingList n s₀.erasure_list s.erasure_list
 both {q} {v} {e} {defects} {erasures} {s₀} {s} {m} {n} l x = (
   listed_list v m defects s₀.defect_list s.defect_list l.long_defects (how-many-defects x) (defectList-over x),

@@ -10,6 +10,7 @@ use lib.Seq.{take-append-le, take_all}
 use lib.Ieee.{Float, binary64, of_bits, lt}
 use lib.Dec.{eqb}
 use borrow.Author.Tests.{eq-eqb, ne_eqb}
+use Rattle.std.specs.Prelude.{Ok}
 use Rattle.columns.specs.Lists.{each}
 use Rattle.columns.specs.Places.{zero_float}
 use Rattle.columns.proofs.Columns.{take-over, over-in}
@@ -19,7 +20,7 @@ use Rattle.columns_neighbors.proofs.Placing.{each-places}
 use Rattle.columns_room.specs.Graph.{CodeGraph}
 use Rattle.columns_marks.specs.Marks.{is_set, listed, names, marks}
 use Rattle.columns_marks.proofs.Listing.{chosen_at, chosen-has, chosen-below, chosen_ascends}
-use Rattle.columns_answers.specs.declared.SyndromeCounts.TheVariants.{Counts}
+use Rattle.columns_answers.specs.Counts.{syndrome_lengths}
 use Rattle.sampling_generator.specs.declared.DeterministicRng.{DeterministicRng}
 use Rattle.sampling_generator.specs.Random.{seed_from_u64, word_of, next_of, draw_of}
 use Rattle.sampling_edges.specs.Draws.{advanced, draw_number, is_erased, error_probability, has_error, sampled_erasures, sampled_errors}
@@ -50,7 +51,7 @@ module _ (r : DeterministicRng) (pe : List Float) where
   mark-at n k h = getD-each n mark 0 k h
 
 -- the erasure column of an accepted sampling, before edge k
-marks_of : (seed k : ℕ) (g : CodeGraph) (p pe : List Float) (s₀ s : SyndromeColumns) (d e : ℕ) → GeneratedRandomErrors seed g p pe s₀ (Counts d e) s → k ≤ g.edges
+marks_of : (seed k : ℕ) (g : CodeGraph) (p pe : List Float) (s₀ s : SyndromeColumns) (d e : ℕ) → GeneratedRandomErrors seed g p pe s₀ (Ok (syndrome_lengths d e)) s → k ≤ g.edges
     → take k s.erasure ≡ sampled_erasures (seed_from_u64 seed) pe k
 marks_of seed k g p pe s₀ s d e x h =
     let r = seed_from_u64 seed in
@@ -99,7 +100,7 @@ names-chosen test n k h = go (test k) refl (names (chosen n test) k) refl
 
 -- ---- two draws for every edge
 
-two_draws : (seed : ℕ) (g : CodeGraph) (p pe : List Float) (s₀ s : SyndromeColumns) (d e : ℕ) → GeneratedRandomErrors seed g p pe s₀ (Counts d e) s → TwoDraws seed g p pe s
+two_draws : (seed : ℕ) (g : CodeGraph) (p pe : List Float) (s₀ s : SyndromeColumns) (d e : ℕ) → GeneratedRandomErrors seed g p pe s₀ (Ok (syndrome_lengths d e)) s → TwoDraws seed g p pe s
 unfolding sampled_errors has_error error_probability is_erased
 two_draws seed g p pe s₀ s d e x =
     let r = seed_from_u64 seed in
@@ -173,7 +174,7 @@ module _ (r : DeterministicRng) (g : CodeGraph) (p pe : List Float) where
       flipped_few g.ends_a g.ends_b g.boundary (sampled_errors r p pe g.edges) (replicate g.vertices 0) u
       (omega (arith, length-replicate {A = ℕ} g.vertices 0)) (get_or-replicate g.vertices u 0 0 h)
 
-defects_of : (seed : ℕ) (g : CodeGraph) (p pe : List Float) (s₀ s : SyndromeColumns) (d e : ℕ) → GeneratedRandomErrors seed g p pe s₀ (Counts d e) s
+defects_of : (seed : ℕ) (g : CodeGraph) (p pe : List Float) (s₀ s : SyndromeColumns) (d e : ℕ) → GeneratedRandomErrors seed g p pe s₀ (Ok (syndrome_lengths d e)) s
     → DefectsOf (drawn_errors seed g p pe) g d s
 defects_of seed g p pe s₀ s d e x =
     let r = seed_from_u64 seed in

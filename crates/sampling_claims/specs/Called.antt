@@ -1,12 +1,12 @@
 -- Calls of the real functions. `Learnt` is what a caller of a function learns of a call, made from the function's own contract: lifetimes, the arguments
 -- as they were passed, the result, and the parameters at exit. A parameter that is only read is at exit as it was passed.
-use Rattle.std.specs.Prelude.{ℕ, List, [], ◌∷◌, Float}
+use Rattle.std.specs.Prelude.{ℕ, List, [], ◌∷◌, Float, Result}
 use contract.Lifetimes.{Lfts}
 use denote.Triple.Clauses.{AtExit}
 use borrow.Fn.World.{ArgsD, ResD}
 use Rattle.learnt.specs.Learnt.{Reading, Learnt, one_fact}
-use Rattle.columns_answers.specs.declared.SyndromeCounts.{SyndromeCounts}
-use Rattle.columns_answers.specs.declared.ListCount.{ListCount}
+use Rattle.columns.specs.declared.refusal.Refusal.{Refusal}
+use Rattle.columns_answers.specs.declared.SyndromeLengths.{SyndromeLengths}
 use Rattle.columns_room.specs.Graph.{CodeGraph, code_graph}
 use Rattle.sampling_generator.specs.declared.DeterministicRng.{DeterministicRng}
 use Rattle.sampling_generator.specs.declared.Drawn.{Drawn}
@@ -60,8 +60,8 @@ pub data FlipReturned : (boundary byte result : ℕ) → Type 0 where
 
 -- Sampling, syndromes, reordering, paragraph 1, sentence 5: a `generate_random_errors` that returned: the seed, the graph, p and pe, the columns lent, the answer, and
 -- the columns as the call left them.
-pub data SamplingReturned : (seed : ℕ) → CodeGraph → (p pe : List Float) (s₀ : SyndromeColumns) → SyndromeCounts → (s : SyndromeColumns) → Type 0 where
-  sampling_returned : (κs : Lfts 9) (a : ArgsD sampling_contract.signature κs) (r : SyndromeCounts) (s : AtExit sampling_contract.ended κs) → Learnt (sampling_reading κs a r s)
+pub data SamplingReturned : (seed : ℕ) → CodeGraph → (p pe : List Float) (s₀ : SyndromeColumns) → Result SyndromeLengths Refusal → (s : SyndromeColumns) → Type 0 where
+  sampling_returned : (κs : Lfts 9) (a : ArgsD sampling_contract.signature κs) (r : Result SyndromeLengths Refusal) (s : AtExit sampling_contract.ended κs) → Learnt (sampling_reading κs a r s)
       → SamplingReturned a.0
       (code_graph a.1.0 a.1.1.0 a.1.1.1.0.now a.1.1.1.1.0.now a.1.1.1.1.1.1.1.0.now)
       a.1.1.1.1.1.0.now a.1.1.1.1.1.1.0.now
@@ -71,8 +71,8 @@ pub data SamplingReturned : (seed : ℕ) → CodeGraph → (p pe : List Float) (
 
 -- Sampling, syndromes, reordering, paragraph 2, sentence 1: a `generate_errors` that returned: the graph, the list of edges, the columns lent, the answer, and the
 -- columns as the call left them; the erasure bytes are only read.
-pub data ErrorsReturned : CodeGraph → (list : List ℕ) (s₀ : SyndromeColumns) → SyndromeCounts → (s : SyndromeColumns) → Type 0 where
-  errors_returned : (κs : Lfts 8) (a : ArgsD errors_contract.signature κs) (r : SyndromeCounts) (s : AtExit errors_contract.ended κs) → Learnt (errors_reading κs a r s)
+pub data ErrorsReturned : CodeGraph → (list : List ℕ) (s₀ : SyndromeColumns) → Result SyndromeLengths Refusal → (s : SyndromeColumns) → Type 0 where
+  errors_returned : (κs : Lfts 8) (a : ArgsD errors_contract.signature κs) (r : Result SyndromeLengths Refusal) (s : AtExit errors_contract.ended κs) → Learnt (errors_reading κs a r s)
       → ErrorsReturned
       (code_graph a.0 a.1.0 a.1.1.0.now a.1.1.1.0.now a.1.1.1.1.0.now)
       a.1.1.1.1.1.0.now
@@ -82,8 +82,8 @@ pub data ErrorsReturned : CodeGraph → (list : List ℕ) (s₀ : SyndromeColumn
 
 -- Sampling, syndromes, reordering, paragraph 2, sentence 3: a `syndrome_of` that returned: the graph, the list of edges, the column for the defects as it was lent, the
 -- answer, and the column as the call left it.
-pub data SyndromeReturned : CodeGraph → (list defectList₀ : List ℕ) → ListCount → (defect_list : List ℕ) → Type 0 where
-  syndrome_returned : (κs : Lfts 5) (a : ArgsD syndrome_contract.signature κs) (r : ListCount) (s : AtExit syndrome_contract.ended κs) → Learnt (syndrome_reading κs a r s)
+pub data SyndromeReturned : CodeGraph → (list defectList₀ : List ℕ) → Result ℕ Refusal → (defect_list : List ℕ) → Type 0 where
+  syndrome_returned : (κs : Lfts 5) (a : ArgsD syndrome_contract.signature κs) (r : Result ℕ Refusal) (s : AtExit syndrome_contract.ended κs) → Learnt (syndrome_reading κs a r s)
       → SyndromeReturned
       (code_graph a.0 a.1.0 a.1.1.0.now a.1.1.1.0.now a.1.1.1.1.0.now)
       a.1.1.1.1.1.0.now a.1.1.1.1.1.1.0.now r s.1.1.1.1.1.1.0.now

@@ -1,8 +1,7 @@
 -- What a flip gives, and what errors on listed edges do to defects.
-use Rattle.std.specs.Prelude.{ℕ, ◌+◌, ◌-◌, ◌%◌, ◌≤◌, ◌<◌, ◌≡◌, List, ◌∷◌, ◌++◌, get_or, take}
+use Rattle.std.specs.Prelude.{ℕ, ◌+◌, ◌-◌, ◌%◌, ◌≤◌, ◌<◌, ◌≡◌, List, ◌∷◌, ◌++◌, get_or, take, Ok}
 use Rattle.columns.specs.Limits.{inner}
-use Rattle.columns_answers.specs.declared.SyndromeCounts.TheVariants.{Counts}
-use Rattle.columns_answers.specs.declared.ListCount.TheVariants.{Count}
+use Rattle.columns_answers.specs.Counts.{syndrome_lengths}
 use Rattle.columns_room.specs.Graph.{CodeGraph}
 use Rattle.sampling_calls.specs.Records.{SyndromeColumns}
 use Rattle.sampling_calls.specs.Syndrome.{ends_in}
@@ -25,12 +24,12 @@ pub record Flips (g : CodeGraph) (list defect₀ defect : List ℕ) : Type 0 whe
 -- Sampling, syndromes, reordering, paragraph 2, sentence 1: of every accepted `generate_errors`.
 abbrev pub ErrorsFlip : Type 0
 ErrorsFlip =
-    (g : CodeGraph) (list : List ℕ) (s₀ s : SyndromeColumns) (d e : ℕ) → ErrorsReturned g list s₀ (Counts d e) s → Flips g list s₀.defect s.defect
+    (g : CodeGraph) (list : List ℕ) (s₀ s : SyndromeColumns) (d e : ℕ) → ErrorsReturned g list s₀ (Ok (syndrome_lengths d e)) s → Flips g list s₀.defect s.defect
 
 -- Sampling, syndromes, reordering, paragraph 2, sentence 3: in `syndrome_of` an edge named twice cancels: two accepted calls on one graph, of which one names edge k
 -- twice more, count the same defects and list the same numbers.
 abbrev pub TwiceCancels : Type 0
 TwiceCancels =
     (g : CodeGraph) (xs ys zs : List ℕ) (k : ℕ) (column₁ defects₁ column₂ defects₂ : List ℕ) (n₁ n₂ : ℕ)
-    → SyndromeReturned g (xs ++ (k ∷ (ys ++ (k ∷ zs)))) column₁ (Count n₁) defects₁ → SyndromeReturned g (xs ++ (ys ++ zs)) column₂ (Count n₂) defects₂
+    → SyndromeReturned g (xs ++ (k ∷ (ys ++ (k ∷ zs)))) column₁ (Ok n₁) defects₁ → SyndromeReturned g (xs ++ (ys ++ zs)) column₂ (Ok n₂) defects₂
     → (n₁ ≡ n₂) × (take n₁ defects₁ ≡ take n₂ defects₂)

@@ -1,11 +1,10 @@
 -- Samplings: two draws for every edge, what two with one seed have in common, and which syndrome one leaves.
-use Rattle.std.specs.Prelude.{ℕ, ◌+◌, ◌*◌, ◌/◌, ◌^◌, ◌≤◌, ◌<◌, ◌≡◌, false, cond, List, length, get_or, take, pos, Float}
+use Rattle.std.specs.Prelude.{ℕ, ◌+◌, ◌*◌, ◌/◌, ◌^◌, ◌≤◌, ◌<◌, ◌≡◌, false, cond, List, length, get_or, take, pos, Float, Ok}
 use Rattle.std.specs.Float.{binary64}
 use Rattle.std.specs.Float.Ieee.{div, of_int, lt}
 use Rattle.std.specs.Float.Ieee.Exact.{HasValue}
 use Rattle.columns.specs.Places.{zero_float, half}
-use Rattle.columns_answers.specs.declared.SyndromeCounts.TheVariants.{Counts}
-use Rattle.columns_answers.specs.declared.ListCount.TheVariants.{Count}
+use Rattle.columns_answers.specs.Counts.{syndrome_lengths}
 use Rattle.columns_room.specs.Graph.{CodeGraph}
 use Rattle.columns_marks.specs.Marks.{Ascending, names, marks}
 use Rattle.sampling_generator.specs.declared.DeterministicRng.{DeterministicRng}
@@ -27,7 +26,7 @@ pub record SameBefore (k : ℕ) (p₁ pe₁ p₂ pe₂ : List Float) : Type 0 wh
 abbrev pub SameMarks : Type 0
 SameMarks =
     (seed k : ℕ) (g₁ g₂ : CodeGraph) (p₁ pe₁ p₂ pe₂ : List Float) (s₁ t₁ s₂ t₂ : SyndromeColumns) (d₁ e₁ d₂ e₂ : ℕ)
-    → SamplingReturned seed g₁ p₁ pe₁ s₁ (Counts d₁ e₁) t₁ → SamplingReturned seed g₂ p₂ pe₂ s₂ (Counts d₂ e₂) t₂
+    → SamplingReturned seed g₁ p₁ pe₁ s₁ (Ok (syndrome_lengths d₁ e₁)) t₁ → SamplingReturned seed g₂ p₂ pe₂ s₂ (Ok (syndrome_lengths d₂ e₂)) t₂
     → k ≤ g₁.edges → k ≤ g₂.edges → SameBefore k p₁ pe₁ p₂ pe₂ → take k t₁.erasure ≡ take k t₂.erasure
 
 -- ---- two draws for every edge
@@ -52,7 +51,7 @@ pub record TwoDraws (seed : ℕ) (g : CodeGraph) (p pe : List Float) (s : Syndro
 -- Sampling, syndromes, reordering, paragraph 1, sentences 4 and 5: of every accepted sampling; and draw number n of a seed is what the generator that the seed gives
 -- yields as its draw number n; a draw is (word >> 12) / 2⁵².
 pub record TakesTwoDraws : Type 0 where
-  pub two_draws : (seed : ℕ) (g : CodeGraph) (p pe : List Float) (s₀ s : SyndromeColumns) (d e : ℕ) → SamplingReturned seed g p pe s₀ (Counts d e) s → TwoDraws seed g p pe s
+  pub two_draws : (seed : ℕ) (g : CodeGraph) (p pe : List Float) (s₀ s : SyndromeColumns) (d e : ℕ) → SamplingReturned seed g p pe s₀ (Ok (syndrome_lengths d e)) s → TwoDraws seed g p pe s
   pub in_order : (seed : ℕ) (g : DeterministicRng) (values : List Float) → SeedReturned seed g → DrawsReturned g values
       → (i : ℕ) → i < length values → get_or values i zero_float ≡ draw_of_seed seed (i + 1)
   pub fraction : (word : ℕ) → (d : Float) × HasValue d false (2 ^ 52) 1 × (draw_of word ≡ div binary64 (of_int binary64 (pos (word / 2 ^ 12))) d)
@@ -69,7 +68,7 @@ pub record DefectsOf (errors : List ℕ) (g : CodeGraph) (d : ℕ) (s : Syndrome
 -- Sampling, syndromes, reordering, paragraph 1, sentence 5, and paragraph 2, sentence 3: of every accepted sampling; and a `syndrome_of` of these edges on the same graph
 -- answers and lists the same.
 pub record SampledSyndrome : Type 0 where
-  pub defects : (seed : ℕ) (g : CodeGraph) (p pe : List Float) (s₀ s : SyndromeColumns) (d e : ℕ) → SamplingReturned seed g p pe s₀ (Counts d e) s
+  pub defects : (seed : ℕ) (g : CodeGraph) (p pe : List Float) (s₀ s : SyndromeColumns) (d e : ℕ) → SamplingReturned seed g p pe s₀ (Ok (syndrome_lengths d e)) s
       → DefectsOf (drawn_errors seed g p pe) g d s
-  pub as_syndrome_of : (seed : ℕ) (g : CodeGraph) (p pe : List Float) (s₀ s : SyndromeColumns) (d e : ℕ) → SamplingReturned seed g p pe s₀ (Counts d e) s
-      → (column₀ column : List ℕ) (n : ℕ) → SyndromeReturned g (drawn_errors seed g p pe) column₀ (Count n) column → (n ≡ d) × (take n column ≡ take d s.defect_list)
+  pub as_syndrome_of : (seed : ℕ) (g : CodeGraph) (p pe : List Float) (s₀ s : SyndromeColumns) (d e : ℕ) → SamplingReturned seed g p pe s₀ (Ok (syndrome_lengths d e)) s
+      → (column₀ column : List ℕ) (n : ℕ) → SyndromeReturned g (drawn_errors seed g p pe) column₀ (Ok n) column → (n ≡ d) × (take n column ≡ take d s.defect_list)

@@ -67,8 +67,7 @@ pub fn sample_edges(
     ensures { Sampled rng ends_a.now ends_b.now boundary.now p.now pe.now defect.old erasure.old edge_num result defect.new erasure.new }
 {
     let mut next = rng;
-    let mut i: u32 = 0;
-    while i < edge_num {
+    for i in 0..edge_num {
         let at = i as usize;
         let sampled = sample_edge(next, p[at], pe[at]);
         erasure[at] = erasure_byte(sampled.erased);
@@ -83,7 +82,6 @@ pub fn sample_edges(
             defect,
         );
         next = sampled.rng;
-        i += 1;
     }
     next
 }

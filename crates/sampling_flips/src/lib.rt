@@ -31,6 +31,7 @@ pub fn flip(boundary: u8, defect: u8) -> u8
 }
 
 // Flips vertex v.
+#[tactic(auto, unfolding(crate::specs::Flip::flip_at))]
 fn flip_at(boundary: &[u8], v: VertexIndex, defect: &mut [u8])
     requires { (v.0 < length boundary.now) × (v.0 < length defect.old) }
     ensures { defect.new ≡ flip_at boundary.now v.0 defect.old }
@@ -40,6 +41,7 @@ fn flip_at(boundary: &[u8], v: VertexIndex, defect: &mut [u8])
 }
 
 // An error on edge k: flips its two ends.
+#[tactic(auto, unfolding(crate::specs::Flip::flip_edge))]
 fn flip_edge(
     vertex_num: u32,
     edge_num: u32,
@@ -58,6 +60,7 @@ fn flip_edge(
 }
 
 // An error on edge k, if there is one.
+#[tactic(auto, unfolding(crate::specs::Flip::flip_each))]
 pub fn flip_edge_if(
     error: bool,
     vertex_num: u32,
@@ -90,17 +93,15 @@ pub fn flip_all(
     requires by_index { (i : ℕ) → i < length list.now → get_or list.now i 0 < edge_num }
     ensures { defect.new ≡ flip_each ends_a.now ends_b.now boundary.now list.now defect.old }
 {
-    let mut i: usize = 0;
-    while i < list.len() {
+    for edge in list {
         flip_edge(
             vertex_num,
             edge_num,
             ends_a,
             ends_b,
             boundary,
-            EdgeIndex(list[i]),
+            EdgeIndex(*edge),
             defect,
         );
-        i += 1;
     }
 }

@@ -1,4 +1,5 @@
 -- The columns of a built code get verdict 0. Assumes nothing.
+use Rattle.std.specs.Prelude.{Option, Ok}
 use mathlib.Core.Path.{◌≡◌, refl, sym, ap, ◌∙◌}
 use mathlib.Core.Logic.{◌⊎◌, inl, inr}
 use mathlib.Core.List.{List}
@@ -24,11 +25,9 @@ use Rattle.sanity_verdicts.specs.Sanity.{verdict_said}
 use Rattle.sanity_calls.proofs.Verdicts.{sanityAnswer}
 use Rattle.sanity_calls.proofs.Theorems.{EndsEdge, sound-verdict}
 use Rattle.codes_calls.specs.Columns.{CodeColumns}
-use Rattle.codes_calls.specs.declared.Created.TheVariants.{Code}
-use Rattle.codes_calls.specs.CreateCode.{create_refusal, refusal_in, new_columns, CreateCode}
+use Rattle.codes_calls.specs.CreateCode.{create_refusal, refusal_in, new_columns, CreateCode, code_counts}
 use Rattle.codes_calls.proofs.Cases.{code_case}
 use Rattle.codes_calls.proofs.Outcome.{degrees-same, lists-same}
-use Rattle.weights_diagonal.specs.declared.DiagonalProbability.{DiagonalProbability}
 use Rattle.codes_calls.specs.NewCode.{new_refusal, new_refusal_in, WeightedCode}
 use Rattle.sanity_claims.specs.BuiltAndChecked.{ColumnsBuilt, create_built, new_built, new_diagonal_built, SanityCalled, sanity_called}
 use Rattle.sanity_claims.specs.SoundCodes.{BuiltCodesAreSound}
@@ -106,15 +105,15 @@ module _ (kind d rounds q : ℕ) (c₀ c : CodeColumns) (z : q ≡ 0) (v e : ℕ
       ((l ∙ after-accepted q (new_columns kind d rounds).list_lengths c₀.list_lengths z) i) ((n ∙ after-accepted q (new_columns kind d rounds).neighbor_numbers c₀.neighbor_numbers z) i))
       ∙ gets-zero kind d rounds ok c₀.ends_a c₀.ends_b c₀.list_lengths c₀.neighbor_numbers
 
-created_zero : (kind d rounds : ℕ) (c₀ c : CodeColumns) (v e : ℕ) → CreateCode kind d rounds c₀ c (Code v e) → sanityAnswer v e c.ends_a c.ends_b c.list_lengths c.neighbor_numbers ≡ Ok None
+created_zero : (kind d rounds : ℕ) (c₀ c : CodeColumns) (v e : ℕ) → CreateCode kind d rounds c₀ c (Ok (code_counts v e)) → sanityAnswer v e c.ends_a c.ends_b c.list_lengths c.neighbor_numbers ≡ Sound
 unfolding create_refusal
 created_zero kind d rounds c₀ c v e w =
     let x = code_case w.answers in
     let h = w.columns_after in
     written-zero kind d rounds (refusal_in kind d rounds c₀) c₀ c x.0 v e x.1 x.2 (accepted kind d rounds _ x.0).0 h.ends_a_after h.ends_b_after h.list_lengths_after h.neighbor_numbers_after
 
-weighted_zero : (kind d rounds : ℕ) (p : Float) (diagonal : DiagonalProbability) (max : ℕ) (c₀ c : CodeColumns) (v e : ℕ) → WeightedCode kind d rounds p diagonal max c₀ c (Code v e)
-    → sanityAnswer v e c.ends_a c.ends_b c.list_lengths c.neighbor_numbers ≡ Ok None
+weighted_zero : (kind d rounds : ℕ) (p : Float) (diagonal : Option Float) (max : ℕ) (c₀ c : CodeColumns) (v e : ℕ) → WeightedCode kind d rounds p diagonal max c₀ c (Ok (code_counts v e))
+    → sanityAnswer v e c.ends_a c.ends_b c.list_lengths c.neighbor_numbers ≡ Sound
 unfolding new_refusal
 weighted_zero kind d rounds p diagonal max c₀ c v e w =
     let x = code_case w.answers in

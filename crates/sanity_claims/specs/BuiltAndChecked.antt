@@ -1,11 +1,11 @@
 -- Calls of the real functions. `Learnt` is what a caller of a function learns of a call, made from the function's own contract: lifetimes, the arguments
 -- as they were passed, the result, and the parameters at exit.
-use Rattle.std.specs.Prelude.{ℕ, List, Option, Result}
+use Rattle.codes_calls.specs.CreateCode.{code_counts}
+use Rattle.std.specs.Prelude.{ℕ, List, Ok, Option, Result}
 use contract.Lifetimes.{Lfts}
 use denote.Triple.Clauses.{AtExit}
 use borrow.Fn.World.{ArgsD, ResD}
 use Rattle.learnt.specs.Learnt.{Reading, Learnt, one_fact}
-use Rattle.codes_calls.specs.declared.Created.TheVariants.{Code}
 use Rattle.codes_calls.specs.Columns.{CodeColumns, code_in}
 use Rattle.columns.specs.declared.refusal.Refusal.{Refusal}
 use Rattle.sanity_verdicts.specs.declared.Finding.{Finding}
@@ -35,15 +35,15 @@ sanity_reading κs a r s = one_fact _
 -- the counts that the call answered, and the columns as it left them.
 pub data ColumnsBuilt : (vertices edges : ℕ) → CodeColumns → Type 0 where
   create_built : (κs : Lfts 13) (a : ArgsD create_contract.signature κs) (vertices edges : ℕ) (s : AtExit create_contract.ended κs)
-      → Learnt (create_reading κs a (Code vertices edges) s)
+      → Learnt (create_reading κs a (Ok (code_counts vertices edges)) s)
       → ColumnsBuilt vertices edges
       (code_in s.1.1.1.0.now s.1.1.1.1.0.now s.1.1.1.1.1.0.now s.1.1.1.1.1.1.0.now s.1.1.1.1.1.1.1.0.now s.1.1.1.1.1.1.1.1.0.now s.1.1.1.1.1.1.1.1.1.0.now s.1.1.1.1.1.1.1.1.1.1.0.now s.1.1.1.1.1.1.1.1.1.1.1.0.now s.1.1.1.1.1.1.1.1.1.1.1.1.0.now s.1.1.1.1.1.1.1.1.1.1.1.1.1.0.now s.1.1.1.1.1.1.1.1.1.1.1.1.1.1.0.now s.1.1.1.1.1.1.1.1.1.1.1.1.1.1.1.0.now)
   new_built : (κs : Lfts 13) (a : ArgsD new_contract.signature κs) (vertices edges : ℕ) (s : AtExit new_contract.ended κs)
-      → Learnt (new_reading κs a (Code vertices edges) s)
+      → Learnt (new_reading κs a (Ok (code_counts vertices edges)) s)
       → ColumnsBuilt vertices edges
       (code_in s.1.1.1.1.1.0.now s.1.1.1.1.1.1.0.now s.1.1.1.1.1.1.1.0.now s.1.1.1.1.1.1.1.1.0.now s.1.1.1.1.1.1.1.1.1.0.now s.1.1.1.1.1.1.1.1.1.1.0.now s.1.1.1.1.1.1.1.1.1.1.1.0.now s.1.1.1.1.1.1.1.1.1.1.1.1.0.now s.1.1.1.1.1.1.1.1.1.1.1.1.1.0.now s.1.1.1.1.1.1.1.1.1.1.1.1.1.1.0.now s.1.1.1.1.1.1.1.1.1.1.1.1.1.1.1.0.now s.1.1.1.1.1.1.1.1.1.1.1.1.1.1.1.1.0.now s.1.1.1.1.1.1.1.1.1.1.1.1.1.1.1.1.1.0.now)
   new_diagonal_built : (κs : Lfts 13) (a : ArgsD diagonal_contract.signature κs) (vertices edges : ℕ) (s : AtExit diagonal_contract.ended κs)
-      → Learnt (diagonal_reading κs a (Code vertices edges) s)
+      → Learnt (diagonal_reading κs a (Ok (code_counts vertices edges)) s)
       → ColumnsBuilt vertices edges
       (code_in s.1.1.1.1.1.0.now s.1.1.1.1.1.1.0.now s.1.1.1.1.1.1.1.0.now s.1.1.1.1.1.1.1.1.0.now s.1.1.1.1.1.1.1.1.1.0.now s.1.1.1.1.1.1.1.1.1.1.0.now s.1.1.1.1.1.1.1.1.1.1.1.0.now s.1.1.1.1.1.1.1.1.1.1.1.1.0.now s.1.1.1.1.1.1.1.1.1.1.1.1.1.0.now s.1.1.1.1.1.1.1.1.1.1.1.1.1.1.0.now s.1.1.1.1.1.1.1.1.1.1.1.1.1.1.1.0.now s.1.1.1.1.1.1.1.1.1.1.1.1.1.1.1.1.0.now s.1.1.1.1.1.1.1.1.1.1.1.1.1.1.1.1.1.0.now)
 

@@ -4,7 +4,7 @@
 ghost use Rattle.std.specs.Prelude.{◌≡◌, ◌+◌, ◌≤◌, min, length};
 
 use test_numbers::{checksum, read_bytes, show, show_line, wide, write};
-use text_answer::{Listed, codelist};
+use text_answer::codelist;
 
 // Where the byte b first stands from a place on, or the length.
 fn find(text: &[u8], from: usize, b: u8) -> usize
@@ -32,8 +32,8 @@ fn show_text(rt: &impl Print, text: &[u8], n: u32) {
 fn answer(rt: &impl Print, input: &[u8], text: &mut [u8]) {
     let listed = codelist(input, text);
     match listed {
-        Listed::Text(n) => show_text(rt, text, n),
-        Listed::Refused(number) => show_line(rt, wide(number)),
+        Ok(n) => show_text(rt, text, n),
+        Err(refusal) => show_line(rt, u32::from(refusal) as u64),
     }
 }
 

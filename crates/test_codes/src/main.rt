@@ -3,20 +3,19 @@
 
 ghost use Rattle.std.specs.Prelude.{◌≤◌};
 
-use codes_calls::Created;
+use codes_calls::CodeCounts;
 use codes_calls::create::create_code;
 use columns::Weight;
 use columns::questions::lesser;
+use columns::refusal::Refusal;
 use test_numbers::{bits, checksum, mix, show_line, wide};
 
 // Prints the checksum of the first n numbers of a column.
 fn numbers(rt: &impl Print, column: &[u32], n: usize) {
     let m = lesser(n, column.len());
     let mut h: u64 = 1;
-    let mut i: usize = 0;
-    while i < m {
+    for i in 0..m {
         h = mix(h, wide(column[i]));
-        i += 1;
     }
     show_line(rt, h);
 }
@@ -24,10 +23,8 @@ fn numbers(rt: &impl Print, column: &[u32], n: usize) {
 fn floats(rt: &impl Print, column: &[f64], n: usize) {
     let m = lesser(n, column.len());
     let mut h: u64 = 1;
-    let mut i: usize = 0;
-    while i < m {
+    for i in 0..m {
         h = mix(h, bits(column[i]));
-        i += 1;
     }
     show_line(rt, h);
 }
@@ -35,7 +32,7 @@ fn floats(rt: &impl Print, column: &[f64], n: usize) {
 // How many vertices and edges a code has, then a digest of each column.
 fn show_code(
     rt: &impl Print,
-    answer: Created,
+    answer: Result<CodeCounts, Refusal>,
     ends_a: &[u32],
     ends_b: &[u32],
     boundary: &[u8],
@@ -46,11 +43,11 @@ fn show_code(
     pos_t: &[f64],
 ) {
     match answer {
-        Created::Code(v, e) => {
-            let vertices = v as usize;
-            let edges = e as usize;
-            show_line(rt, wide(v));
-            show_line(rt, wide(e));
+        Ok(counts) => {
+            let vertices = counts.vertices as usize;
+            let edges = counts.edges as usize;
+            show_line(rt, wide(counts.vertices));
+            show_line(rt, wide(counts.edges));
             numbers(rt, ends_a, edges);
             numbers(rt, ends_b, edges);
             show_line(rt, checksum(boundary, vertices));
@@ -60,7 +57,7 @@ fn show_code(
             floats(rt, pos_j, vertices);
             floats(rt, pos_t, vertices);
         }
-        Created::Refused(number) => show_line(rt, wide(number)),
+        Err(refusal) => show_line(rt, u32::from(refusal) as u64),
     }
 }
 

@@ -3,7 +3,7 @@
 #![tactic(auto)]
 
 use sampling_flips::flip;
-use test_numbers::{end_line, show, show_bytes, show_count, show_counts, show_list};
+use test_numbers::{end_line, show, show_bytes, show_length, show_lengths, show_list};
 
 // One flip.
 fn show_flip(rt: &impl Print, boundary: u8, byte: u8) {
@@ -25,7 +25,7 @@ fn errors(rt: &impl Print, boundary: u8, list: &[u32], at_inner: u8, at_virtual:
     let mut defect = [at_inner, at_virtual];
     let mut defect_list = [7u32; 2];
     let mut erasure_list = [7u32; 1];
-    show_counts(
+    show_lengths(
         rt,
         sampling_calls::generate_errors(
             2,
@@ -47,7 +47,7 @@ fn errors(rt: &impl Print, boundary: u8, list: &[u32], at_inner: u8, at_virtual:
 // The syndrome of listed edges: the answer, the list.
 fn syndrome(rt: &impl Print, boundary: u8, list: &[u32]) {
     let mut defect_list = [7u32; 2];
-    show_count(
+    show_length(
         rt,
         sampling_calls::syndrome_of(2, 1, &[0], &[1], &[0, boundary], list, &mut defect_list),
     );

@@ -11,23 +11,19 @@ use test_numbers::{bits, show_line};
 // The first n words of SplitMix64 from a seed.
 fn split_mix(rt: &impl Print, seed: u64, n: u32) {
     let mut state = seed;
-    let mut i: u32 = 0;
-    while i < n {
+    for i in 0..n {
         state = DeterministicRng::split_mix_next(state);
         show_line(rt, DeterministicRng::split_mix_word(state));
-        i += 1;
     }
 }
 
 // The next n words of a generator.
 fn words(rt: &impl Print, start: DeterministicRng, n: u32) {
     let mut rng = start;
-    let mut i: u32 = 0;
-    while i < n {
+    for i in 0..n {
         let next = rng.next_u64();
         show_line(rt, next.word);
         rng = next.rng;
-        i += 1;
     }
 }
 
@@ -48,24 +44,20 @@ fn draws(rt: &impl Print, seed: u64, n: u32) {
     show_line(rt, start.s2);
     show_line(rt, start.s3);
     let mut rng = start;
-    let mut i: u32 = 0;
-    while i < n {
+    for i in 0..n {
         let drawn = rng.next_f64();
         show_line(rt, bits(drawn.value));
         rng = drawn.rng;
-        i += 1;
     }
 }
 
 // The bits of the next n draws of the generator that a seed gives, lent for each.
 fn draws_lent(rt: &impl Print, seed: u64, n: u32) {
     let mut rng = DeterministicRng::seed_from_u64(seed);
-    let mut i: u32 = 0;
-    while i < n {
+    for i in 0..n {
         let drawn = draw_lent(rng);
         show_line(rt, bits(drawn.value));
         rng = drawn.rng;
-        i += 1;
     }
 }
 

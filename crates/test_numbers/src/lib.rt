@@ -84,10 +84,8 @@ fn read_numbers(text: &[u8], list: &mut [u64]) {
         value: 0,
         open: false,
     };
-    let mut i: usize = 0;
-    while i < text.len() {
+    for i in 0..text.len() {
         r = read_byte(r, text[i], list);
-        i += 1;
     }
 }
 
@@ -135,18 +133,14 @@ fn put_u8(column: &mut [u8], i: usize, x: u8) {
 
 // Copies n numbers from a place of the list on.
 pub fn copy_u32(list: &[u64], from: usize, column: &mut [u32], n: usize) {
-    let mut i: usize = 0;
-    while i < n {
+    for i in 0..n {
         put_u32(column, i, narrow_at(list, after(from, i)));
-        i += 1;
     }
 }
 
 pub fn copy_u8(list: &[u64], from: usize, column: &mut [u8], n: usize) {
-    let mut i: usize = 0;
-    while i < n {
+    for i in 0..n {
         put_u8(column, i, (at(list, after(from, i)) % 256) as u8);
-        i += 1;
     }
 }
 
@@ -175,10 +169,8 @@ pub fn mix(h: u64, x: u64) -> u64 {
 pub fn checksum(bytes: &[u8], n: usize) -> u64 {
     let m = lesser(n, bytes.len());
     let mut h: u64 = 1;
-    let mut i: usize = 0;
-    while i < m {
+    for i in 0..m {
         h = mix(h, wide_byte(bytes[i]));
-        i += 1;
     }
     h
 }
@@ -278,20 +270,16 @@ pub fn show_lengths(rt: &impl Print, answer: Result<SyndromeLengths, Refusal>) {
 // The first n numbers of a column, or all where there are fewer.
 pub fn show_list(rt: &impl Print, list: &[u32], n: usize) {
     let m = lesser(n, list.len());
-    let mut i: usize = 0;
-    while i < m {
+    for i in 0..m {
         show(rt, wide(list[i]));
-        i += 1;
     }
     end_line(rt);
 }
 
 pub fn show_bytes(rt: &impl Print, bytes: &[u8], n: usize) {
     let m = lesser(n, bytes.len());
-    let mut i: usize = 0;
-    while i < m {
+    for i in 0..m {
         show(rt, wide_byte(bytes[i]));
-        i += 1;
     }
     end_line(rt);
 }
@@ -307,10 +295,8 @@ pub fn show_weight(rt: &impl Print, w: TableWeight) {
 
 pub fn show_weights(rt: &impl Print, list: &[TableWeight], n: usize) {
     let m = lesser(n, list.len());
-    let mut i: usize = 0;
-    while i < m {
+    for i in 0..m {
         show_weight(rt, list[i]);
-        i += 1;
     }
     end_line(rt);
 }

@@ -6,9 +6,10 @@
 
 use codes_calls::Created;
 use columns::Weight;
-use sampling_calls::{ListCount, SyndromeCounts};
+use columns::refusal::Refusal;
+use sampling_calls::SyndromeLengths;
 use test_numbers::{
-    after, at, copy_u32, end_line, narrow_at, read_input, show, show_bytes, show_done, show_list,
+    after, at, copy_u32, end_line, narrow_at, read_input, show, show_answer, show_bytes, show_list,
     size_at,
 };
 
@@ -55,17 +56,17 @@ fn edges_in(answer: Created) -> u32 {
 // The counts and both lists.
 fn show_syndrome(
     rt: &impl Print,
-    answer: SyndromeCounts,
+    answer: Result<SyndromeLengths, Refusal>,
     defect_list: &[u32],
     erasure_list: &[u32],
 ) {
     match answer {
-        SyndromeCounts::Counts { defects, erasures } => {
-            show_list(rt, defect_list, defects as usize);
-            show_list(rt, erasure_list, erasures as usize);
+        Ok(lengths) => {
+            show_list(rt, defect_list, lengths.defects as usize);
+            show_list(rt, erasure_list, lengths.erasures as usize);
         }
-        SyndromeCounts::Refused(number) => {
-            show(rt, number as u64);
+        Err(refusal) => {
+            show(rt, u32::from(refusal) as u64);
             end_line(rt);
         }
     }
@@ -156,9 +157,9 @@ fn found(
         &mut defect_list,
     );
     match syndrome {
-        ListCount::Count(count) => show_list(rt, &defect_list, count as usize),
-        ListCount::Refused(number) => {
-            show(rt, number as u64);
+        Ok(count) => show_list(rt, &defect_list, count as usize),
+        Err(refusal) => {
+            show(rt, u32::from(refusal) as u64);
             end_line(rt);
         }
     }
@@ -272,7 +273,7 @@ fn replay_code(
         erasure_probability,
         list,
     );
-    show_done(
+    show_answer(
         rt,
         reorder_calls::reorder_vertices(
             v,

@@ -5,14 +5,15 @@
 // erasures; 3 0 0, load the list with its weights; 4 0 0, reset; 5 0 0, crossing; 6 a b, path. Queries after a refused open have the counts that it was asked for.
 #![tactic(auto)]
 
+use columns::refusal::Refusal;
 use columns::{TableWeight, VertexIndex, Weight};
-use engine_columns::{EngineAnswer, EngineCounts};
+use engine_columns::EngineCounts;
 use query_crossing_answer::CrossingReply;
 use query_paths::PathAnswer;
 use query_tables::End;
 use test_numbers::{
-    after, at, copy_u8, copy_u32, end_line, narrow_at, read_input, show, show_done, show_list,
-    show_weights, size_at,
+    after, at, copy_u8, copy_u32, end_line, narrow_at, read_input, show, show_answer, show_done,
+    show_list, show_weights, size_at,
 };
 
 const VERTICES: usize = 16;
@@ -24,19 +25,12 @@ const ENTRIES: usize = 24;
 const NAMED: usize = 4;
 
 // The counts to go on with: a refused call leaves them.
-fn counts_after(c: EngineCounts, answer: EngineAnswer) -> EngineCounts {
-    match answer {
-        EngineAnswer::Counts(k) => k,
-        EngineAnswer::Refused(number) => c,
-    }
+fn counts_after(c: EngineCounts, answer: Result<EngineCounts, Refusal>) -> EngineCounts {
+    answer.unwrap_or(c)
 }
 
-fn show_engine(rt: &impl Print, answer: EngineAnswer) {
-    match answer {
-        EngineAnswer::Counts(k) => show(rt, 0),
-        EngineAnswer::Refused(number) => show(rt, number as u64),
-    }
-    end_line(rt);
+fn show_engine(rt: &impl Print, answer: Result<EngineCounts, Refusal>) {
+    show_answer(rt, answer.map(|_| ()));
 }
 
 // No end, or the end that a query names.
@@ -278,7 +272,7 @@ fn change(
     list: &[u32],
     values: &[Weight],
     kind: u64,
-) -> EngineAnswer {
+) -> Result<EngineCounts, Refusal> {
     if kind == 2 {
         return engine_calls::load_erasures(
             c,

@@ -2,9 +2,9 @@
 // What it prints is compared with the file stdout.
 #![tactic(auto)]
 
-use reorder_calls::TranslatedAnswer;
-use sampling_calls::SyndromeCounts;
-use test_numbers::{end_line, show, show_bytes, show_count, show_counts, show_done, show_list};
+use columns::refusal::Refusal;
+use sampling_calls::SyndromeLengths;
+use test_numbers::{end_line, show, show_answer, show_bytes, show_length, show_lengths, show_list};
 
 const VERTEX_NUM: u32 = 8;
 
@@ -13,13 +13,13 @@ const EDGE_NUM: u32 = 9;
 // The counts, the bytes and the lists that a call leaves.
 fn show_syndrome(
     rt: &impl Print,
-    answer: SyndromeCounts,
+    answer: Result<SyndromeLengths, Refusal>,
     defect: [u8; 9],
     erasure: [u8; 10],
     defect_list: [u32; 9],
     erasure_list: [u32; 10],
 ) {
-    show_counts(rt, answer);
+    show_lengths(rt, answer);
     show_bytes(rt, &defect, 9);
     show_bytes(rt, &erasure, 10);
     show_list(rt, &defect_list, 9);
@@ -83,7 +83,7 @@ fn syndrome(rt: &impl Print, list: &[u32]) {
     let ends_b = [2u32, 3, 3, 4, 4, 5, 6, 7, 7];
     let boundary = [0u8, 2, 1, 0, 0, 2, 1, 0];
     let mut defect_list = [7u32; 9];
-    show_count(
+    show_length(
         rt,
         sampling_calls::syndrome_of(
             VERTEX_NUM,
@@ -101,7 +101,7 @@ fn syndrome(rt: &impl Print, list: &[u32]) {
 fn clear(rt: &impl Print) {
     let mut defect = [1u8; 9];
     let mut erasure = [0u8; 10];
-    show_done(
+    show_answer(
         rt,
         sampling_calls::clear_errors(VERTEX_NUM, EDGE_NUM, &mut defect, &mut erasure),
     );
@@ -112,12 +112,12 @@ fn clear(rt: &impl Print) {
 // The new numbers, and a list translated.
 fn numbers(rt: &impl Print, order: &[u32], list: &[u32]) {
     let mut column = [99u32; 9];
-    show_done(rt, reorder_calls::build_old_to_new(order, &mut column));
+    show_answer(rt, reorder_calls::build_old_to_new(order, &mut column));
     show_list(rt, &column, 9);
     let mut translated = [99u32; 4];
     match reorder_calls::translated_defect_to_reordered(order, list, &mut translated) {
-        TranslatedAnswer::Count(n) => show(rt, n as u64),
-        TranslatedAnswer::Refused(number) => show(rt, number as u64 + 100),
+        Ok(n) => show(rt, n as u64),
+        Err(refusal) => show(rt, u32::from(refusal) as u64 + 100),
     }
     end_line(rt);
     show_list(rt, &translated, 4);
@@ -136,7 +136,7 @@ fn positions_and_lists(rt: &impl Print, order: &[u32]) {
         0u32, 1, 2, 0, 3, 1, 2, 4, 5, 3, 4, 6, 7, 5, 8, 6, 7, 8, 7, 7,
     ];
     let mut scratch = [9u32; 20];
-    show_done(
+    show_answer(
         rt,
         reorder_calls::reorder_vertices(
             VERTEX_NUM,

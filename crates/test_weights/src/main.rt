@@ -5,9 +5,8 @@
 
 ghost use Rattle.std.specs.Prelude.{◌+◌, ◌≤◌, length};
 
-use columns::{Done, of_bits};
-use test_numbers::{bits, end_line, number_of, read_bytes, write, write_number};
-use weights_calls::WeightOfP;
+use columns::of_bits;
+use test_numbers::{bits, end_line, read_bytes, refusal_number, write, write_number};
 
 // 16 digits, a blank, 16 digits, a blank, 8 digits and the line's end.
 const LINE: usize = 43;
@@ -39,10 +38,8 @@ fn number(text: &[u8], at: usize, count: usize) -> u64
     requires { at + count ≤ length text.now }
 {
     let mut n: u64 = 0;
-    let mut i: usize = 0;
-    while i < count {
+    for i in 0..count {
         n = appended(n, digit(text[at + i]));
-        i += 1;
     }
     n
 }
@@ -68,8 +65,8 @@ fn write_weight(rt: &impl Print, w: f64) {
 
 fn show_weight(rt: &impl Print, p: f64) {
     match weights_calls::weight_of_p(p) {
-        WeightOfP::Weighs(w) => write_weight(rt, w),
-        WeightOfP::Refused(number) => write_refusal(rt, number),
+        Ok(w) => write_weight(rt, w),
+        Err(refusal) => write_refusal(rt, u32::from(refusal)),
     }
 }
 
@@ -86,8 +83,8 @@ fn show_half_weights(rt: &impl Print, p: f64, q: f64, max_half_weight: u32) {
     let ps = [p, q];
     let mut column = [7u32; 3];
     match weights_calls::compute_weights(2, &ps, &mut column, max_half_weight) {
-        Done::Accepted => write_half_weights(rt, column),
-        Done::Refused(number) => write_refusal(rt, number),
+        Ok(()) => write_half_weights(rt, column),
+        Err(refusal) => write_refusal(rt, u32::from(refusal)),
     }
 }
 
@@ -96,12 +93,12 @@ fn show_set(rt: &impl Print, p: f64) {
     let mut column = [0.0; 3];
     write_number(
         rt,
-        number_of(weights_calls::set_probability(2, p, &mut column)),
+        refusal_number(weights_calls::set_probability(2, p, &mut column)),
     );
     write_blank(rt);
     write_number(
         rt,
-        number_of(weights_calls::set_erasure_probability(2, p, &mut column)),
+        refusal_number(weights_calls::set_erasure_probability(2, p, &mut column)),
     );
 }
 

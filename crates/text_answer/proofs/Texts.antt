@@ -15,36 +15,34 @@ use Rattle.columns_answers.proofs.Said.{accepts-of, refuses-of, zero_of, values_
 use Rattle.text_numbers.specs.Text.{refusal_line}
 use Rattle.text_numbers.specs.Steps.{Put}
 use Rattle.text_input.specs.declared.CodeLine.{CodeLine}
-use Rattle.text_input.specs.declared.LineRead.{LineRead}
-use Rattle.text_input.specs.declared.LineRead.TheVariants.{WellFormed, NotWellFormed}
+use Rattle.std.specs.Prelude.{Option, None, Some, Ok}
 use Rattle.text_input.specs.Line.{well_formed, line_of, ReadsLine}
 use Rattle.text_listing.specs.Listing.{code_text}
 use Rattle.text_listing.proofs.Texts.{renamed, fitting}
-use Rattle.text_answer.specs.declared.Listed.TheVariants as call
 use Rattle.text_answer.specs.Answer.{text_by, text_of, answer_text, text_room, text_refusal, CodeListed}
 use Rattle.text_answer.proofs.Sizes.{every_text_fits}
 
-module _ (line : LineRead) {room : ℕ} where
-  pub damaged-fits : line ≡ NotWellFormed → length (text_of line) ≤ room → length (refusal_line 1) ≤ room
+module _ (line : Option CodeLine) {room : ℕ} where
+  pub damaged-fits : line ≡ None → length (text_of line) ≤ room → length (refusal_line 1) ≤ room
   damaged-fits q h = fitting (ap text_of (sym q)) h
 
-  pub sound-fits : (l : CodeLine) (x : Float) → x ≡ of_bits binary64 l.bits → line ≡ WellFormed l → length (text_of line) ≤ room → length (code_text l.kind l.d l.rounds x l.max) ≤ room
+  pub sound-fits : (l : CodeLine) (x : Float) → x ≡ of_bits binary64 l.bits → line ≡ Some l → length (text_of line) ≤ room → length (code_text l.kind l.d l.rounds x l.max) ≤ room
   sound-fits l x f q h = fitting (ap (λ (y : Float). code_text l.kind l.d l.rounds y l.max) f ∙ ap text_of (sym q)) h
 
-module _ (line : LineRead) {t₀ t : List ℕ} {r : ℕ} where
-  pub damaged-line : Put t₀ 0 (refusal_line 1) t r → line ≡ NotWellFormed → Put t₀ 0 (text_of line) t r
+module _ (line : Option CodeLine) {t₀ t : List ℕ} {r : ℕ} where
+  pub damaged-line : Put t₀ 0 (refusal_line 1) t r → line ≡ None → Put t₀ 0 (text_of line) t r
   damaged-line p q = renamed (ap text_of (sym q)) p
 
-  pub sound-line : (l : CodeLine) (x : Float) → Put t₀ 0 (code_text l.kind l.d l.rounds x l.max) t r → x ≡ of_bits binary64 l.bits → line ≡ WellFormed l → Put t₀ 0 (text_of line) t r
+  pub sound-line : (l : CodeLine) (x : Float) → Put t₀ 0 (code_text l.kind l.d l.rounds x l.max) t r → x ≡ of_bits binary64 l.bits → line ≡ Some l → Put t₀ 0 (text_of line) t r
   sound-line l x p f q = renamed (ap (λ (y : Float). code_text l.kind l.d l.rounds y l.max) f ∙ ap text_of (sym q)) p
 
 -- a line that was read has the text of its input
-read_text : (input : List ℕ) (l : LineRead) → ReadsLine input l → text_of l ≡ answer_text input
-read_text input (WellFormed l) a =
+read_text : (input : List ℕ) (l : Option CodeLine) → ReadsLine input l → text_of l ≡ answer_text input
+read_text input (Some l) a =
     let z = zero_of a in
     let w : well_formed input ≡ true = met (well_formed input) 0 0 z in
     λ i. text_by (sym w i) (values_of a z i)
-read_text input NotWellFormed a = go (well_formed input) a.number_is
+read_text input None a = go (well_formed input) a.number_is
   where
     go : (b : Bool) → 1 ≡ ask b 1 0 → refusal_line 1 ≡ text_by b (line_of input)
     go false e = refl
@@ -52,15 +50,7 @@ read_text input NotWellFormed a = go (well_formed input) a.number_is
 
 -- ---- the call
 
-pub too_short : (input text : List ℕ) → length text < text_room → CodeListed input text text (call.Refused 6)
-too_short input text h =
-    let q : text_refusal text ≡ 6 = ap (λ (b : Bool). ask b 6 0) (lt-leb text_room (length text) h) in
-    record {
-      answers = refuses-of (sym q) (λ z. absurd (omega arith));
-      text_after = sym (after-refused (text_refusal text) (answer_text input) text (λ z. omega (arith, q)));
-    }
-
-pub long_enough_lem : (input text₀ text : List ℕ) (l : LineRead) (r : ℕ) → text_room ≤ length text₀ → ReadsLine input l → Put text₀ 0 (text_of l) text r → CodeListed input text₀ text (call.Text r)
+pub long_enough_lem : (input text₀ text : List ℕ) (l : Option CodeLine) (r : ℕ) → text_room ≤ length text₀ → ReadsLine input l → Put text₀ 0 (text_of l) text r → CodeListed input text₀ text (Ok r)
 long_enough_lem input text₀ text l r h e p =
     let q : text_refusal text₀ ≡ 0 = ap (λ (b : Bool). ask b 6 0) (le-leb text_room (length text₀) h) in
     let same : text_of l ≡ answer_text input = read_text input l e in

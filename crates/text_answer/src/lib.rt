@@ -7,28 +7,22 @@ ghost use Rattle.text_answer.specs.Answer.{text_of, CodeListed};
 ghost use Rattle.text_answer.specs.Claims.{EveryTextFits};
 
 use columns::of_bits;
-use text_input::{LineRead, read_line};
+use columns::refusal::{Refusal, require};
+use text_input::{CodeLine, read_line};
 use text_listing::{CodeArguments, write_code};
 use text_numbers::lines::write_refusal;
-
-// How many bytes the text has, or the number of the question that was answered no.
-#[derive(Clone, Copy)]
-pub enum Listed {
-    Text(u32),
-    Refused(u32),
-}
 
 // The places that a text column needs.
 pub const TEXT_ROOM: usize = 320_000;
 
 // The text for an input line.
-fn write_answer(line: LineRead, text: &mut [u8]) -> usize
+fn write_answer(line: Option<CodeLine>, text: &mut [u8]) -> usize
     requires { length (text_of line) ≤ length text.old }
     ensures { Put text.old 0 (text_of line) text.new result }
 {
     match line {
-        LineRead::NotWellFormed => write_refusal(text, 1),
-        LineRead::WellFormed(l) => write_code(
+        None => write_refusal(text, 1),
+        Some(l) => write_code(
             CodeArguments {
                 kind: l.kind,
                 d: l.d,
@@ -42,13 +36,11 @@ fn write_answer(line: LineRead, text: &mut [u8]) -> usize
 }
 
 // Writes what `codelist` prints for an input of any length and content.
-pub fn codelist(input: &[u8], text: &mut [u8]) -> Listed
+pub fn codelist(input: &[u8], text: &mut [u8]) -> Result<u32, Refusal>
     ensures { CodeListed input.now text.old text.new result }
 {
-    if text.len() < TEXT_ROOM {
-        return Listed::Refused(6);
-    }
-    Listed::Text(write_answer(read_line(input), text) as u32)
+    require(TEXT_ROOM <= text.len(), Refusal::ShortColumn)?;
+    Ok(write_answer(read_line(input), text) as u32)
 }
 
 // Every input has a text that fits the text column.

@@ -12,8 +12,7 @@ use borrow.Author.Tests.{leb-true, eqb-true, eq-eqb, ne_eqb}
 use Rattle.columns.specs.Questions.{ask, all}
 use Rattle.columns.proofs.Tests.{and_both}
 use Rattle.text_input.specs.declared.CodeLine.{CodeLine}
-use Rattle.text_input.specs.declared.LineRead.{LineRead}
-use Rattle.text_input.specs.declared.LineRead.TheVariants.{WellFormed, NotWellFormed}
+use Rattle.std.specs.Prelude.{Option, None, Some}
 use Rattle.text_input.specs.Line.{comma, newline, is_hex_digit, digits, digit_of, hex_digit_of, number, decimal_of, hex_of, after_decimal, decimal_sound, hex_sound, from_d, from_rounds, from_p, from_m, well_formed, line_of, no_line, line_said, ReadsLine, LongInputsAlike}
 use Rattle.columns_answers.specs.Said.{Answered}
 use Rattle.columns_answers.proofs.Said.{accepts-of, refuses-of}
@@ -93,14 +92,14 @@ not_well t h = go (well_formed t) refl
     go false e = refl
     go true e = absurd (omega (arith, longest t e))
 
-pub not_formed : (t : List ℕ) → well_formed t ≡ false → ReadsLine t NotWellFormed
+pub not_formed : (t : List ℕ) → well_formed t ≡ false → ReadsLine t None
 not_formed t e = refuses-of (sym (ap (λ (b : Bool). ask b 1 0) e)) (λ z. absurd (omega arith))
 
-pub too_long : (t : List ℕ) → 57 < length t → ReadsLine t NotWellFormed
+pub too_long : (t : List ℕ) → 57 < length t → ReadsLine t None
 too_long t h = not_formed t (not_well t h)
 
 -- a refusal says nothing of the numbers
-no_values : (r : LineRead) (a b : Bool) (v w : CodeLine) → a ≡ false → b ≡ false → Answered (line_said r) (ask a 1 0) v no_line → Answered (line_said r) (ask b 1 0) w no_line
+no_values : (r : Option CodeLine) (a b : Bool) (v w : CodeLine) → a ≡ false → b ≡ false → Answered (line_said r) (ask a 1 0) v no_line → Answered (line_said r) (ask b 1 0) w no_line
 no_values r true b v w p q x = absurd (false≢true (sym p))
 no_values r false true v w p q x = absurd (false≢true (sym q))
 no_values r false false v w p q x = record { number_is = x.number_is; values_are = x.values_are; accepted_is = x.accepted_is }
@@ -203,5 +202,5 @@ module _ (t : List ℕ) (n1 n2 n3 n5 : ℕ) (e1 : n1 ≡ digits (drop 0 t)) (e2 
     max = (q5 ∙ field t (from_m t) at5 n5 p5 e5) k;
   }
 
-pub formed : (t : List ℕ) (l : CodeLine) → well_formed t ≡ true → l ≡ line_of t → ReadsLine t (WellFormed l)
+pub formed : (t : List ℕ) (l : CodeLine) → well_formed t ≡ true → l ≡ line_of t → ReadsLine t (Some l)
 formed t l e p = rw p (accepts-of (ap (λ (b : Bool). ask b 1 0) e))

@@ -1,11 +1,9 @@
 -- Document 01, "The program `codelist`": one line kind,d,rounds,p,M ending in byte 0a, nothing after it; decimals of 1 to 9 digits
 -- without leading zeros (0 alone is well formed), p as 16 lowercase hexadecimal digits.
-use Rattle.std.specs.Prelude.{ℕ, suc, ◌+◌, ◌-◌, ◌*◌, ◌<◌, ◌≤◌, Bool, not, ◌&&◌, ◌||◌, cond, List, [], ◌∷◌, leb, eqb, length, get_or, take, drop}
+use Rattle.std.specs.Prelude.{ℕ, suc, ◌+◌, ◌-◌, ◌*◌, ◌<◌, ◌≤◌, Bool, not, ◌&&◌, ◌||◌, cond, List, [], ◌∷◌, leb, eqb, length, get_or, take, drop, Option, None, Some}
 use Rattle.columns.specs.Questions.{ask, all}
 use Rattle.columns_answers.specs.Said.{Said, accepts, refuses, Answered}
 use Rattle.text_input.specs.declared.CodeLine.{CodeLine}
-use Rattle.text_input.specs.declared.LineRead.{LineRead}
-use Rattle.text_input.specs.declared.LineRead.TheVariants.{WellFormed, NotWellFormed}
 
 -- The program codelist, sentence 1: the byte of a comma.
 abbrev pub comma : ℕ
@@ -103,17 +101,17 @@ line_of t = record { kind = decimal_of t; d = decimal_of (from_d t); rounds = de
 abbrev pub no_line : CodeLine
 no_line = record { kind = 0; d = 0; rounds = 0; bits = 0; max = 0 }
 
--- Expected forms by place, last paragraph: document 01's number and values for each case of `LineRead`: the five numbers, 0 where the line was refused.
-abbrev pub line_said : LineRead → Said CodeLine
-line_said (WellFormed l) = accepts l
-line_said NotWellFormed = refuses 1 no_line
+-- Expected forms by place, last paragraph: document 01's number and values for each case of what reading a line answers: the five numbers, 0 where the line was refused.
+abbrev pub line_said : Option CodeLine → Said CodeLine
+line_said (Some l) = accepts l
+line_said None = refuses 1 no_line
 
 -- Questions at the door, 1: what reading a line answers, and the five numbers.
-abbrev pub ReadsLine : List ℕ → LineRead → Type 0
+abbrev pub ReadsLine : List ℕ → Option CodeLine → Type 0
 ReadsLine t r = Answered (line_said r) (ask (well_formed t) 1 0) (line_of t) no_line
 
 -- ---- a part of an input
 
 -- The program codelist, sentence 1: no well-formed line is longer than 57 bytes, so of a longer input any part with more than 57 bytes is read as the whole is.
 abbrev pub LongInputsAlike : Type 0
-LongInputsAlike = (input : List ℕ) (n : ℕ) → 57 < n → n ≤ length input → (r : LineRead) → ReadsLine (take n input) r → ReadsLine input r
+LongInputsAlike = (input : List ℕ) (n : ℕ) → 57 < n → n ≤ length input → (r : Option CodeLine) → ReadsLine (take n input) r → ReadsLine input r

@@ -3,20 +3,18 @@ ghost use Rattle.std.specs.Prelude.{◌≡◌, Bool, ◌||◌, not, ◌+◌, ◌
 ghost use Rattle.columns.specs.Questions.{all};
 ghost use Rattle.text_input.specs.Line.{is_digit, is_hex_digit, digits, digit_of, hex_digit_of, number, decimal_sound, hex_sound};
 
-use columns::questions::{both, either};
-
 // Whether a byte is a decimal digit.
 fn is_digit(b: u8) -> bool
     ensures { result ≡ is_digit b }
 {
-    both(b'0' <= b, b <= b'9')
+    b'0' <= b && b <= b'9'
 }
 
 // Whether a byte is a hexadecimal digit.
 fn is_hex_digit(b: u8) -> bool
     ensures { result ≡ is_hex_digit b }
 {
-    either(is_digit(b), both(b'a' <= b, b <= b'f'))
+    is_digit(b) || b'a' <= b && b <= b'f'
 }
 
 // The byte at a place, 0 past the end.
@@ -45,10 +43,7 @@ pub fn digits_at(text: &[u8], at: usize) -> usize
 fn no_leading_zero(n: usize, first: u8) -> bool
     ensures { result ≡ (eqb n 1 || not (eqb first 48)) }
 {
-    if n == 1 {
-        return true;
-    }
-    first != b'0'
+    n == 1 || first != b'0'
 }
 
 // Whether a sound decimal field of n digits stands from a place on, and then the byte `stop`.
@@ -56,10 +51,10 @@ pub fn decimal_sound(text: &[u8], at: usize, n: usize, stop: u8) -> bool
     requires { (at ≤ 1000) × (n ≤ 1000) × (n ≡ digits (drop at text.now)) }
     ensures { result ≡ decimal_sound stop (drop at text.now) }
 {
-    let few = both(1 <= n, n <= 9);
+    let few = (1 <= n) & (n <= 9);
     let plain = no_leading_zero(n, byte_at(text, at));
     let ended = byte_at(text, at + n) == stop;
-    both(few, both(plain, ended))
+    few & (plain & ended)
 }
 
 // Whether the 16 bytes from a place on are hexadecimal digits.
@@ -67,12 +62,10 @@ fn are_hex(text: &[u8], at: usize) -> bool
     requires { at + 16 ≤ length text.now }
     ensures { result ≡ all is_hex_digit (take 16 (drop at text.now)) }
 {
-    let mut i: usize = 0;
-    while i < 16 {
+    for i in 0..16 {
         if !is_hex_digit(text[at + i]) {
             return false;
         }
-        i += 1;
     }
     true
 }
@@ -87,17 +80,14 @@ pub fn hex_sound(text: &[u8], at: usize) -> bool
     }
     let are = are_hex(text, at);
     let ended = byte_at(text, at + 16) == b',';
-    both(are, ended)
+    are & ended
 }
 
 // What a digit counts.
 fn digit_of(b: u8) -> u32
     ensures { result ≡ digit_of b }
 {
-    if b < 48 {
-        return 0;
-    }
-    (b - 48) as u32
+    b.saturating_sub(48) as u32
 }
 
 fn hex_digit_of(b: u8) -> u64
@@ -106,10 +96,7 @@ fn hex_digit_of(b: u8) -> u64
     if b <= 57 {
         return digit_of(b) as u64;
     }
-    if b < 87 {
-        return 0;
-    }
-    (b - 87) as u64
+    b.saturating_sub(87) as u64
 }
 
 // The number that n digits from a place on write.
@@ -118,10 +105,8 @@ pub fn decimal_value(text: &[u8], at: usize, n: usize) -> u32
     ensures { result ≡ number 10 digit_of 0 (take n (drop at text.now)) }
 {
     let mut v: u32 = 0;
-    let mut i: usize = 0;
-    while i < n {
+    for i in 0..n {
         v = v * 10 + digit_of(text[at + i]);
-        i += 1;
     }
     v
 }
@@ -133,10 +118,8 @@ pub fn hex_value(text: &[u8], at: usize) -> u64
     ensures { result ≡ number 16 hex_digit_of 0 (take 16 (drop at text.now)) }
 {
     let mut v: u64 = 0;
-    let mut i: usize = 0;
-    while i < 16 {
+    for i in 0..16 {
         v = v * 16 + hex_digit_of(text[at + i]);
-        i += 1;
     }
     v
 }

@@ -3,10 +3,9 @@
 
 mod fields;
 
-ghost use Rattle.std.specs.Prelude.{◌≡◌, ◌≤◌, length, eqb};
+ghost use Rattle.std.specs.Prelude.{◌≡◌, ◌≤◌, length};
 ghost use Rattle.text_input.specs.Line.{ReadsLine, LongInputsAlike};
 
-use columns::questions::both;
 use fields::{decimal_sound, decimal_value, digits_at, hex_sound, hex_value};
 
 // The five numbers; p by its bits.
@@ -19,25 +18,11 @@ pub struct CodeLine {
     pub max: u32,
 }
 
-// What reading a line answers; a line that is not well formed is refused with 1.
-#[derive(Clone, Copy)]
-pub enum LineRead {
-    WellFormed(CodeLine),
-    NotWellFormed,
-}
-
 // No well-formed line is longer: four fields of 9 digits, one of 16, four commas and the line's end.
 const LONGEST: usize = 57;
 
-// Whether a number is another.
-fn is(a: usize, b: usize) -> bool
-    ensures { result ≡ eqb a b }
-{
-    a == b
-}
-
 // A line that is not too long.
-fn read_short(text: &[u8]) -> LineRead
+fn read_short(text: &[u8]) -> Option<CodeLine>
     requires { length text.now ≤ 57 }
     ensures { ReadsLine text.now result }
 {
@@ -54,13 +39,13 @@ fn read_short(text: &[u8]) -> LineRead
     let at5 = at4 + 17;
     let n5 = digits_at(text, at5);
     let sound5 = decimal_sound(text, at5, n5, b'\n');
-    let ends = is(text.len(), at5 + (n5 + 1));
-    let first = both(sound1, both(sound2, sound3));
-    let last = both(sound4, both(sound5, ends));
-    if !both(first, last) {
-        return LineRead::NotWellFormed;
+    let ends = text.len() == at5 + (n5 + 1);
+    let first = sound1 & (sound2 & sound3);
+    let last = sound4 & (sound5 & ends);
+    if !(first & last) {
+        return None;
     }
-    LineRead::WellFormed(CodeLine {
+    Some(CodeLine {
         kind: decimal_value(text, 0, n1),
         d: decimal_value(text, at2, n2),
         rounds: decimal_value(text, at3, n3),
@@ -69,12 +54,12 @@ fn read_short(text: &[u8]) -> LineRead
     })
 }
 
-// Reads a line.
-pub fn read_line(text: &[u8]) -> LineRead
+// Reads a line; none where it is not well formed, which question 1 refuses.
+pub fn read_line(text: &[u8]) -> Option<CodeLine>
     ensures { ReadsLine text.now result }
 {
     if LONGEST < text.len() {
-        return LineRead::NotWellFormed;
+        return None;
     }
     read_short(text)
 }

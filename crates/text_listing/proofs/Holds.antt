@@ -25,7 +25,10 @@ use Rattle.weights_recipe.specs.Logarithm.{edge_weight}
 use Rattle.weights_recipe.specs.Rounding.{half_weight}
 use Rattle.weights_calls.specs.Calls.{largest_weight, half_weights}
 use Rattle.weights_calls.proofs.Theorems.{within}
-use Rattle.codes_calls.specs.declared.Created.TheVariants.{Code, Refused}
+use Rattle.std.specs.Prelude.{Ok, Err}
+use Rattle.columns.specs.declared.refusal.Refusal.{Refusal}
+use Rattle.columns.specs.Refusals.{number}
+use Rattle.codes_calls.specs.CreateCode.{code_counts}
 use Rattle.codes_calls.specs.Columns.{CodeColumns}
 use Rattle.columns_answers.proofs.Said.{refused-of}
 use Rattle.codes_calls.proofs.Cases.{code_case}
@@ -43,14 +46,14 @@ module _ (kind d rounds : ℕ) (p : Float) (max : ℕ) (lent back : CodeColumns)
   refusal = refusal_is kind d rounds p max _ _ _ room.vertex_room_holds room.edge_room_holds room.numbers
 
   -- refused
-  pub refused-text : (n : ℕ) → NewCode kind d rounds p max lent back (Refused n) → refusal_line n ≡ code_text kind d rounds p max
+  pub refused-text : (n : Refusal) → NewCode kind d rounds p max lent back (Err n) → refusal_line (number n) ≡ code_text kind d rounds p max
   unfolding code_text
   refused-text n c =
-      let q : n ≡ list_refusal kind d rounds p max = c.answers.number_is ∙ refusal in
+      let q : number n ≡ list_refusal kind d rounds p max = c.answers.number_is ∙ refusal in
       ap refusal_line q
       ∙ sym (ap (λ (b : Bool). cond b (listing_of kind d rounds p max) (refusal_line (list_refusal kind d rounds p max))) (ne_eqb (list_refusal kind d rounds p max) 0 (λ z. refused-of c.answers (refusal ∙ z))))
 
-  module _ (v e : ℕ) (c : NewCode kind d rounds p max lent back (Code v e)) where
+  module _ (v e : ℕ) (c : NewCode kind d rounds p max lent back (Ok (code_counts v e))) where
     zero_number : new_refusal_in kind d rounds p (diagonal_of kind p) max lent ≡ 0
     zero_number = (code_case c.answers).0
 

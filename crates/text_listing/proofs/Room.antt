@@ -12,7 +12,7 @@ use Rattle.columns.specs.Questions.{ask}
 use Rattle.codes_layers.specs.Counts.{vertex_num, edge_num}
 use Rattle.codes_layers.specs.Accepts.{code_refusal}
 use Rattle.codes_layers.proofs.Accepted.{edges_six}
-use Rattle.codes_questions.proofs.Clamped.{next_same}
+use Rattle.codes_questions.proofs.Later.{next_same}
 use Rattle.weights_recipe.specs.Probabilities.{is_probability}
 use Rattle.weights_diagonal.specs.Diagonal.{is_diagonal_probability}
 use Rattle.weights_calls.specs.Calls.{edge_weights, some_above, is_largest_half_weight}

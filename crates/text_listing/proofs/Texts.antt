@@ -20,8 +20,10 @@ use Rattle.columns.specs.Questions.{ask}
 use Rattle.columns_answers.specs.Said.{Answered}
 use Rattle.query_crossing_answer.specs.Crossing.{is_joined, weight_found, crossing_said}
 use Rattle.query_crossing_answer.proofs.Cases.{crossed_case, refused_case}
-use Rattle.codes_calls.specs.declared.Created.{Created}
-use Rattle.codes_calls.specs.declared.Created.TheVariants as made
+use Rattle.std.specs.Prelude.{Result, Ok, Err}
+use Rattle.codes_calls.specs.declared.CodeCounts.{CodeCounts}
+use Rattle.columns.specs.declared.refusal.Refusal.{Refusal}
+use Rattle.columns.specs.Refusals.{number}
 use Rattle.codes_calls.specs.Columns.{CodeColumns}
 use Rattle.codes_calls.specs.NewCode.{NewCode}
 use Rattle.text_listing.specs.Listing.{weights_of, crossing_of, with_crossing, listing_of, code_text}
@@ -78,15 +80,15 @@ module _ (kind d rounds v e : ℕ) (m a b w : List ℕ) (reply : CrossingReply) 
   crossed-reply-fits weight q h = fitting (ap (reply_text kind d rounds v e m a b w) (sym q)) h
 
 -- an answer that is no refusal has the listing
-built_text : (kind d rounds : ℕ) (p : Float) (max : ℕ) (answer : Created) → ((n : ℕ) → answer ≡ made.Refused n → ⊥) → listing_of kind d rounds p max ≡ made_text kind d rounds p max answer
-built_text kind d rounds p max (made.Code v e) f = refl
-built_text kind d rounds p max (made.Refused n) f = absurd (f n refl)
+built_text : (kind d rounds : ℕ) (p : Float) (max : ℕ) (answer : Result CodeCounts Refusal) → ((n : Refusal) → answer ≡ Err n → ⊥) → listing_of kind d rounds p max ≡ made_text kind d rounds p max answer
+built_text kind d rounds p max (Ok counts) f = refl
+built_text kind d rounds p max (Err n) f = absurd (f n refl)
 
-module _ (kind d rounds : ℕ) (p : Float) (max : ℕ) (answer : Created) {room : ℕ} where
-  pub refused-made-fits : (n : ℕ) → answer ≡ made.Refused n → length (made_text kind d rounds p max answer) ≤ room → length (refusal_line n) ≤ room
+module _ (kind d rounds : ℕ) (p : Float) (max : ℕ) (answer : Result CodeCounts Refusal) {room : ℕ} where
+  pub refused-made-fits : (n : Refusal) → answer ≡ Err n → length (made_text kind d rounds p max answer) ≤ room → length (refusal_line (number n)) ≤ room
   refused-made-fits n q h = fitting (ap (made_text kind d rounds p max) (sym q)) h
 
-  pub built-made-fits : ((n : ℕ) → answer ≡ made.Refused n → ⊥) → length (made_text kind d rounds p max answer) ≤ room → length (listing_of kind d rounds p max) ≤ room
+  pub built-made-fits : ((n : Refusal) → answer ≡ Err n → ⊥) → length (made_text kind d rounds p max answer) ≤ room → length (listing_of kind d rounds p max) ≤ room
   built-made-fits f h = fitting (built_text kind d rounds p max answer f) h
 
 module _ (kind d rounds v e : ℕ) (m a b w : List ℕ) (reply : CrossingReply) {t₀ t : List ℕ} {r : ℕ} where
@@ -100,27 +102,27 @@ module _ (kind d rounds v e : ℕ) (m a b w : List ℕ) (reply : CrossingReply) 
       → Put t₀ 0 (reply_text kind d rounds v e m a b w reply) t r → Put t₀ 0 (listing_of kind d rounds p max) t r
   listed-reply p max s q x = renamed (reply-is kind d rounds p max v e a b w m s reply q) x
 
-module _ (kind d rounds : ℕ) (p : Float) (max : ℕ) (answer : Created) {t₀ t : List ℕ} {r : ℕ} where
-  pub refused-made : (n : ℕ) → Put t₀ 0 (refusal_line n) t r → answer ≡ made.Refused n → Put t₀ 0 (made_text kind d rounds p max answer) t r
+module _ (kind d rounds : ℕ) (p : Float) (max : ℕ) (answer : Result CodeCounts Refusal) {t₀ t : List ℕ} {r : ℕ} where
+  pub refused-made : (n : Refusal) → Put t₀ 0 (refusal_line (number n)) t r → answer ≡ Err n → Put t₀ 0 (made_text kind d rounds p max answer) t r
   refused-made n x q = renamed (ap (made_text kind d rounds p max) (sym q)) x
 
-  pub built-made : Put t₀ 0 (listing_of kind d rounds p max) t r → ((n : ℕ) → answer ≡ made.Refused n → ⊥) → Put t₀ 0 (made_text kind d rounds p max answer) t r
+  pub built-made : Put t₀ 0 (listing_of kind d rounds p max) t r → ((n : Refusal) → answer ≡ Err n → ⊥) → Put t₀ 0 (made_text kind d rounds p max answer) t r
   built-made x f = renamed (built_text kind d rounds p max answer f) x
 
-pub holds_made : {kind d rounds : ℕ} {p : Float} {max : ℕ} {a b h m : List ℕ} (answer : Created) (v e : ℕ) → MadeHolds kind d rounds p max a b h m answer → answer ≡ made.Code v e → HoldsCode kind d rounds p max v e a b h m
-holds_made {kind} {d} {rounds} {p} {max} {a} {b} {h} {m} answer v e x q = subst (MadeHolds kind d rounds p max a b h m) q x
+pub holds_made : {kind d rounds : ℕ} {p : Float} {max : ℕ} {a b h m : List ℕ} (answer : Result CodeCounts Refusal) (counts : CodeCounts) → MadeHolds kind d rounds p max a b h m answer → answer ≡ Ok counts → HoldsCode kind d rounds p max counts.vertices counts.edges a b h m
+holds_made {kind} {d} {rounds} {p} {max} {a} {b} {h} {m} answer counts x q = subst (MadeHolds kind d rounds p max a b h m) q x
 
 module _ (kind d rounds : ℕ) (p : Float) (max : ℕ) (lent back : CodeColumns) (room : CodeRoom lent) where
-  pub made_holds : (answer : Created) → NewCode kind d rounds p max lent back answer → MadeHolds kind d rounds p max back.ends_a back.ends_b back.half_weight back.boundary answer
-  made_holds (made.Code v e) c = holds-code kind d rounds p max lent back room v e c
-  made_holds (made.Refused n) c = tt
+  pub made_holds : (answer : Result CodeCounts Refusal) → NewCode kind d rounds p max lent back answer → MadeHolds kind d rounds p max back.ends_a back.ends_b back.half_weight back.boundary answer
+  made_holds (Ok counts) c = holds-code kind d rounds p max lent back room counts.vertices counts.edges c
+  made_holds (Err n) c = tt
 
-  made-text : (answer : Created) → NewCode kind d rounds p max lent back answer → made_text kind d rounds p max answer ≡ code_text kind d rounds p max
-  made-text (made.Code v e) c = accepted-text kind d rounds p max lent back room v e c
-  made-text (made.Refused n) c = refused-text kind d rounds p max lent back room n c
+  made-text : (answer : Result CodeCounts Refusal) → NewCode kind d rounds p max lent back answer → made_text kind d rounds p max answer ≡ code_text kind d rounds p max
+  made-text (Ok counts) c = accepted-text kind d rounds p max lent back room counts.vertices counts.edges c
+  made-text (Err n) c = refused-text kind d rounds p max lent back room n c
 
-  pub made-fits : (answer : Created) → NewCode kind d rounds p max lent back answer → {n : ℕ} → length (code_text kind d rounds p max) ≤ n → length (made_text kind d rounds p max answer) ≤ n
+  pub made-fits : (answer : Result CodeCounts Refusal) → NewCode kind d rounds p max lent back answer → {n : ℕ} → length (code_text kind d rounds p max) ≤ n → length (made_text kind d rounds p max answer) ≤ n
   made-fits answer c h = fitting (made-text answer c) h
 
-  pub made-put : (answer : Created) → NewCode kind d rounds p max lent back answer → {t₀ t : List ℕ} {r : ℕ} → Put t₀ 0 (made_text kind d rounds p max answer) t r → Put t₀ 0 (code_text kind d rounds p max) t r
+  pub made-put : (answer : Result CodeCounts Refusal) → NewCode kind d rounds p max lent back answer → {t₀ t : List ℕ} {r : ℕ} → Put t₀ 0 (made_text kind d rounds p max answer) t r → Put t₀ 0 (code_text kind d rounds p max) t r
   made-put answer c x = renamed (made-text answer c) x

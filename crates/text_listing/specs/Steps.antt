@@ -1,5 +1,5 @@
 -- What the private functions of this crate promise one another. No public contract cites it.
-use Rattle.std.specs.Prelude.{ℕ, ◌≤◌, ◌≡◌, true, List, take, Float}
+use Rattle.std.specs.Prelude.{ℕ, ◌≤◌, ◌≡◌, true, List, take, Float, Result, Ok, Err}
 use Rattle.columns.specs.Limits.{half_weight_limit}
 use Rattle.codes_writers.specs.Edges.{firsts, seconds, boundaries}
 use Rattle.codes_layers.specs.Codes.{edges_of, vertices_of}
@@ -7,8 +7,9 @@ use Rattle.codes_layers.specs.Counts.{vertex_num, edge_num}
 use Rattle.codes_layers.specs.Accepts.{Buildable}
 use Rattle.weights_calls.specs.Calls.{half_weights}
 use Rattle.columns.specs.Questions.{ask, weights_sound}
-use Rattle.codes_calls.specs.declared.Created.{Created}
-use Rattle.codes_calls.specs.declared.Created.TheVariants as made
+use Rattle.codes_calls.specs.declared.CodeCounts.{CodeCounts}
+use Rattle.columns.specs.declared.refusal.Refusal.{Refusal}
+use Rattle.columns.specs.Refusals.{number}
 use Rattle.query_crossing_answer.specs.declared.CrossingReply.{CrossingReply}
 use Rattle.query_crossing_answer.specs.declared.CrossingReply.TheVariants.{Crossed, Refused}
 use Rattle.query_crossing_answer.specs.Crossing.{is_joined, weight_found, crossing_said}
@@ -66,11 +67,11 @@ reply_text kind d rounds v e boundary a b weights (Crossed weight) = listing kin
 reply_text kind d rounds v e boundary a b weights (Refused number) = refusal_line number
 
 -- The program codelist, sentence 2: where `new` answers with a code, these columns hold it.
-abbrev pub MadeHolds : (kind d rounds : ℕ) (p : Float) (max : ℕ) (a b h m : List ℕ) → Created → Type 0
-MadeHolds kind d rounds p max a b h m (made.Code v e) = HoldsCode kind d rounds p max v e a b h m
-MadeHolds kind d rounds p max a b h m (made.Refused number) = Unit {0}
+abbrev pub MadeHolds : (kind d rounds : ℕ) (p : Float) (max : ℕ) (a b h m : List ℕ) → Result CodeCounts Refusal → Type 0
+MadeHolds kind d rounds p max a b h m (Ok counts) = HoldsCode kind d rounds p max counts.vertices counts.edges a b h m
+MadeHolds kind d rounds p max a b h m (Err r) = Unit {0}
 
 -- The program codelist, sentence 4 and the listing: the text for what `new` answers.
-abbrev pub made_text : (kind d rounds : ℕ) (p : Float) (max : ℕ) → Created → List ℕ
-made_text kind d rounds p max (made.Code v e) = listing_of kind d rounds p max
-made_text kind d rounds p max (made.Refused number) = refusal_line number
+abbrev pub made_text : (kind d rounds : ℕ) (p : Float) (max : ℕ) → Result CodeCounts Refusal → List ℕ
+made_text kind d rounds p max (Ok counts) = listing_of kind d rounds p max
+made_text kind d rounds p max (Err r) = refusal_line (number r)

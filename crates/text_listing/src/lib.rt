@@ -11,14 +11,15 @@ ghost use Rattle.text_listing.specs.Steps.{MadeHolds, made_text};
 
 pub use built::CodeArguments;
 use built::write_built;
-use codes_calls::Created;
+use codes_calls::CodeCounts;
 use codes_calls::weighted::new;
 use columns::Weight;
+use columns::refusal::Refusal;
 use text_numbers::lines::write_refusal;
 
 // The text for what `new` answers.
 fn write_made(
-    made: Created,
+    made: Result<CodeCounts, Refusal>,
     code: CodeArguments,
     ends_a: &[u32],
     ends_b: &[u32],
@@ -31,8 +32,17 @@ fn write_made(
     ensures { Put text.old 0 (made_text code.kind code.d code.rounds code.probability code.max made) text.new result }
 {
     match made {
-        Created::Refused(number) => write_refusal(text, number),
-        Created::Code(v, e) => write_built(code, v, e, ends_a, ends_b, half_weight, boundary, text),
+        Err(refusal) => write_refusal(text, u32::from(refusal)),
+        Ok(counts) => write_built(
+            code,
+            counts.vertices,
+            counts.edges,
+            ends_a,
+            ends_b,
+            half_weight,
+            boundary,
+            text,
+        ),
     }
 }
 

@@ -31,10 +31,8 @@ fn power_of_ten(k: u32) -> u32
     ensures { result ≡ 10 ^ k }
 {
     let mut power: u32 = 1;
-    let mut i: u32 = 0;
-    while i < k {
+    for i in 0..k {
         power = power * 10;
-        i += 1;
     }
     power
 }

@@ -54,10 +54,8 @@ fn put_vertices(text: &mut [u8], at: usize, boundary: &[u8], n: u32) -> usize
     ensures { Put text.old at (vertex_lines n boundary.now) text.new result }
 {
     let mut next = at;
-    let mut v: u32 = 0;
-    while v < n {
+    for v in 0..n {
         next = put_vertex(text, next, boundary, VertexIndex(v));
-        v += 1;
     }
     next
 }
@@ -75,10 +73,8 @@ fn put_edges(
     ensures { Put text.old at (edge_lines n ends_a.now ends_b.now weights.now) text.new result }
 {
     let mut next = at;
-    let mut e: u32 = 0;
-    while e < n {
+    for e in 0..n {
         next = put_edge(text, next, ends_a, ends_b, weights, EdgeIndex(e));
-        e += 1;
     }
     next
 }

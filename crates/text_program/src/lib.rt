@@ -8,8 +8,8 @@
 ghost use Rattle.std.specs.Prelude.{◌≡◌, ◌≤◌, length, take};
 ghost use Rattle.text_answer.specs.Answer.{answer_text, text_room};
 
-use text_answer::{Listed, codelist};
-use text_reading::{InputRead, read_input};
+use text_answer::codelist;
+use text_reading::read_input;
 
 // How many bytes a text has, and whether all of them were written.
 #[derive(Clone, Copy)]
@@ -47,8 +47,8 @@ fn answer(rt: &impl Print, input: &[u8], text: &mut [u8]) -> Printed
 {
     let listed = codelist(input, text);
     match listed {
-        Listed::Text(n) => show(rt, input, text, n),
-        Listed::Refused(number) => Printed {
+        Ok(n) => show(rt, input, text, n),
+        Err(_) => Printed {
             bytes: 0,
             whole: false,
         },
@@ -76,8 +76,8 @@ fn read_and_answer(rt: &(impl Input + Print + Eprint), buffer: &mut [u8], text: 
 {
     let read = read_input(rt, buffer);
     match read {
-        InputRead::Bytes(n) => answer_input(rt, &buffer[..n], text),
-        InputRead::Failed => report(rt, "codelist: the input could not be read"),
+        Ok(n) => answer_input(rt, &buffer[..n], text),
+        Err(_) => report(rt, "codelist: the input could not be read"),
     }
 }
 

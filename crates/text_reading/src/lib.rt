@@ -7,25 +7,18 @@ ghost use Rattle.text_reading.specs.Reading.{read_of, ReadWithin};
 use std::io;
 use std::io::Read;
 
-// How many bytes were read to the buffer, or that a read failed.
-#[derive(Clone, Copy)]
-pub enum InputRead {
-    Bytes(usize),
-    Failed,
-}
-
 // What a read answered that was lent these places.
-fn read_of(got: io::Result<usize>, places: &[u8]) -> InputRead
+fn read_of(got: io::Result<usize>, places: &[u8]) -> io::Result<usize>
     ensures { result ≡ read_of got (length places.now) }
 {
     match got {
-        Ok(n) => InputRead::Bytes(n.min(places.len())),
-        Err(_) => InputRead::Failed,
+        Ok(n) => Ok(n.min(places.len())),
+        Err(e) => Err(e),
     }
 }
 
 // One read, to the places from `at` on.
-fn read_from(input: &mut impl Read, buffer: &mut [u8], at: usize) -> InputRead
+fn read_from(input: &mut impl Read, buffer: &mut [u8], at: usize) -> io::Result<usize>
     requires { at ≤ length buffer.old }
     ensures { ReadWithin (length buffer.old - at) result }
 {
@@ -35,20 +28,17 @@ fn read_from(input: &mut impl Read, buffer: &mut [u8], at: usize) -> InputRead
 }
 
 // Reads standard input until it ends or the buffer is full.
-pub fn read_input(rt: &impl Input, buffer: &mut [u8]) -> InputRead
+pub fn read_input(rt: &impl Input, buffer: &mut [u8]) -> io::Result<usize>
     ensures { ReadWithin (length buffer.new) result }
 {
     let mut input = rt.reader();
     let mut done: usize = 0;
     while done < buffer.len() {
-        let read = read_from(&mut input, buffer, done);
-        let InputRead::Bytes(n) = read else {
-            return InputRead::Failed;
-        };
+        let n = read_from(&mut input, buffer, done)?;
         if n == 0 {
-            return InputRead::Bytes(done);
+            return Ok(done);
         }
         done += n;
     }
-    InputRead::Bytes(done)
+    Ok(done)
 }

@@ -4,5 +4,3 @@ pub mod Equal
 pub mod Tables
 pub mod Largest
 pub mod Theorems
--- Tested: the call by its test.
-pub mod Tested

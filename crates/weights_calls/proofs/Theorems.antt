@@ -14,10 +14,10 @@ use lib.Ieee.{Float, nan, inf, fin, binary64, add, sub, mul, div, lt, le, eq, of
 use borrow.Author.Tests.{le-leb, leb-true}
 use Rattle.columns.specs.Limits.{edge_limit, half_weight_limit}
 use Rattle.columns.specs.Questions.{ask, all}
-use Rattle.columns_answers.specs.Done.{done_said}
 use Rattle.columns.specs.Places.{zero_float, half}
-use Rattle.columns.specs.declared.Done.{Done}
-use Rattle.columns.specs.declared.Done.TheVariants.{Accepted}
+use Rattle.columns.specs.declared.refusal.Refusal.{Refusal}
+use Rattle.std.specs.Prelude.{Result, Ok}
+use Rattle.columns_answers.specs.Said.{said}
 use Rattle.columns.proofs.Columns.{get_d_any, over-in, over-past, after-accepted}
 use Rattle.columns.proofs.Tests.{and_both, both_and, at_all}
 use Rattle.weights_recipe.specs.Probabilities.{is_probability}
@@ -67,11 +67,11 @@ pub record Written (edges : ℕ) (p : List Float) (before : List ℕ) (max : ℕ
   pub first : (k : ℕ) → k < edges → get_or column k 0 ≡ half_weight max (edge_weight (get_or p k zero_float)) (largest_weight (take edges p))
   pub past : (k : ℕ) → edges ≤ k → get_or column k 0 ≡ get_or before k 0
 
-pub written : {edges : ℕ} {p : List Float} {before : List ℕ} {max : ℕ} {column : List ℕ} {answer : Done} → ComputedWeights edges p before max column answer → answer ≡ Accepted
+pub written : {edges : ℕ} {p : List Float} {before : List ℕ} {max : ℕ} {column : List ℕ} {answer : Result (Unit {0}) Refusal} → ComputedWeights edges p before max column answer → answer ≡ Ok tt
     → Met edges p before max × Written edges p before max column
 written {edges} {p} {before} {max} {column} {answer} w a =
     let q = compute_refusal edges p before max in
-    let zero : q ≡ 0 = sym w.answers.number_is ∙ ap (λ (r : Done). (done_said r).number) a in
+    let zero : q ≡ 0 = sym w.answers.number_is ∙ ap (λ (r : Result (Unit {0}) Refusal). (said tt r).number) a in
     let m = all_met edges p before max zero in
     let ps = take edges p in
     let one : Float → ℕ = λ x. half_weight max (edge_weight x) (largest_weight ps) in
@@ -103,7 +103,7 @@ within max w l h =
     (at_least n, at_most_of n max (greatest_within (scaled max w l) max) h)
 
 -- every half weight that an accepted call writes
-pub one_to_max : {edges : ℕ} {p : List Float} {before : List ℕ} {max : ℕ} {column : List ℕ} {answer : Done} → ComputedWeights edges p before max column answer → answer ≡ Accepted
+pub one_to_max : {edges : ℕ} {p : List Float} {before : List ℕ} {max : ℕ} {column : List ℕ} {answer : Result (Unit {0}) Refusal} → ComputedWeights edges p before max column answer → answer ≡ Ok tt
     → (k : ℕ) → k < edges → (1 ≤ get_or column k 0) × (get_or column k 0 ≤ max)
 one_to_max {edges} {p} {before} {max} {column} w a k h =
     let both = written w a in
@@ -179,7 +179,7 @@ zero_among max ps i m h e w =
     ap (λ (x : Float). half_weight max w x) (infinite_largest zero_float ps i zero_no_nan h e) ∙ by_infinity max w m
 
 -- every half weight that an accepted call writes, where one edge has p = 0
-pub one_zero : {edges : ℕ} {p : List Float} {before : List ℕ} {max : ℕ} {column : List ℕ} {answer : Done} → ComputedWeights edges p before max column answer → answer ≡ Accepted
+pub one_zero : {edges : ℕ} {p : List Float} {before : List ℕ} {max : ℕ} {column : List ℕ} {answer : Result (Unit {0}) Refusal} → ComputedWeights edges p before max column answer → answer ≡ Ok tt
     → (i : ℕ) → i < edges → get_or p i zero_float ≡ zero_float → (k : ℕ) → k < edges → get_or column k 0 ≡ 1
 one_zero {edges} {p} {before} {max} {column} w a i l e k h =
     let both = written w a in

@@ -1,13 +1,12 @@
 -- The calls: which question refuses (0 for none), the answer, and the lent columns afterwards.
-use Rattle.std.specs.Prelude.{ℕ, ◌≡◌, Bool, false, ◌&&◌, ◌||◌, cond, List, [], ◌∷◌, map, leb, length, take, Float}
+use Rattle.std.specs.Prelude.{ℕ, ◌≡◌, Bool, false, ◌&&◌, ◌||◌, cond, List, [], ◌∷◌, map, leb, length, take, Float, Result}
 use Rattle.std.specs.Float.Ieee.{lt}
 use Rattle.columns.specs.Limits.{edge_limit, half_weight_limit}
 use Rattle.columns.specs.Lists.{after}
 use Rattle.columns.specs.Questions.{ask, all}
 use Rattle.columns.specs.Places.{zero_float}
-use Rattle.columns_answers.specs.Said.{Answered}
-use Rattle.columns_answers.specs.Done.{done_said}
-use Rattle.columns.specs.declared.Done.{Done}
+use Rattle.columns.specs.declared.refusal.Refusal.{Refusal}
+use Rattle.columns_answers.specs.Said.{said, Answered}
 use Rattle.weights_recipe.specs.Probabilities.{is_probability}
 use Rattle.weights_recipe.specs.Logarithm.{edge_weight}
 use Rattle.weights_recipe.specs.Rounding.{half_weight}
@@ -60,6 +59,6 @@ compute_refusal edges p column max =
     (ask (some_above (edge_weights (take edges p))) 10 0))))
 
 -- Weights, `compute_weights`: its answer, and what stands in the half-weight column before it and afterwards.
-pub record ComputedWeights (edges : ℕ) (p : List Float) (column₀ : List ℕ) (max : ℕ) (column : List ℕ) (answer : Done) : Type 0 where
-  pub answers : Answered (done_said answer) (compute_refusal edges p column₀ max) tt tt
+pub record ComputedWeights (edges : ℕ) (p : List Float) (column₀ : List ℕ) (max : ℕ) (column : List ℕ) (answer : Result (Unit {0}) Refusal) : Type 0 where
+  pub answers : Answered (said tt answer) (compute_refusal edges p column₀ max) tt tt
   pub column_after : column ≡ after (compute_refusal edges p column₀ max) (half_weights max (take edges p)) column₀

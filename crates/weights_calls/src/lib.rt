@@ -4,40 +4,30 @@
 mod known;
 pub mod setters;
 
-ghost use Rattle.std.specs.Prelude.{◌≡◌, map, ◌≤◌, length, take};
+ghost use Rattle.std.specs.Prelude.{◌≡◌, map, ◌≤◌, length, take, IfOk};
 ghost use Rattle.std.specs.Float.Ieee.{lt};
 ghost use Rattle.columns.specs.Lists.{over};
 ghost use Rattle.columns.specs.Places.{zero_float};
 ghost use Rattle.weights_recipe.specs.Logarithm.{edge_weight};
 ghost use Rattle.weights_recipe.specs.Rounding.{half_weight};
-ghost use Rattle.columns_answers.specs.Said.{Answered};
-ghost use Rattle.weights_calls.specs.Answers.{weight_said};
+ghost use Rattle.columns.specs.Refusals.{question_of};
+ghost use Rattle.columns_answers.specs.Said.{said, Answered};
 ghost use Rattle.weights_calls.specs.Steps.{Known, half_weight_of};
-ghost use Rattle.weights_calls.specs.Calls.{weight_refusal, larger, largest_weight, is_largest_half_weight, ComputedWeights};
+ghost use Rattle.weights_calls.specs.Calls.{weight_refusal, larger, largest_weight, is_largest_half_weight, compute_refusal, ComputedWeights};
 
-use columns::questions::{asked, at_most, both, lesser};
-use columns::{Done, EDGE_LIMIT, HALF_WEIGHT_LIMIT, Weight, done_of};
+use columns::refusal::{Refusal, require};
+use columns::{EDGE_LIMIT, HALF_WEIGHT_LIMIT, Weight};
 use known::{PLACES, half_weight_of, known_half_weight, known_weight};
 pub use setters::{set_erasure_probability, set_probability};
 use weights_questions::{are_probabilities, is_probability};
 use weights_recipe::logarithm::edge_weight;
 
-// What `weight_of_p` answers.
-#[derive(Clone, Copy)]
-pub enum WeightOfP {
-    Weighs(f64),
-    Refused(u32),
-}
-
 // The weight of an edge with probability p.
-pub fn weight_of_p(p: f64) -> WeightOfP
-    ensures { Answered (weight_said result) (weight_refusal p) (edge_weight p) zero_float }
+pub fn weight_of_p(p: f64) -> Result<f64, Refusal>
+    ensures { Answered (said zero_float result) (weight_refusal p) (edge_weight p) zero_float }
 {
-    if is_probability(p) {
-        WeightOfP::Weighs(edge_weight(p))
-    } else {
-        WeightOfP::Refused(9)
-    }
+    require(is_probability(p), Refusal::BadProbability)?;
+    Ok(edge_weight(p))
 }
 
 // The larger of two weights.
@@ -52,12 +42,10 @@ fn largest_by_table(p: &[f64], n: usize, known_p: &mut [f64], known_w: &mut [f64
     requires { Known edge_weight known_p.old known_w.old }
     ensures { result ≡ largest_weight (take n p.now) }
 {
-    let m = lesser(n, p.len());
+    let m = n.min(p.len());
     let mut largest = 0.0;
-    let mut i: usize = 0;
-    while i < m {
+    for i in 0..m {
         largest = larger_weight(largest, known_weight(p[i], known_p, known_w));
-        i += 1;
     }
     largest
 }
@@ -83,7 +71,7 @@ pub fn is_above_zero(w: f64) -> bool
 pub fn is_largest_half_weight(max_half_weight: Weight) -> bool
     ensures { result ≡ is_largest_half_weight max_half_weight }
 {
-    both(1 <= max_half_weight, max_half_weight <= HALF_WEIGHT_LIMIT)
+    1 <= max_half_weight && max_half_weight <= HALF_WEIGHT_LIMIT
 }
 
 // Stores the half weight of each of the first n edges, by a table of known half weights.
@@ -99,10 +87,8 @@ fn store_by_table(
     requires { (n ≤ length p.now) × (n ≤ length column.old) × Known (half_weight_of max_half_weight largest) known_p.old known_half.old }
     ensures { column.new ≡ over (map (half_weight_of max_half_weight largest) (take n p.now)) column.old }
 {
-    let mut i: usize = 0;
-    while i < n {
+    for i in 0..n {
         column[i] = known_half_weight(max_half_weight, largest, p[i], known_p, known_half);
-        i += 1;
     }
 }
 
@@ -132,27 +118,40 @@ fn store_half_weights(
     );
 }
 
+// Questions 6 to 10, in order. The largest weight.
+#[tactic(auto, using(crate::proofs::Largest::some_above_lem))]
+fn compute_questions(
+    edge_num: u32,
+    p: &[f64],
+    half_weight: &[Weight],
+    max_half_weight: Weight,
+) -> Result<f64, Refusal>
+    ensures number { question_of result ≡ compute_refusal edge_num p.now half_weight.now max_half_weight }
+    ensures largest { IfOk result (λ largest. largest ≡ largest_weight (take edge_num p.now)) }
+{
+    let n = edge_num as usize;
+    require(n <= p.len() && n <= half_weight.len(), Refusal::ShortColumn)?;
+    require(edge_num <= EDGE_LIMIT, Refusal::UnsoundColumns)?;
+    require(
+        is_largest_half_weight(max_half_weight),
+        Refusal::BadHalfWeight,
+    )?;
+    require(are_probabilities(p, n), Refusal::BadProbability)?;
+    let largest = largest_weight(p, n);
+    require(is_above_zero(largest), Refusal::NoWeight)?;
+    Ok(largest)
+}
+
 // Sets the half weight of each edge from the edges' probabilities.
 pub fn compute_weights(
     edge_num: u32,
     p: &[f64],
     half_weight: &mut [Weight],
     max_half_weight: Weight,
-) -> Done
+) -> Result<(), Refusal>
     ensures { ComputedWeights edge_num p.now half_weight.old max_half_weight half_weight.new result }
 {
-    let n = edge_num as usize;
-    let long_enough = both(at_most(n, p.len()), at_most(n, half_weight.len()));
-    let few = at_most(n, EDGE_LIMIT as usize);
-    let in_range = is_largest_half_weight(max_half_weight);
-    let probabilities = are_probabilities(p, n);
-    let largest = largest_weight(p, n);
-    let some_above = is_above_zero(largest);
-    let last = asked(probabilities, 9, asked(some_above, 10, 0));
-    let number = asked(long_enough, 6, asked(few, 7, asked(in_range, 8, last)));
-    if number != 0 {
-        return done_of(number);
-    }
-    store_half_weights(n, p, half_weight, max_half_weight, largest);
-    Done::Accepted
+    let largest = compute_questions(edge_num, p, half_weight, max_half_weight)?;
+    store_half_weights(edge_num as usize, p, half_weight, max_half_weight, largest);
+    Ok(())
 }

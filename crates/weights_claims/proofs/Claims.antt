@@ -1,4 +1,6 @@
 -- The claims, from what the calls promise and from the theorems about the definitions. Assumes nothing.
+use Rattle.columns.specs.declared.refusal.Refusal.{Refusal}
+use Rattle.std.specs.Prelude.{Result, Ok, Err}
 use mathlib.Core.Path.{◌≡◌, refl, sym, ap, ◌∙◌}
 use mathlib.Core.Logic.{inl, inr}
 use mathlib.Core.Bool.{Bool, true, false, ◌&&◌, ◌||◌, false≢true}
@@ -13,7 +15,6 @@ use borrow.Author.Tests.{leb-true}
 use Rattle.columns.specs.Limits.{edge_limit, half_weight_limit}
 use Rattle.columns.specs.Places.{zero_float}
 use Rattle.columns.specs.Questions.{ask, all}
-use Rattle.columns.specs.declared.Done.{Done}
 use Rattle.columns.proofs.Columns.{get_d_any}
 use Rattle.columns.proofs.Tests.{and_both}
 use Rattle.columns_answers.proofs.Said.{values_of}
@@ -24,8 +25,6 @@ use Rattle.weights_recipe.proofs.Floats.{in_range, one_is, half_is, two_is, thre
 use Rattle.weights_recipe.proofs.Recipe.{zero_weight}
 use Rattle.weights_recipe.proofs.Halvings.{by_recipe}
 use Rattle.weights_recipe.proofs.Search.{greatest_is, nan_reaches}
-use Rattle.weights_calls.specs.declared.WeightOfP.{WeightOfP}
-use Rattle.weights_calls.specs.declared.WeightOfP.TheVariants.{Weighs, Refused}
 use Rattle.weights_calls.specs.Calls.{edge_weights, largest_weight, some_above, is_largest_half_weight, ComputedWeights}
 use Rattle.weights_calls.proofs.Largest.{is_largest, some_above_lem}
 use Rattle.weights_calls.proofs.Theorems.{written, one_to_max, one_zero, all-half}
@@ -34,16 +33,16 @@ use Rattle.weights_claims.specs.Claims.{HalvedUntilBelow2, IsLargest, IsHalfWeig
 
 -- ---- the call's own promise
 
-promise : {edges : ℕ} {p : List Float} {column₀ : List ℕ} {max : ℕ} {r : Done} {column : List ℕ} → WeightsReturned edges p column₀ max r column
+promise : {edges : ℕ} {p : List Float} {column₀ : List ℕ} {max : ℕ} {r : Result (Unit {0}) Refusal} {column : List ℕ} → WeightsReturned edges p column₀ max r column
     → ComputedWeights edges p column₀ max column r
 promise (weights_returned κs a r s h) = h
 
 -- ---- the logarithm
 
 -- an accepted p is answered with its weight
-weighs : {p : Float} {r : WeightOfP} → WeightReturned p r → is_probability p ≡ true → r ≡ Weighs (edge_weight p)
-weighs (weight_returned κs a (Weighs w) s h) e = ap Weighs (values_of h (ap (λ (b : Bool). ask b 9 0) e))
-weighs (weight_returned κs a (Refused n) s h) e = absurd (false≢true (h.accepted_is ∙ ap (λ (b : Bool). eqb (ask b 9 0) 0) e))
+weighs : {p : Float} {r : Result Float Refusal} → WeightReturned p r → is_probability p ≡ true → r ≡ Ok (edge_weight p)
+weighs (weight_returned κs a (Ok w) s h) e = ap Ok (values_of h (ap (λ (b : Bool). ask b 9 0) e))
+weighs (weight_returned κs a (Err n) s h) e = absurd (false≢true (h.accepted_is ∙ ap (λ (b : Bool). eqb (ask b 9 0) 0) e))
 
 zero_accepted : is_probability zero_float ≡ true
 unfolding is_probability le of_bits to_bits
@@ -51,7 +50,7 @@ zero_accepted = refl
 
 pub halved_until_below_2 : HalvedUntilBelow2
 halved_until_below_2 = record {
-  zero_weighs = λ r c. weighs c zero_accepted ∙ ap Weighs zero_weight;
+  zero_weighs = λ r c. weighs c zero_accepted ∙ ap Ok zero_weight;
   answered = λ p r c e h. (edge_weight p, (weighs c e, by_recipe p (in_range p e h)));
   weighed = λ p e h. by_recipe p (in_range p e h);
 }

@@ -1,20 +1,17 @@
 -- What document 01's section "Weights" says of calls.
-use Rattle.std.specs.Prelude.{ℕ, ◌^◌, ◌≤◌, ◌<◌, ◌≡◌, true, false, ◌&&◌, List, length, get_or, take, leb, Float}
+use Rattle.columns_answers.specs.Said.{said}
+use Rattle.columns.specs.declared.refusal.Refusal.{Refusal}
+use Rattle.std.specs.Prelude.{ℕ, ◌^◌, ◌≤◌, ◌<◌, ◌≡◌, true, false, ◌&&◌, List, length, get_or, take, leb, Float, Result, Ok}
 use Rattle.std.specs.Float.{nan, inf}
 use Rattle.std.specs.Float.Ieee.{lt}
 use Rattle.std.specs.Float.Ieee.Exact.{HasValue}
 use Rattle.columns.specs.Limits.{edge_limit}
 use Rattle.columns.specs.Places.{zero_float, one, half}
 use Rattle.columns.specs.Questions.{ask, all}
-use Rattle.columns.specs.declared.Done.{Done}
-use Rattle.columns.specs.declared.Done.TheVariants.{Accepted}
-use Rattle.columns_answers.specs.Done.{done_said}
 use Rattle.weights_recipe.specs.Constants.{two, three, thirty_five, least_p}
 use Rattle.weights_recipe.specs.Probabilities.{is_plus_zero, is_probability}
 use Rattle.weights_recipe.specs.Logarithm.{edge_weight, ByRecipe}
 use Rattle.weights_recipe.specs.Rounding.{scaled, reaches, IsGreatest}
-use Rattle.weights_calls.specs.declared.WeightOfP.{WeightOfP}
-use Rattle.weights_calls.specs.declared.WeightOfP.TheVariants.{Weighs}
 use Rattle.weights_calls.specs.Calls.{is_largest_half_weight}
 use Rattle.weights_claims.specs.Called.{WeightReturned, WeightsReturned}
 
@@ -23,8 +20,8 @@ use Rattle.weights_claims.specs.Called.{WeightReturned, WeightsReturned}
 -- Weights, on the logarithm, sentences 2 and 3: p = 0 gives +infinity. For every other p that question 9 accepts, the weight that `weight_of_p` answers, and the one by
 -- which `compute_weights` goes, is the recipe's: halved until below 2, however often that is; it is at most 40 times.
 pub record HalvedUntilBelow2 : Type 0 where
-  pub zero_weighs : (r : WeightOfP) → WeightReturned zero_float r → r ≡ Weighs (inf false)
-  pub answered : (p : Float) (r : WeightOfP) → WeightReturned p r → is_probability p ≡ true → is_plus_zero p ≡ false → (w : Float) × ((r ≡ Weighs w) × ByRecipe p w)
+  pub zero_weighs : (r : Result Float Refusal) → WeightReturned zero_float r → r ≡ Ok (inf false)
+  pub answered : (p : Float) (r : Result Float Refusal) → WeightReturned p r → is_probability p ≡ true → is_plus_zero p ≡ false → (w : Float) × ((r ≡ Ok w) × ByRecipe p w)
   pub weighed : (p : Float) → is_probability p ≡ true → is_plus_zero p ≡ false → ByRecipe p (edge_weight p)
 
 -- ---- half weights
@@ -48,26 +45,26 @@ pub record IsHalfWeight (max : ℕ) (w l : Float) (n : ℕ) : Type 0 where
 
 -- Weights, on half weights, sentences 1 and 2: the half weights that every accepted `compute_weights` leaves; a NaN reaches no n.
 pub record HalfWeightsAreGreatest : Type 0 where
-  pub half-weights : (edges : ℕ) (p : List Float) (column₀ : List ℕ) (max : ℕ) (column : List ℕ) → WeightsReturned edges p column₀ max Accepted column
+  pub half-weights : (edges : ℕ) (p : List Float) (column₀ : List ℕ) (max : ℕ) (column : List ℕ) → WeightsReturned edges p column₀ max (Ok tt) column
       → (l : Float) × (IsLargest l (take edges p) × ((k : ℕ) → k < edges → IsHalfWeight max (edge_weight (get_or p k zero_float)) l (get_or column k 0)))
   pub nan_reaches_none : (n : ℕ) → reaches nan n ≡ false
 
 -- Weights, on half weights, sentence 3: one p of 0 makes every half weight 1.
 -- Questions at the door, 6 to 10: a call with such a p is never refused by 10.
 pub record OneZero : Type 0 where
-  pub half-weights : (edges : ℕ) (p : List Float) (column₀ : List ℕ) (max : ℕ) (column : List ℕ) → WeightsReturned edges p column₀ max Accepted column
+  pub half-weights : (edges : ℕ) (p : List Float) (column₀ : List ℕ) (max : ℕ) (column : List ℕ) → WeightsReturned edges p column₀ max (Ok tt) column
       → (i : ℕ) → i < edges → get_or p i zero_float ≡ zero_float → (k : ℕ) → k < edges → get_or column k 0 ≡ 1
-  pub number : (edges : ℕ) (p : List Float) (column₀ : List ℕ) (max : ℕ) (r : Done) (column : List ℕ) → WeightsReturned edges p column₀ max r column
+  pub number : (edges : ℕ) (p : List Float) (column₀ : List ℕ) (max : ℕ) (r : Result (Unit {0}) Refusal) (column : List ℕ) → WeightsReturned edges p column₀ max r column
       → (i : ℕ) → i < edges → get_or p i zero_float ≡ zero_float
-      → (done_said r).number
+      → (said tt r).number
       ≡ ask (leb edges (length p) && leb edges (length column₀)) 6 (ask (leb edges edge_limit) 7 (ask (is_largest_half_weight max) 8 (ask (all is_probability (take edges p)) 9 0)))
 
 -- Checked examples, on every p 0.5; questions at the door, 6 to 10: 10 where 6, 7 and 8 are met, else the first of these that is not. No edge at all counts as every p, and a column of p that is too short as far as it goes.
 abbrev pub AllHalf : Type 0
 AllHalf =
-    (edges : ℕ) (p : List Float) (column₀ : List ℕ) (max : ℕ) (r : Done) (column : List ℕ) → WeightsReturned edges p column₀ max r column
+    (edges : ℕ) (p : List Float) (column₀ : List ℕ) (max : ℕ) (r : Result (Unit {0}) Refusal) (column : List ℕ) → WeightsReturned edges p column₀ max r column
     → ((k : ℕ) → k < edges → k < length p → get_or p k zero_float ≡ half)
-    → (done_said r).number ≡ ask (leb edges (length p) && leb edges (length column₀)) 6 (ask (leb edges edge_limit) 7 (ask (is_largest_half_weight max) 8 10))
+    → (said tt r).number ≡ ask (leb edges (length p) && leb edges (length column₀)) 6 (ask (leb edges edge_limit) 7 (ask (is_largest_half_weight max) 8 10))
 
 -- Weights, and questions at the door, 9: the numbers that the definitions name by their bits are those of the text: 1, 0.5, 2, 3, 35 and 2 to the power -40.
 pub record ConstantsAre : Type 0 where

@@ -7,27 +7,20 @@ ghost use Rattle.weights_diagonal.specs.Diagonal.{absolute, manhattan_distance, 
 use columns::VisualizePosition;
 use weights_questions::is_probability;
 
-// Absent, or the probability of the diagonal edges.
-#[derive(Clone, Copy)]
-pub enum DiagonalProbability {
-    None,
-    Given(f64),
-}
-
 // The diagonal probability that `new` gives.
-pub fn new_diagonal_probability(p: f64) -> DiagonalProbability
+pub fn new_diagonal_probability(p: f64) -> Option<f64>
     ensures { result ≡ new_diagonal p }
 {
-    DiagonalProbability::Given(p / 3.0)
+    Some(p / 3.0)
 }
 
 // Question 9 of the diagonal probability.
-pub fn is_diagonal_probability(d: DiagonalProbability) -> bool
+pub fn is_diagonal_probability(d: Option<f64>) -> bool
     ensures { result ≡ is_diagonal_probability d }
 {
     match d {
-        DiagonalProbability::None => true,
-        DiagonalProbability::Given(x) => is_probability(x),
+        None => true,
+        Some(x) => is_probability(x),
     }
 }
 

@@ -6,7 +6,7 @@ ghost use Rattle.std.specs.Float.Ieee.{is_nan};
 ghost use Rattle.columns.specs.Questions.{all};
 ghost use Rattle.weights_recipe.specs.Probabilities.{is_plus_zero, is_in_range, is_probability, is_erasure_probability};
 
-use columns::questions::{both, either, lesser};
+use columns::questions::all_pass;
 
 // 2 to the power -40.
 const LEAST_P: f64 = f64::from_bits(0x3d70_0000_0000_0000);
@@ -29,49 +29,35 @@ fn is_plus_zero(p: f64) -> bool
 fn is_in_range(p: f64) -> bool
     ensures { result ≡ is_in_range p }
 {
-    both(LEAST_P <= p, p <= 0.5)
+    (LEAST_P <= p) & (p <= 0.5)
 }
 
 // Whether p is 0 (not negative zero) or from 2 to the power -40 to 0.5.
 pub fn is_probability(p: f64) -> bool
     ensures { result ≡ is_probability p }
 {
-    either(is_plus_zero(p), is_in_range(p))
+    is_plus_zero(p) | is_in_range(p)
 }
 
 // Whether pe is 0 to 1.
 pub fn is_erasure_probability(pe: f64) -> bool
     ensures { result ≡ is_erasure_probability pe }
 {
-    both(0.0 <= pe, pe <= 1.0)
+    (0.0 <= pe) & (pe <= 1.0)
 }
 
 // Whether the first n numbers, or all where there are fewer, are from 2 to the power -40 to 0.5.
 fn are_in_range(p: &[f64], n: usize) -> bool
     ensures { result ≡ all is_in_range (take n p.now) }
 {
-    let m = lesser(n, p.len());
-    let mut i: usize = 0;
-    let mut pass = true;
-    while i < m {
-        pass = both(pass, is_in_range(p[i]));
-        i += 1;
-    }
-    pass
+    all_pass(p, n, is_in_range)
 }
 
 // Whether the first n numbers, or all where there are fewer, pass the test for p, by testing each.
 fn each_probability(p: &[f64], n: usize) -> bool
     ensures { result ≡ all is_probability (take n p.now) }
 {
-    let m = lesser(n, p.len());
-    let mut i: usize = 0;
-    let mut pass = true;
-    while i < m {
-        pass = both(pass, is_probability(p[i]));
-        i += 1;
-    }
-    pass
+    all_pass(p, n, is_probability)
 }
 
 // Whether the first n numbers, or all where there are fewer, pass the test for p. Mostly all are above 0, and the quicker test answers.
@@ -88,14 +74,7 @@ pub fn are_probabilities(p: &[f64], n: usize) -> bool
 fn are_erasure_probabilities(pe: &[f64], n: usize) -> bool
     ensures { result ≡ all is_erasure_probability (take n pe.now) }
 {
-    let m = lesser(n, pe.len());
-    let mut i: usize = 0;
-    let mut pass = true;
-    while i < m {
-        pass = both(pass, is_erasure_probability(pe[i]));
-        i += 1;
-    }
-    pass
+    all_pass(pe, n, is_erasure_probability)
 }
 
 // Whether the first n numbers of two columns are from 2 to the power -40 to 0.5, and from 0 to 1, in one pass.
@@ -103,12 +82,9 @@ fn both_in_range(p: &[f64], pe: &[f64], n: usize) -> bool
     requires { (n ≤ length p.now) × (n ≤ length pe.now) }
     ensures { result ≡ (all is_in_range (take n p.now) && all is_erasure_probability (take n pe.now)) }
 {
-    let mut i: usize = 0;
     let mut pass = true;
-    while i < n {
-        let both_pass = both(is_in_range(p[i]), is_erasure_probability(pe[i]));
-        pass = both(pass, both_pass);
-        i += 1;
+    for i in 0..n {
+        pass &= is_in_range(p[i]) & is_erasure_probability(pe[i]);
     }
     pass
 }
@@ -118,12 +94,8 @@ fn both_in_range(p: &[f64], pe: &[f64], n: usize) -> bool
 pub fn are_probable(p: &[f64], pe: &[f64], n: usize) -> bool
     ensures { result ≡ (all is_probability (take n p.now) && all is_erasure_probability (take n pe.now)) }
 {
-    if n <= lesser(p.len(), pe.len()) {
-        if both_in_range(p, pe, n) {
-            return true;
-        }
+    if n <= p.len().min(pe.len()) && both_in_range(p, pe, n) {
+        return true;
     }
-    let errors = each_probability(p, n);
-    let erasures = are_erasure_probabilities(pe, n);
-    both(errors, erasures)
+    each_probability(p, n) & are_erasure_probabilities(pe, n)
 }

@@ -24,8 +24,8 @@ returns c =
     let p = c.list_set.ensures in
     record {
       answers = rw p.0 (accepted-of z);
-      ends_a_after = c.copy_u32.ensures ∙ copy-after e _ s.to_a.now s.ends_a.now z m.a m.to_a;
-      ends_b_after = c.copy_u32-2.ensures ∙ copy-after e _ s.to_b.now s.ends_b.now z m.b m.to_b;
+      ends_a_after = c.copy.ensures ∙ copy-after e _ s.to_a.now s.ends_a.now z m.a m.to_a;
+      ends_b_after = c.copy-2.ensures ∙ copy-after e _ s.to_b.now s.ends_b.now z m.b m.to_b;
       weight_after = c.store_weights.ensures ∙ sym (after-accepted _ _ s.to_weight.now z);
       virtual_after = p.1 ∙ sym (after-accepted _ _ s.to_virtual.now z);
     }

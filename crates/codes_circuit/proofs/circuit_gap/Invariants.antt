@@ -7,6 +7,3 @@ use Rattle.codes_circuit.proofs.circuit_gap.Given as goal
 
 abbrev pub invariant-loop-row : goal.invariant-loop-row
 invariant-loop-row l = (l.row ≤ l.d) × Wrote l.initial.ends_a l.initial.ends_b l.at (joined l.row (λ k. circuit_row l.d (l.d * (l.d + 1)) l.base k)) l.ends_a l.ends_b l.next
-
-abbrev pub decreases-loop-row : goal.decreases-loop-row
-decreases-loop-row l = l.d - l.row

@@ -7,6 +7,3 @@ use Rattle.codes_circuit.proofs.circuit_row.Given as goal
 
 abbrev pub invariant-loop-i : goal.invariant-loop-i
 invariant-loop-i l = (l.i ≤ l.d - 1) × Wrote l.initial.ends_a l.initial.ends_b l.at (joined l.i (λ k. circuit_cell l.d l.size (l.base + l.row * (l.d + 1)) l.row k)) l.ends_a l.ends_b l.next
-
-abbrev pub decreases-loop-i : goal.decreases-loop-i
-decreases-loop-i l = l.d - l.i

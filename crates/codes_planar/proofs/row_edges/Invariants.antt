@@ -6,6 +6,3 @@ use Rattle.codes_planar.proofs.row_edges.Given as goal
 
 abbrev pub invariant-loop-i : goal.invariant-loop-i
 invariant-loop-i l = (l.i ≤ l.d - 1) × Wrote l.initial.ends_a l.initial.ends_b l.at (each l.i (λ k. (l.bias + k, l.bias + k + 1))) l.ends_a l.ends_b l.next
-
-abbrev pub decreases-loop-i : goal.decreases-loop-i
-decreases-loop-i l = l.d - l.i

@@ -7,6 +7,3 @@ use Rattle.codes_rotated.proofs.rotated_row.Given as goal
 
 abbrev pub invariant-loop-i : goal.invariant-loop-i
 invariant-loop-i l = (l.i ≤ l.d) × Wrote l.initial.ends_a l.initial.ends_b l.at (each l.i (λ k. rotated_edge (rotated_width l.d) (l.base + l.row * rotated_width l.d) l.row k)) l.ends_a l.ends_b l.next
-
-abbrev pub decreases-loop-i : goal.decreases-loop-i
-decreases-loop-i l = l.d - l.i

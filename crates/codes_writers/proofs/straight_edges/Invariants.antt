@@ -6,6 +6,3 @@ use Rattle.codes_writers.proofs.straight_edges.Given as goal
 
 abbrev pub invariant-loop-i : goal.invariant-loop-i
 invariant-loop-i l = (l.i ≤ l.n) × Wrote l.initial.ends_a l.initial.ends_b l.at (each l.i (λ k. (l.bias + k, l.bias + k + l.far))) l.ends_a l.ends_b l.next
-
-abbrev pub decreases-loop-i : goal.decreases-loop-i
-decreases-loop-i l = l.n - l.i

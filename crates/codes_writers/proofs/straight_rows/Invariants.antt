@@ -7,6 +7,3 @@ use Rattle.codes_writers.proofs.straight_rows.Given as goal
 
 abbrev pub invariant-loop-row : goal.invariant-loop-row
 invariant-loop-row l = (l.row ≤ l.rows) × Wrote l.initial.ends_a l.initial.ends_b l.at (joined l.row (λ k. straight_edges l.n (l.base + k * l.w) l.far)) l.ends_a l.ends_b l.next
-
-abbrev pub decreases-loop-row : goal.decreases-loop-row
-decreases-loop-row l = l.rows - l.row

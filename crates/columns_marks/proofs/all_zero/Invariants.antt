@@ -7,6 +7,3 @@ use Rattle.columns_marks.proofs.all_zero.Given as goal
 
 abbrev pub invariant-loop-i : goal.invariant-loop-i
 invariant-loop-i l = (l.i ≤ 8) × (l.zero ≡ true → listed (l.at + l.i) l.column ≡ listed l.at l.column)
-
-abbrev pub decreases-loop-i : goal.decreases-loop-i
-decreases-loop-i l = 8 - l.i

@@ -7,6 +7,3 @@ use Rattle.columns_marks.proofs.list_between.Given as goal
 
 abbrev pub invariant-loop-k : goal.invariant-loop-k
 invariant-loop-k l = (l.k ≤ l.to) × (l.count ≡ length (listed l.k l.column)) × (length l.list ≡ length l.initial.list) × Continued l.column l.from l.k l.initial.list l.list
-
-abbrev pub decreases-loop-k : goal.decreases-loop-k
-decreases-loop-k l = l.to - l.k

@@ -6,6 +6,3 @@ use Rattle.columns_marks.proofs.set_marks.Given as goal
 
 abbrev pub invariant-loop-i : goal.invariant-loop-i
 invariant-loop-i l = (l.i ≤ length l.list) × Marked l.n (take l.i l.list) l.initial.column l.column
-
-abbrev pub decreases-loop-i : goal.decreases-loop-i
-decreases-loop-i l = length l.list - l.i

@@ -11,6 +11,3 @@ invariant-loop-i l =
     × (l.weights ≡ loaded l.list erased l.i l.initial.weights)
     × (l.log_edges ≡ named l.list l.i l.initial.log_edges)
     × (l.log_weights ≡ earlier l.list erased l.i l.initial.weights l.initial.log_weights)
-
-abbrev pub decreases-loop-i : goal.decreases-loop-i
-decreases-loop-i l = length l.list - l.i

@@ -7,6 +7,3 @@ use Rattle.query_queue.proofs.clear.Given as goal
 
 abbrev pub invariant-loop-i : goal.invariant-loop-i
 invariant-loop-i l = (l.i ≤ l.n) × ((length l.node ≡ length l.initial.node) × ((length l.leaf ≡ length l.initial.leaf) × (Same l.node l.i 18446744073709551615 × Same l.leaf l.i 18446744073709551615)))
-
-abbrev pub decreases-loop-i : goal.decreases-loop-i
-decreases-loop-i l = l.n - l.i

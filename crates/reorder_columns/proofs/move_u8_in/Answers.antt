@@ -3,7 +3,6 @@ use mathlib.Core.Path.{ap, ◌∙◌}
 use mathlib.Core.List.{List}
 use Prim.Native.Nat.{ℕ}
 use native.Mathlib.Omega.{arith}
-use lib.ListN.{length}
 use Rattle.columns.specs.Lists.{over}
 use Rattle.reorder_orders.proofs.Permutation.{order_below}
 use Rattle.reorder_columns.proofs.Copies.{length-copied, moved_copy}
@@ -11,19 +10,11 @@ use Rattle.reorder_columns.proofs.move_u8_in.Goals as goal
 
 pub gather_u8-requires : goal.gather_u8-requires
 gather_u8-requires c =
-    let s = c in
-    let a = s.args in
-    let l = length-copied (length a.order.now) a.copy.now a.column.now c.copy_u8.ensures s.requires.2 s.requires.1 in
-    ((λ i h. omega (arith, l, s.requires.2, order_below a.order.now s.requires.0 i h)), s.requires.1)
-
-pub shape_of-column : goal.shape_of-column
-shape_of-column c = c.column-1.given
-
-pub shape_of-copy : goal.shape_of-copy
-shape_of-copy c = c.copy-1.given
+    let r = c.requires in
+    let l = length-copied _ _ _ c.copy.ensures r.2 r.1 in
+    ((λ i h. omega (arith, l, r.2, order_below _ r.0 i h)), r.1)
 
 pub returns : goal.returns
 returns c =
-    let s = c in
-    let a = s.args in
-    c.gather_u8.ensures ∙ ap (λ (l : List ℕ). over l a.column.now) (moved_copy a.order.now s.requires.0 0 a.copy.now a.column.now c.copy_u8.ensures s.requires.2 s.requires.1)
+    let r = c.requires in
+    c.gather_u8.ensures ∙ ap (λ (l : List ℕ). over l c.args.column.now) (moved_copy _ r.0 0 _ _ c.copy.ensures r.2 r.1)

@@ -9,14 +9,14 @@ use Rattle.sampling_flips.specs.Flip.{flip_each}
 use Rattle.sampling_calls.specs.Errors.{errors_refusal}
 use Rattle.sampling_flips.specs.Steps.{Fits}
 use Rattle.sampling_flips.proofs.Flipping.{length-flipEach}
-use Rattle.sampling_calls.proofs.Accepting.{ErrorsMet, errors_met, fits_of, over-take, flip_each-over, left-refused, left-accepted}
+use Rattle.sampling_calls.proofs.Accepting.{ErrorsMet, errors_met, fits_of, over-take, flip_each-over, left-accepted}
 use Rattle.sampling_calls.proofs.generate_errors.Goals as goal
 
 pub flip_all-requires : goal.flip_all-requires
 flip_all-requires c = let a = c.args in
     let g : CodeGraph = code_graph a.vertex_num a.edge_num a.ends_a.now a.ends_b.now a.boundary.now in
     let s : SyndromeColumns = syndrome_columns a.defect.now a.erasure.now a.defect_list.now a.erasure_list.now in
-    let k : ErrorsMet g a.list.now s = errors_met g a.list.now s (sym c.errors_refusal-number.ensures ∙ c.if-number-eq0.true) in
+    let k : ErrorsMet g a.list.now s = errors_met g a.list.now s (sym c.in_ok-errors_refusal.ensures) in
     record { fits = fits_of g a.defect.now k.long k.sound k.lists.long_defect; by_index = k.named }
 
 pub list_set-defects-requires : goal.list_set-defects-requires
@@ -24,7 +24,7 @@ list_set-defects-requires c =
     let a = c.args in
     let g : CodeGraph = code_graph a.vertex_num a.edge_num a.ends_a.now a.ends_b.now a.boundary.now in
     let s : SyndromeColumns = syndrome_columns a.defect.now a.erasure.now a.defect_list.now a.erasure_list.now in
-    let k : ErrorsMet g a.list.now s = errors_met g a.list.now s (sym c.errors_refusal-number.ensures ∙ c.if-number-eq0.true) in
+    let k : ErrorsMet g a.list.now s = errors_met g a.list.now s (sym c.in_ok-errors_refusal.ensures) in
     let l = simp length-flipEach at (ap length c.flip_all.ensures) in
     (omega (arith, l, k.lists.long_defect), omega (arith, k.lists.long_defects))
 
@@ -33,24 +33,15 @@ list_set-erasures-requires c =
     let a = c.args in
     let g : CodeGraph = code_graph a.vertex_num a.edge_num a.ends_a.now a.ends_b.now a.boundary.now in
     let s : SyndromeColumns = syndrome_columns a.defect.now a.erasure.now a.defect_list.now a.erasure_list.now in
-    let k : ErrorsMet g a.list.now s = errors_met g a.list.now s (sym c.errors_refusal-number.ensures ∙ c.if-number-eq0.true) in
+    let k : ErrorsMet g a.list.now s = errors_met g a.list.now s (sym c.in_ok-errors_refusal.ensures) in
     (omega (arith, k.lists.long_erasure), omega (arith, k.lists.long_erasures))
 
-pub shape_of-defect-then-number-eq0 : goal.shape_of-defect-then-number-eq0
-shape_of-defect-then-number-eq0 c = c.defect-1.given
-
-pub shape_of-defect_list-then-number-eq0 : goal.shape_of-defect_list-then-number-eq0
-shape_of-defect_list-then-number-eq0 c = c.defect_list-1.given
-
-pub shape_of-erasure_list-then-number-eq0 : goal.shape_of-erasure_list-then-number-eq0
-shape_of-erasure_list-then-number-eq0 c = c.erasure_list-1.given
-
-pub returns-then-number-eq0 : goal.returns-then-number-eq0
-returns-then-number-eq0 c =
+pub returns : goal.returns
+returns c =
     let a = c.args in
     let g : CodeGraph = code_graph a.vertex_num a.edge_num a.ends_a.now a.ends_b.now a.boundary.now in
     let s : SyndromeColumns = syndrome_columns a.defect.now a.erasure.now a.defect_list.now a.erasure_list.now in
-    let z : errors_refusal g a.list.now s ≡ 0 = sym c.errors_refusal-number.ensures ∙ c.if-number-eq0.true in
+    let z : errors_refusal g a.list.now s ≡ 0 = sym c.in_ok-errors_refusal.ensures in
     let k : ErrorsMet g a.list.now s = errors_met g a.list.now s z in
     let f : Fits a.vertex_num a.edge_num a.ends_a.now a.ends_b.now a.boundary.now a.defect.now = fits_of g a.defect.now k.long k.sound k.lists.long_defect in
     let x = c.list_set-defects.ensures in
@@ -64,12 +55,3 @@ returns-then-number-eq0 c =
     (length-take-le a.vertex_num a.defect.now k.lists.long_defect) f.in_a f.in_b k.named)
     (sym (over-take a.edge_num a.erasure.now k.lists.long_erasure))
     x.0 x.1 y.0 y.1
-
-pub returns : goal.returns
-returns c =
-    let a = c.args in
-    let g : CodeGraph = code_graph a.vertex_num a.edge_num a.ends_a.now a.ends_b.now a.boundary.now in
-    let s : SyndromeColumns = syndrome_columns a.defect.now a.erasure.now a.defect_list.now a.erasure_list.now in
-    left-refused (errors_refusal g a.list.now s) a.vertex_num a.edge_num
-    (flip_each a.ends_a.now a.ends_b.now a.boundary.now a.list.now (take a.vertex_num a.defect.now)) (take a.edge_num a.erasure.now) s
-    c.errors_refusal-number.ensures c.if-number-eq0.false

@@ -4,6 +4,3 @@ use Rattle.test_numbers.proofs.copy_u32.Given as goal
 
 abbrev pub invariant-loop-i : goal.invariant-loop-i
 invariant-loop-i l = (l.i ≤ l.n) × (length l.column ≡ length l.initial.column)
-
-abbrev pub decreases-loop-i : goal.decreases-loop-i
-decreases-loop-i l = l.n - l.i

@@ -25,8 +25,8 @@ returns c =
       pos_i_after = p.pos_i_after ∙ fill_after v _ s.pos_i.now zero_float z m.pos_i;
       pos_j_after = p.pos_j_after ∙ fill_after v _ s.pos_j.now zero_float z m.pos_j;
       pos_t_after = p.pos_t_after ∙ fill_after v _ s.pos_t.now zero_float z m.pos_t;
-      boundary_after = c.fill_u8.ensures ∙ fill_after v _ s.boundary.now 0 z m.boundary;
-      defect_after = c.fill_u8-2.ensures ∙ fill_after v _ s.defect.now 0 z m.defect;
+      boundary_after = c.fill.ensures ∙ fill_after v _ s.boundary.now 0 z m.boundary;
+      defect_after = c.fill-2.ensures ∙ fill_after v _ s.defect.now 0 z m.defect;
       list_lengths_after = w.0 ∙ sym (after-accepted _ _ s.list_lengths.now z);
       neighbor_numbers_after = w.1 ∙ sym (after-accepted _ _ s.neighbor_numbers.now z);
     }

@@ -21,21 +21,3 @@ shape_of-erasure c = c.create_in.auto.erasure
 
 pub shape_of-pos_i : goal.shape_of-pos_i
 shape_of-pos_i c = c.create_in.auto.pos_i
-
-pub shape_of-pos_j : goal.shape_of-pos_j
-shape_of-pos_j c = c.pos_j-1.given
-
-pub shape_of-pos_t : goal.shape_of-pos_t
-shape_of-pos_t c = c.pos_t-1.given
-
-pub shape_of-boundary : goal.shape_of-boundary
-shape_of-boundary c = c.boundary-1.given
-
-pub shape_of-defect : goal.shape_of-defect
-shape_of-defect c = c.defect-1.given
-
-pub shape_of-list_lengths : goal.shape_of-list_lengths
-shape_of-list_lengths c = c.list_lengths-1.given
-
-pub shape_of-neighbor_numbers : goal.shape_of-neighbor_numbers
-shape_of-neighbor_numbers c = c.neighbor_numbers-1.given

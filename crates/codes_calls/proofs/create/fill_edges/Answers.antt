@@ -18,24 +18,6 @@ code_edges-n-requires c = let s = c.args in
     let l = c.requires.edge_columns_long in
     record { room = record { room_a = omega (arith, l.long_a); room_b = omega (arith, l.long_b) }; le_d = omega (arith, ok.distance.three, ok.distance.few, ok.few_rounds, ok.few_vertices, vertices_are s.kind s.d s.rounds ok) }
 
-pub shape_of-ends_a : goal.shape_of-ends_a
-shape_of-ends_a c = c.ends_a-1.given
-
-pub shape_of-ends_b : goal.shape_of-ends_b
-shape_of-ends_b c = c.ends_b-1.given
-
-pub shape_of-p : goal.shape_of-p
-shape_of-p c = c.p-1.given
-
-pub shape_of-pe : goal.shape_of-pe
-shape_of-pe c = c.pe-1.given
-
-pub shape_of-half_weight : goal.shape_of-half_weight
-shape_of-half_weight c = c.half_weight-1.given
-
-pub shape_of-erasure : goal.shape_of-erasure
-shape_of-erasure c = c.erasure-1.given
-
 pub returns : goal.returns
 returns c =
     let s = c.args in
@@ -47,9 +29,9 @@ returns c =
     record {
       in_a = written (λ (e : Ends). e.0) (edges_of s.kind s.d s.rounds) _ w.in_a (omega (arith, l.long_a));
       in_b = written (λ (e : Ends). e.1) (edges_of s.kind s.d s.rounds) _ w.in_b (omega (arith, l.long_b));
-      in_p = filled zero_float _ _ c.fill_f64.ensures count l.long_p;
-      in_pe = filled zero_float _ _ c.fill_f64-2.ensures count l.long_pe;
-      in_h = filled 0 _ _ c.fill_weights.ensures count l.long_h;
-      in_er = filled 0 _ _ c.fill_u8.ensures count l.long_er;
+      in_p = filled zero_float _ _ c.fill.ensures count l.long_p;
+      in_pe = filled zero_float _ _ c.fill-2.ensures count l.long_pe;
+      in_h = filled 0 _ _ c.fill-3.ensures count l.long_h;
+      in_er = filled 0 _ _ c.fill-4.ensures count l.long_er;
       count = count;
     }

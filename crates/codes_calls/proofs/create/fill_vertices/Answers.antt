@@ -17,21 +17,6 @@ code_vertices-n-requires c = let s = c.args in
     let l = c.requires.vertex_columns_long in
     record { vertex_room = record { room_m = omega (arith, l.long_m); room_i = omega (arith, l.long_i); room_j = omega (arith, l.long_j); room_t = omega (arith, l.long_t) }; le_d = omega (arith, ok.distance.three, ok.distance.few, ok.few_rounds) }
 
-pub shape_of-pos_i : goal.shape_of-pos_i
-shape_of-pos_i c = c.pos_i-1.given
-
-pub shape_of-pos_j : goal.shape_of-pos_j
-shape_of-pos_j c = c.pos_j-1.given
-
-pub shape_of-pos_t : goal.shape_of-pos_t
-shape_of-pos_t c = c.pos_t-1.given
-
-pub shape_of-boundary : goal.shape_of-boundary
-shape_of-boundary c = c.boundary-1.given
-
-pub shape_of-defect : goal.shape_of-defect
-shape_of-defect c = c.defect-1.given
-
 pub returns : goal.returns
 returns c =
     let s = c.args in
@@ -45,6 +30,6 @@ returns c =
       in_j = written (λ (v : CodeVertex). v.position.j) (vertices_of s.kind s.d s.rounds) _ w.in_j (omega (arith, l.long_j));
       in_t = written (λ (v : CodeVertex). v.position.t) (vertices_of s.kind s.d s.rounds) _ w.in_t (omega (arith, l.long_t));
       in_m = written (λ (v : CodeVertex). v.boundary) (vertices_of s.kind s.d s.rounds) _ w.in_m (omega (arith, l.long_m));
-      in_df = filled 0 _ _ c.fill_u8.ensures count l.long_df;
+      in_df = filled 0 _ _ c.fill.ensures count l.long_df;
       count = count;
     }

@@ -7,44 +7,5 @@ use Rattle.codes_calls.proofs.weighted.new.Goals as goal
 pub build-requires : goal.build-requires
 build-requires c = subst (DiagonalKind c.args.kind) (sym c.diagonal_of.ensures) (diagonal_kind c.args.kind c.args.probability)
 
-pub shape_of-ends_a : goal.shape_of-ends_a
-shape_of-ends_a c = c.ends_a-1.given
-
-pub shape_of-ends_b : goal.shape_of-ends_b
-shape_of-ends_b c = c.ends_b-1.given
-
-pub shape_of-p : goal.shape_of-p
-shape_of-p c = c.p-1.given
-
-pub shape_of-pe : goal.shape_of-pe
-shape_of-pe c = c.pe-1.given
-
-pub shape_of-half_weight : goal.shape_of-half_weight
-shape_of-half_weight c = c.half_weight-1.given
-
-pub shape_of-erasure : goal.shape_of-erasure
-shape_of-erasure c = c.erasure-1.given
-
-pub shape_of-pos_i : goal.shape_of-pos_i
-shape_of-pos_i c = c.pos_i-1.given
-
-pub shape_of-pos_j : goal.shape_of-pos_j
-shape_of-pos_j c = c.pos_j-1.given
-
-pub shape_of-pos_t : goal.shape_of-pos_t
-shape_of-pos_t c = c.pos_t-1.given
-
-pub shape_of-boundary : goal.shape_of-boundary
-shape_of-boundary c = c.boundary-1.given
-
-pub shape_of-defect : goal.shape_of-defect
-shape_of-defect c = c.defect-1.given
-
-pub shape_of-list_lengths : goal.shape_of-list_lengths
-shape_of-list_lengths c = c.list_lengths-1.given
-
-pub shape_of-neighbor_numbers : goal.shape_of-neighbor_numbers
-shape_of-neighbor_numbers c = c.neighbor_numbers-1.given
-
 pub returns : goal.returns
 returns c = with_diagonal _ _ c.diagonal_of.ensures c.build.ensures

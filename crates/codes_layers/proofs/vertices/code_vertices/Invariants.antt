@@ -7,6 +7,3 @@ use Rattle.codes_layers.proofs.vertices.code_vertices.Given as goal
 
 abbrev pub invariant-loop-t : goal.invariant-loop-t
 invariant-loop-t l = (l.t ≤ l.rounds + 1) × Placed l.initial.boundary l.initial.pos_i l.initial.pos_j l.initial.pos_t 0 (joined l.t (λ k. layer_vertices l.kind l.d k)) l.boundary l.pos_i l.pos_j l.pos_t l.next
-
-abbrev pub decreases-loop-t : goal.decreases-loop-t
-decreases-loop-t l = l.rounds + 1 - l.t

@@ -7,6 +7,3 @@ use Rattle.codes_layers.proofs.vertices.layer_vertices.Given as goal
 
 abbrev pub invariant-loop-row : goal.invariant-loop-row
 invariant-loop-row l = (l.row ≤ l.rows) × Placed l.initial.boundary l.initial.pos_i l.initial.pos_j l.initial.pos_t l.at (joined l.row (λ k. each (width l.kind l.d) (λ i. vertex_of l.kind l.d l.t k i))) l.boundary l.pos_i l.pos_j l.pos_t l.next
-
-abbrev pub decreases-loop-row : goal.decreases-loop-row
-decreases-loop-row l = l.rows - l.row

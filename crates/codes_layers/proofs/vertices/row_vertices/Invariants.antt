@@ -7,6 +7,3 @@ use Rattle.codes_layers.proofs.vertices.row_vertices.Given as goal
 
 abbrev pub invariant-loop-i : goal.invariant-loop-i
 invariant-loop-i l = (l.i ≤ l.w) × Placed l.initial.boundary l.initial.pos_i l.initial.pos_j l.initial.pos_t l.at (each l.i (λ k. vertex_of l.kind l.d l.t l.row k)) l.boundary l.pos_i l.pos_j l.pos_t l.next
-
-abbrev pub decreases-loop-i : goal.decreases-loop-i
-decreases-loop-i l = l.w - l.i

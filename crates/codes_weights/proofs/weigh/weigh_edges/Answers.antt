@@ -4,7 +4,7 @@ use mathlib.Core.Bool.{Bool, true, false, cond}
 use mathlib.Core.List.{List}
 use Prim.Native.Nat.{ℕ, ◌+◌}
 use native.Mathlib.Omega.{arith}
-use lib.ListN.{length, set, length-set}
+use lib.ListN.{set}
 use lib.Seq.{sets}
 use Rattle.columns.specs.Lists.{each}
 use Rattle.columns.proofs.Counting.{store-each}
@@ -27,21 +27,7 @@ stored l₀ f i e s v = s ∙ (λ k. set (e k) i (v k)) ∙ store-each l₀ i f
 
 pub loop-i-init : goal.loop-i-init
 unfolding each
-loop-i-init c = (omega arith, refl, refl, refl, refl)
-
-pub diagonal_at-diagonal-requires : goal.diagonal_at-diagonal-requires
-diagonal_at-diagonal-requires c =
-    let r = c.requires in
-    omega (arith, r.room_a, r.room_b)
-
-pub store_weighed-requires : goal.store_weighed-requires
-store_weighed-requires c =
-    let r = c.requires in
-    let l = c.loop-i in
-    omega (arith, r.room_p, r.room_h, l.invariant.1, l.invariant.2)
-
-pub overflow_add-i : goal.overflow_add-i
-overflow_add-i c = omega (arith, c.loop-i.invariant.0)
+loop-i-init c = record { in_p = refl; in_h = refl }
 
 pub loop-i-preserved : goal.loop-i-preserved
 loop-i-preserved c =
@@ -49,19 +35,11 @@ loop-i-preserved c =
     let l = c.loop-i in
     let w = c.store_weighed.ensures in
     let picks = c.picked.ensures ∙ ap (λ (b : Bool). cond b s.other s.straight) c.diagonal_at-diagonal.ensures in
-    let d : ℕ → Bool = diagonal_at s.ends_a.now s.ends_b.now s.pos_i.now s.pos_j.now s.pos_t.now in (
-      omega arith,
-      ap length w.0 ∙ (simp length-set) ∙ l.invariant.1,
-      ap length w.1 ∙ (simp length-set) ∙ l.invariant.2,
-      stored s.p.now (λ k. cond (d k) s.other.p s.straight.p) l.i l.invariant.3 w.0 (ap (λ (x : Weighed). x.p) picks ∙ p_of (d l.i) s.other s.straight),
-      stored s.half_weight.now (λ k. cond (d k) s.other.half s.straight.half) l.i l.invariant.4 w.1 (ap (λ (x : Weighed). x.half) picks ∙ half_of (d l.i) s.other s.straight),
-    )
-
-pub shape_of-p : goal.shape_of-p
-shape_of-p c = c.loop-i.invariant.1
-
-pub shape_of-half_weight : goal.shape_of-half_weight
-shape_of-half_weight c = c.loop-i.invariant.2
+    let d : ℕ → Bool = diagonal_at s.ends_a.now s.ends_b.now s.pos_i.now s.pos_j.now s.pos_t.now in
+    record {
+      in_p = stored s.p.now (λ k. cond (d k) s.other.p s.straight.p) l.i l.invariant.in_p w.0 (ap (λ (x : Weighed). x.p) picks ∙ p_of (d l.i) s.other s.straight);
+      in_h = stored s.half_weight.now (λ k. cond (d k) s.other.half s.straight.half) l.i l.invariant.in_h w.1 (ap (λ (x : Weighed). x.half) picks ∙ half_of (d l.i) s.other s.straight);
+    }
 
 pub returns : goal.returns
 returns c =
@@ -70,6 +48,6 @@ returns c =
     let d : ℕ → Bool = diagonal_at s.ends_a.now s.ends_b.now s.pos_i.now s.pos_j.now s.pos_t.now in
     let all : l.i ≡ s.n = omega arith in
     record {
-      in_p = l.invariant.3 ∙ ap (λ (m : ℕ). sets s.p.now 0 (each m (λ k. cond (d k) s.other.p s.straight.p))) all;
-      in_h = l.invariant.4 ∙ ap (λ (m : ℕ). sets s.half_weight.now 0 (each m (λ k. cond (d k) s.other.half s.straight.half))) all;
+      in_p = l.invariant.in_p ∙ ap (λ (m : ℕ). sets s.p.now 0 (each m (λ k. cond (d k) s.other.p s.straight.p))) all;
+      in_h = l.invariant.in_h ∙ ap (λ (m : ℕ). sets s.half_weight.now 0 (each m (λ k. cond (d k) s.other.half s.straight.half))) all;
     }

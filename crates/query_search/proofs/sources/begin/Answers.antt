@@ -22,7 +22,7 @@ shape_of-leaf c = c.leaf-1.given
 pub returns : goal.returns
 returns c = let s = c in
     let n = length s.args.status.now in
-    let w : c.fill_weights.new.column ≡ each n (λ v. 0) = c.fill_weights.ensures ∙ whole s.args.weight.now (replicate n 0) (length-replicate n 0 ∙ sym s.requires.1) ∙ replicate-each n 0 in
+    let w : c.fill.new.column ≡ each n (λ v. 0) = c.fill.ensures ∙ whole s.args.weight.now (replicate n 0) (length-replicate n 0 ∙ sym s.requires.1) ∙ replicate-each n 0 in
     let p : c.own_previous.new.previous ≡ each n (λ v. v) = c.own_previous.ensures ∙ ap (λ k. each k (λ v. v)) s.requires.2 in
     let k = c.put_sources in
     record { ready = ready-first s.args.status.now _ _ _ _ s.requires.0 w p (omega (arith, k.auto.node, s.requires.3)) (k.auto.leaf ∙ s.requires.4) k.ensures.tree k.ensures.keyed; weight_after = w; previous_after = p }

@@ -8,16 +8,16 @@ use Rattle.columns.proofs.Counting.{whole}
 use Rattle.query_search.proofs.sources.begin_at.Goals as goal
 
 pub bounds-status-at : goal.bounds-status-at
-bounds-status-at c = let s = c in omega (arith, ap length c.fill_u8.ensures, length-sets s.args.status.now 0 (replicate (length s.args.status.now) 0))
+bounds-status-at c = let s = c in omega (arith, ap length c.fill.ensures, length-sets s.args.status.now 0 (replicate (length s.args.status.now) 0))
 
 pub shape_of-status-then-at-n : goal.shape_of-status-then-at-n
-shape_of-status-then-at-n c = let s = c in simp length-set (ap length c.fill_u8.ensures ∙ length-sets s.args.status.now 0 (replicate (length s.args.status.now) 0))
+shape_of-status-then-at-n c = let s = c in simp length-set (ap length c.fill.ensures ∙ length-sets s.args.status.now 0 (replicate (length s.args.status.now) 0))
 
 pub returns-then-at-n : goal.returns-then-at-n
-returns-then-at-n c = let s = c in ap (λ l. set l s.args.a.0 1) (c.fill_u8.ensures ∙ whole s.args.status.now (replicate (length s.args.status.now) 0) (length-replicate (length s.args.status.now) 0))
+returns-then-at-n c = let s = c in ap (λ l. set l s.args.a.0 1) (c.fill.ensures ∙ whole s.args.status.now (replicate (length s.args.status.now) 0) (length-replicate (length s.args.status.now) 0))
 
 pub shape_of-status-else-at-n : goal.shape_of-status-else-at-n
-shape_of-status-else-at-n c = let s = c in ap length c.fill_u8.ensures ∙ length-sets s.args.status.now 0 (replicate (length s.args.status.now) 0)
+shape_of-status-else-at-n c = let s = c in ap length c.fill.ensures ∙ length-sets s.args.status.now 0 (replicate (length s.args.status.now) 0)
 
 pub returns-else-at-n : goal.returns-else-at-n
-returns-else-at-n c = let s = c in c.fill_u8.ensures ∙ whole s.args.status.now (replicate (length s.args.status.now) 0) (length-replicate (length s.args.status.now) 0) ∙ sym (set_out (replicate (length s.args.status.now) 0) s.args.a.0 1 (omega (arith, length-replicate {A = ℕ} (length s.args.status.now) 0)))
+returns-else-at-n c = let s = c in c.fill.ensures ∙ whole s.args.status.now (replicate (length s.args.status.now) 0) (length-replicate (length s.args.status.now) 0) ∙ sym (set_out (replicate (length s.args.status.now) 0) s.args.a.0 1 (omega (arith, length-replicate {A = ℕ} (length s.args.status.now) 0)))

@@ -1,36 +1,23 @@
--- `reorder_calls::lists::copy_run` meets its contract: after i turns the first i numbers are stored. Assumes nothing.
-use borrow.Author.Rules.{rules}
-use mathlib.Core.Path.{◌≡◌, refl, ap, ◌∙◌}
-use Prim.Native.Nat.{ℕ}
+-- `reorder_calls::lists::copy_run` meets its contract: a copied part is a run of stores. Assumes nothing.
+use mathlib.Core.Path.{◌≡◌, sym}
+use mathlib.Core.List.{List}
+use Prim.Native.Nat.{ℕ, ◌+◌, ◌-◌, ◌≤◌}
 use native.Mathlib.Omega.{arith}
-use lib.ListN.{take, drop, length-set}
-use lib.Seq.{sets}
-use Rattle.reorder_calls.proofs.Moving.{run_more}
+use lib.ListN.{length, take, drop, length-drop}
+use lib.Seq.{sets, sets-eq, length-take-le}
+use Rattle.std.proofs.Common.{append_assoc}
+use Rattle.std.proofs.lemmas.List.{drop-drop}
+use borrow.Rule.Slice.PartMut.{put_mid}
 use Rattle.reorder_calls.proofs.lists.copy_run.Goals as goal
 
-pub loop-i-init : goal.loop-i-init
-loop-i-init c = (search rules, refl, refl)
-
-pub overflow_add-to-in-loop-i : goal.overflow_add-to-in-loop-i
-overflow_add-to-in-loop-i c = let s = c in let l = c.loop-i in record { fits = omega (arith, l.invariant.2, s.requires.1) }
-
-pub bounds-to-at : goal.bounds-to-at
-bounds-to-at c = let s = c in let l = c.loop-i in omega (arith, l.invariant.2, s.requires.1)
-
-pub loop-i-preserved : goal.loop-i-preserved
-loop-i-preserved c =
-    let s = c in
-    let a = s.args in
-    let l = c.loop-i in
-    (omega arith, run_more a.from.now a.start a.to.now a.at l.i (omega (arith, s.requires.0)) l.invariant.1, simp length-set l.invariant.2)
-
-pub shape_of-to : goal.shape_of-to
-shape_of-to c = c.loop-i.invariant.2
+stored : (to vs : List ℕ) (at count : ℕ) → length vs ≡ count → at + count ≤ length to → put_mid at count to vs ≡ sets to at vs
+stored to vs at count e h = rw (sym e, drop-drop, ← append_assoc) (sym (sets-eq vs to at (omega arith)))
 
 pub returns : goal.returns
 returns c =
-    let s = c in
-    let a = s.args in
-    let l = c.loop-i in
-    let e : l.i ≡ a.count = omega arith in
-    l.invariant.1 ∙ ap (λ (k : ℕ). sets a.to.now a.at (take k (drop a.start a.from.now))) e
+    let a = c.args in
+    let run = drop a.start a.from.now in
+    let e : a.start + a.count - a.start ≡ a.count = omega arith in
+    let f : a.at + a.count - a.at ≡ a.count = omega arith in
+    let n : length (take a.count run) ≡ a.count = length-take-le a.count run (omega (arith, length-drop a.start a.from.now)) in
+    rw (c.copy_from_slice.ensures.after, e, f) (stored a.to.now (take a.count run) a.at a.count n c.requires.1)

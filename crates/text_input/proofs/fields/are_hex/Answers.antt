@@ -20,7 +20,7 @@ sixteen : (i : ℕ) → i ≤ 16 → 16 ≤ i → 16 ≡ i
 sixteen i a b = omega arith
 
 pub loop-i-init : goal.loop-i-init
-loop-i-init c = (omega arith, none (drop c.args.at c.args.text.now))
+loop-i-init c = none (drop c.args.at c.args.text.now)
 
 pub returns-then-not-is_hex_digit : goal.returns-then-not-is_hex_digit
 returns-then-not-is_hex_digit c =
@@ -34,10 +34,10 @@ loop-i-preserved c =
     let s = c.args in
     let l = c.loop-i in
     let passes = ap is_hex_digit (get_or-drop s.at s.text.now l.i 0) ∙ sym c.is_hex_digit.ensures ∙ c.if-not-is_hex_digit.false in
-    (omega arith, all_more is_hex_digit (drop s.at s.text.now) 0 l.i (omega (arith, length-drop s.at s.text.now)) l.invariant.1 passes)
+    all_more is_hex_digit (drop s.at s.text.now) 0 l.i (omega (arith, length-drop s.at s.text.now)) l.invariant passes
 
 pub returns : goal.returns
 returns c =
     let s = c.args in
     let l = c.loop-i in
-    sym (ap (λ (k : ℕ). all is_hex_digit (take k (drop s.at s.text.now))) (sixteen l.i (omega arith) (omega arith)) ∙ l.invariant.1)
+    sym (ap (λ (k : ℕ). all is_hex_digit (take k (drop s.at s.text.now))) (sixteen l.i (omega arith) (omega arith)) ∙ l.invariant)

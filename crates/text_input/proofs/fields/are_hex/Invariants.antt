@@ -8,7 +8,4 @@ use Rattle.text_input.specs.Line.{is_hex_digit}
 use Rattle.text_input.proofs.fields.are_hex.Given as goal
 
 abbrev pub invariant-loop-i : goal.invariant-loop-i
-invariant-loop-i l = (l.i ≤ 16) × (all is_hex_digit (take l.i (drop l.at l.text)) ≡ true)
-
-abbrev pub decreases-loop-i : goal.decreases-loop-i
-decreases-loop-i l = 16 - l.i
+invariant-loop-i l = all is_hex_digit (take l.i (drop l.at l.text)) ≡ true

@@ -26,4 +26,4 @@ returns c =
     let t : List ℕ = drop s.at s.text.now in
     let are = c.are_hex-are.ensures ∙ ap (λ (b : Bool). b && all is_hex_digit (take 16 t)) (sym (le-leb 16 (length t) (omega (arith, length-drop s.at s.text.now)))) in
     let last = c.byte_at-ended.ensures ∙ sym (get_or-drop s.at s.text.now 16 0) in
-    c.both.ensures ∙ (λ k. are k && eqb (last k) comma)
+    (λ k. are k && eqb (last k) comma)

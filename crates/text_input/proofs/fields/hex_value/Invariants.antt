@@ -6,7 +6,4 @@ use Rattle.text_input.specs.Line.{hex_digit_of, number}
 use Rattle.text_input.proofs.fields.hex_value.Given as goal
 
 abbrev pub invariant-loop-i : goal.invariant-loop-i
-invariant-loop-i l = (l.i ≤ 16) × (l.v ≡ number 16 hex_digit_of 0 (take l.i (drop l.at l.text)))
-
-abbrev pub decreases-loop-i : goal.decreases-loop-i
-decreases-loop-i l = 16 - l.i
+invariant-loop-i l = l.v ≡ number 16 hex_digit_of 0 (take l.i (drop l.at l.text))

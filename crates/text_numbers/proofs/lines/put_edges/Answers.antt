@@ -19,9 +19,6 @@ put_edge-next-requires c =
     let p = c.requires in
     omega (arith, p.0, p.1, p.2, p.3, p.4, l.invariant.2.next, edges_few l.e s.ends_a.now s.ends_b.now s.weights.now)
 
-pub overflow_add-e : goal.overflow_add-e
-overflow_add-e c = omega (arith, c.requires.1)
-
 pub loop-e-preserved : goal.loop-e-preserved
 loop-e-preserved c =
     let s = c.args in

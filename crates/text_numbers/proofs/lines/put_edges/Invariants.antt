@@ -9,6 +9,3 @@ use Rattle.text_numbers.proofs.lines.put_edges.Given as goal
 
 abbrev pub invariant-loop-e : goal.invariant-loop-e
 invariant-loop-e l = (l.e ≤ l.n) × (length l.text ≡ length l.initial.text) × Put l.initial.text l.at (joined l.e (edge_line l.ends_a l.ends_b l.weights)) l.text l.next
-
-abbrev pub decreases-loop-e : goal.decreases-loop-e
-decreases-loop-e l = l.n - l.e

@@ -18,9 +18,6 @@ put_vertex-next-requires c =
     let l = c.loop-v in
     omega (arith, c.requires.0, c.requires.1, c.requires.2, l.invariant.2.next, vertices_few l.v s.boundary.now)
 
-pub overflow_add-v : goal.overflow_add-v
-overflow_add-v c = omega (arith, c.requires.1)
-
 pub loop-v-preserved : goal.loop-v-preserved
 loop-v-preserved c =
     let s = c.args in

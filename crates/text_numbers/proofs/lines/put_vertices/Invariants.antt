@@ -9,6 +9,3 @@ use Rattle.text_numbers.proofs.lines.put_vertices.Given as goal
 
 abbrev pub invariant-loop-v : goal.invariant-loop-v
 invariant-loop-v l = (l.v ≤ l.n) × (length l.text ≡ length l.initial.text) × Put l.initial.text l.at (joined l.v (vertex_line l.boundary)) l.text l.next
-
-abbrev pub decreases-loop-v : goal.decreases-loop-v
-decreases-loop-v l = l.n - l.v

@@ -1,0 +1,27 @@
+-- `codes_calls::weighted::new_questions` meets its contract: questions 8 to 10 are asked where 2 to 6 are met. Assumes nothing.
+use Rattle.std.specs.Prelude.{Err}
+use mathlib.Core.Path.{◌≡◌, sym, ap, ◌∙◌}
+use mathlib.Core.Bool.{◌&&◌}
+use lib.Ieee.{lt}
+use borrow.Author.Rules.{rules}
+use Rattle.columns.specs.Places.{zero_float}
+use Rattle.columns.specs.Refusals.{question_of}
+use Rattle.columns_answers.proofs.Said.{no_zero}
+use Rattle.weights_recipe.specs.Probabilities.{is_probability}
+use Rattle.weights_diagonal.specs.Diagonal.{is_diagonal_probability}
+use Rattle.weights_calls.specs.Calls.{is_largest_half_weight}
+use Rattle.codes_weights.specs.Steps.{weights_refusal}
+use Rattle.codes_calls.proofs.WeightedOutcome.{earlier_refuse}
+use Rattle.codes_calls.proofs.weighted.new_questions.Goals as goal
+
+pub returns-in_err-create_questions : goal.returns-in_err-create_questions
+returns-in_err-create_questions c =
+    let r : c.from_residual.result ≡ Err c.in_err-create_questions.field-0.0 = search rules in
+    let e = c.in_err-create_questions.ensures in
+    ap question_of r ∙ e ∙ sym (earlier_refuse _ _ _ _ (λ z. no_zero c.in_err-create_questions.field-0.0 (e ∙ z)))
+
+pub returns : goal.returns
+returns c =
+    let s = c.args in
+    c.weights_questions.ensures
+    ∙ ap (λ q. weights_refusal q (is_largest_half_weight s.max_half_weight) (is_probability s.p && is_diagonal_probability s.diagonal) (lt zero_float s.largest)) c.in_ok-create_questions.ensures

@@ -1,5 +1,4 @@
 -- The columns of a built code get verdict 0. Assumes nothing.
-use Rattle.std.specs.Prelude.{Option, Ok}
 use mathlib.Core.Path.{◌≡◌, refl, sym, ap, ◌∙◌}
 use mathlib.Core.Logic.{◌⊎◌, inl, inr}
 use mathlib.Core.List.{List}
@@ -105,7 +104,7 @@ module _ (kind d rounds q : ℕ) (c₀ c : CodeColumns) (z : q ≡ 0) (v e : ℕ
       ((l ∙ after-accepted q (new_columns kind d rounds).list_lengths c₀.list_lengths z) i) ((n ∙ after-accepted q (new_columns kind d rounds).neighbor_numbers c₀.neighbor_numbers z) i))
       ∙ gets-zero kind d rounds ok c₀.ends_a c₀.ends_b c₀.list_lengths c₀.neighbor_numbers
 
-created_zero : (kind d rounds : ℕ) (c₀ c : CodeColumns) (v e : ℕ) → CreateCode kind d rounds c₀ c (Ok (code_counts v e)) → sanityAnswer v e c.ends_a c.ends_b c.list_lengths c.neighbor_numbers ≡ Sound
+created_zero : (kind d rounds : ℕ) (c₀ c : CodeColumns) (v e : ℕ) → CreateCode kind d rounds c₀ c (Ok (code_counts v e)) → sanityAnswer v e c.ends_a c.ends_b c.list_lengths c.neighbor_numbers ≡ Ok None
 unfolding create_refusal
 created_zero kind d rounds c₀ c v e w =
     let x = code_case w.answers in
@@ -113,7 +112,7 @@ created_zero kind d rounds c₀ c v e w =
     written-zero kind d rounds (refusal_in kind d rounds c₀) c₀ c x.0 v e x.1 x.2 (accepted kind d rounds _ x.0).0 h.ends_a_after h.ends_b_after h.list_lengths_after h.neighbor_numbers_after
 
 weighted_zero : (kind d rounds : ℕ) (p : Float) (diagonal : Option Float) (max : ℕ) (c₀ c : CodeColumns) (v e : ℕ) → WeightedCode kind d rounds p diagonal max c₀ c (Ok (code_counts v e))
-    → sanityAnswer v e c.ends_a c.ends_b c.list_lengths c.neighbor_numbers ≡ Sound
+    → sanityAnswer v e c.ends_a c.ends_b c.list_lengths c.neighbor_numbers ≡ Ok None
 unfolding new_refusal
 weighted_zero kind d rounds p diagonal max c₀ c v e w =
     let x = code_case w.answers in

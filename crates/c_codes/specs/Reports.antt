@@ -5,7 +5,6 @@ use Rattle.columns.specs.Places.{zero_float}
 use Rattle.columns_answers.specs.Said.{said}
 use Rattle.codes_calls.specs.declared.CodeCounts.{CodeCounts}
 use Rattle.codes_calls.specs.CreateCode.{no_counts}
-use Rattle.sanity_verdicts.specs.declared.Verdict.{Verdict}
 use Rattle.sanity_verdicts.specs.declared.Finding.{Finding}
 use Rattle.sanity_verdicts.specs.Sanity as sanity
 use Rattle.c_reports.specs.declared.TwoCounts.{TwoCounts}

@@ -4,7 +4,6 @@ ghost use Rattle.c_codes.specs.Reports.{ReportsCreated, ReportsWeighed, ReportsV
 use c_reports::TwoCounts;
 use codes_calls::CodeCounts;
 use columns::refusal::Refusal;
-use sanity_calls::Verdict;
 use sanity_calls::Finding;
 
 #[repr(C)]

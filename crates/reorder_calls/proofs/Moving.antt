@@ -83,18 +83,19 @@ module _ (order lengths numbers : List ℕ) (o : IsOrder order) (fits : sum_to (
       omega (arith, joined-room (length order) (λ j. neighbor_list_at lengths numbers (get_or order j 0)) k h, length-lists, length-list lengths numbers (length order) (get_or order k 0) (order_below order o k h) fits)
 
   -- one list more is stored
-  pub lists_more : (k : ℕ) (to₀ : List ℕ) {to to' : List ℕ} {at start count : ℕ} → k < length order → at ≡ length (stored k) → to ≡ sets to₀ 0 (stored k)
-      → start ≡ sum_to (get_or order k 0) lengths → count ≡ get_or lengths (get_or order k 0) 0 → to' ≡ sets to at (take count (drop start numbers)) → to' ≡ sets to₀ 0 (stored (k + 1))
-  lists_more k to₀ {to} {to'} {at} {start} {count} h ea et es ec e =
+  pub lists_more : (k : ℕ) (to₀ : List ℕ) {to to' : List ℕ} {at start : ℕ} → k < length order → at ≡ length (stored k) → to ≡ sets to₀ 0 (stored k) → start ≡ sum_to (get_or order k 0) lengths
+      → to' ≡ sets to at (take (get_or lengths (get_or order k 0) 0) (drop start numbers)) → to' ≡ sets to₀ 0 (stored (k + 1))
+  lists_more k to₀ {to} {to'} {at} {start} h ea et es e =
+      let count = get_or lengths (get_or order k 0) 0 in
+      let list = neighbor_list_at lengths numbers (get_or order k 0) in
       e ∙ ap (λ (t : List ℕ). sets t at (take count (drop start numbers))) et
       ∙ ap (λ (x : ℕ). sets (sets to₀ 0 (stored k)) at (take count (drop x numbers))) es
-      ∙ ap (λ (x : ℕ). sets (sets to₀ 0 (stored k)) at (take x (drop (sum_to (get_or order k 0) lengths) numbers))) ec
-      ∙ ap (λ (x : ℕ). sets (sets to₀ 0 (stored k)) x (neighbor_list_at lengths numbers (get_or order k 0))) (ea ∙ sym (zero-add (length (stored k))))
-      ∙ sym (sets-append to₀ 0 (stored k) (neighbor_list_at lengths numbers (get_or order k 0)))
+      ∙ ap (λ (x : ℕ). sets (sets to₀ 0 (stored k)) x list) (ea ∙ sym (zero-add (length (stored k))))
+      ∙ sym (sets-append to₀ 0 (stored k) list)
       ∙ ap (sets to₀ 0) (sym (joined-more k (λ j. neighbor_list_at lengths numbers (get_or order j 0))))
 
-  pub lists-count : (k : ℕ) {at count : ℕ} → k < length order → at ≡ length (stored k) → count ≡ get_or lengths (get_or order k 0) 0 → at + count ≡ length (stored (k + 1))
-  lists-count k h ea ec =
+  pub lists-count : (k : ℕ) {at : ℕ} → k < length order → at ≡ length (stored k) → at + get_or lengths (get_or order k 0) 0 ≡ length (stored (k + 1))
+  lists-count k h ea =
       let more = ap length (joined-more k (λ j. neighbor_list_at lengths numbers (get_or order j 0))) ∙ length-append (stored k) (neighbor_list_at lengths numbers (get_or order k 0)) in
       omega (arith, more, length-list lengths numbers (length order) (get_or order k 0) (order_below order o k h) fits)
 

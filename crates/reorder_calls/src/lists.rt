@@ -6,7 +6,6 @@ ghost use Rattle.columns_neighbors.specs.Lists.{sum_to};
 ghost use Rattle.reorder_calls.specs.Columns.{moved_lists};
 ghost use Rattle.reorder_orders.specs.Steps.{IsOrder};
 
-use columns::wide;
 use columns_stores::copy;
 
 // Where each of the first n lists starts, and the end of the last.
@@ -17,7 +16,7 @@ fn list_starts(lengths: &[u32], n: usize, starts: &mut [usize]) -> usize
     let mut sum: usize = 0;
     for (i, length) in lengths[..n].iter().enumerate() {
         starts[i] = sum;
-        sum += wide(*length);
+        sum += *length as usize;
     }
     sum
 }
@@ -39,8 +38,8 @@ fn gather_lists(order: &[u32], lengths: &[u32], starts: &[usize], from: &[u32], 
 {
     let mut at: usize = 0;
     for vertex in order {
-        let u = wide(*vertex);
-        let count = wide(lengths[u]);
+        let u = *vertex as usize;
+        let count = lengths[u] as usize;
         copy_run(from, starts[u], count, to, at);
         at += count;
     }

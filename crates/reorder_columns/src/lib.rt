@@ -7,7 +7,7 @@ ghost use Rattle.columns.specs.Places.{zero_float};
 ghost use Rattle.reorder_orders.specs.Order.{moved};
 ghost use Rattle.reorder_orders.specs.Steps.{IsOrder};
 
-use columns::{VisualizePosition, wide};
+use columns::VisualizePosition;
 use columns_stores::copy;
 use reorder_orders::gather_u32;
 
@@ -17,7 +17,7 @@ fn gather_u8(list: &[u32], from: &[u8], to: &mut [u8])
     ensures { to.new ≡ over (moved list.now 0 from.now) to.old }
 {
     for (i, place) in list.iter().enumerate() {
-        to[i] = from[wide(*place)];
+        to[i] = from[*place as usize];
     }
 }
 
@@ -71,7 +71,7 @@ fn gather_positions(
     ensures pos_t_after { pos_t.new ≡ over (moved list.now zero_float from_t.now) pos_t.old }
 {
     for (k, place) in list.iter().enumerate() {
-        let at = wide(*place);
+        let at = *place as usize;
         let position = VisualizePosition::load(from_i, from_j, from_t, at);
         position.store(pos_i, pos_j, pos_t, k);
     }

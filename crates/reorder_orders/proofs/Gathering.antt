@@ -46,8 +46,8 @@ module _ (f : ℕ → ℕ) where
   turned (x ∷ xs) zero h = refl
   turned (x ∷ xs) (suc i) h = rw suc-add (ap (λ (t : List ℕ). f x ∷ t) (turned xs i (omega arith)))
 
-  pub rename_more : (s : List ℕ) (i : ℕ) {l : List ℕ} {x : ℕ} → i < length s → l ≡ map f (take i s) ++ drop i s → x ≡ f (get_or l i 0) → set l i x ≡ map f (take (i + 1) s) ++ drop (i + 1) s
-  rename_more s i {l} {x} h e q = rw (q, e, stands s i) (turned s i h)
+  pub rename_more : (s : List ℕ) (i : ℕ) {l : List ℕ} → i < length s → l ≡ map f (take i s) ++ drop i s → set l i (f (get_or l i 0)) ≡ map f (take (i + 1) s) ++ drop (i + 1) s
+  rename_more s i h e = rw (e, stands s i) (turned s i h)
 
 -- equal values at the listed places
 pub map-listed : {A : Type 0} (f g : ℕ → A) (l : List ℕ) → ((i : ℕ) → i < length l → f (get_or l i 0) ≡ g (get_or l i 0)) → map f l ≡ map g l
@@ -76,14 +76,13 @@ module _ (order : List ℕ) where
   unfolding every
   seen_none seen z = record { mark = λ u h. z u }
 
-  pub seen_twice : (i : ℕ) (seen : List ℕ) {at : ℕ} → i < length order → Seen i seen → at ≡ get_or order i 0 → at < length seen → get_or seen at 0 ≡ 1 → false ≡ none_twice order
+  pub seen_twice : (i : ℕ) (seen : List ℕ) → i < length order → Seen i seen → get_or order i 0 < length seen → get_or seen (get_or order i 0) 0 ≡ 1 → false ≡ none_twice order
   unfolding none_twice
-  seen_twice i seen {at} h s e l q =
-      let f : unseen i at ≡ false = mark-off (unseen i at) (sym (s.mark at l) ∙ q) in
-      sym (every-not (λ k. unseen k (get_or order k 0)) (length order) i h (ap (unseen i) (sym e) ∙ f))
+  seen_twice i seen h s l q =
+      sym (every-not (λ k. unseen k (get_or order k 0)) (length order) i h (mark-off _ (sym (s.mark (get_or order i 0) l) ∙ q)))
 
-  pub seen-once : (i : ℕ) (seen : List ℕ) {at : ℕ} → Seen i seen → at ≡ get_or order i 0 → at < length seen → (get_or seen at 0 ≡ 1 → ⊥) → unseen i (get_or order i 0) ≡ true
-  seen-once i seen {at} s e l f = ap (unseen i) (sym e) ∙ mark_on (unseen i at) (λ q. f (s.mark at l ∙ q))
+  pub seen-once : (i : ℕ) (seen : List ℕ) → Seen i seen → get_or order i 0 < length seen → (get_or seen (get_or order i 0) 0 ≡ 1 → ⊥) → unseen i (get_or order i 0) ≡ true
+  seen-once i seen s l f = mark_on _ (λ q. f (s.mark (get_or order i 0) l ∙ q))
 
   and_false : (b : Bool) → (b && false) ≡ false
   and_false true = refl
@@ -97,15 +96,15 @@ module _ (order : List ℕ) where
   unfolding every
   unseen-more i u = ap (λ (k : ℕ). unseen k u) (add-one i)
 
-  pub seen_more : (i : ℕ) (seen : List ℕ) {at : ℕ} → Seen i seen → at ≡ get_or order i 0 → at < length seen → Seen (i + 1) (set seen at 1)
-  seen_more i seen {at} s e l = record {
+  pub seen_more : (i : ℕ) (seen : List ℕ) → Seen i seen → get_or order i 0 < length seen → Seen (i + 1) (set seen (get_or order i 0) 1)
+  seen_more i seen s l = let at = get_or order i 0 in record {
     mark = λ u h. elim (ℕ_discrete u at) [
       | yes q ↦
           ap (λ (k : ℕ). get_or (set seen at 1) k 0) q ∙ get_or-set_same seen at 1 0 l
-          ∙ ap (λ (b : Bool). cond b 0 1) (sym (unseen-more i u ∙ ap (λ (b : Bool). unseen i u && not b) (eq-eqb (get_or order i 0) u (sym (q ∙ e))) ∙ and_false (unseen i u)))
+          ∙ ap (λ (b : Bool). cond b 0 1) (sym (unseen-more i u ∙ ap (λ (b : Bool). unseen i u && not b) (eq-eqb at u (sym q)) ∙ and_false (unseen i u)))
       | no q ↦
           get_or-set_other seen at u 1 0 q ∙ s.mark u (omega (arith, length-set seen at 1))
-          ∙ ap (λ (b : Bool). cond b 0 1) (sym (unseen-more i u ∙ ap (λ (b : Bool). unseen i u && not b) (ne_eqb (get_or order i 0) u (λ r. q (sym (e ∙ r)))) ∙ and_true (unseen i u)))
+          ∙ ap (λ (b : Bool). cond b 0 1) (sym (unseen-more i u ∙ ap (λ (b : Bool). unseen i u && not b) (ne_eqb at u (λ r. q (sym r))) ∙ and_true (unseen i u)))
     ];
   }
 
@@ -120,19 +119,15 @@ module _ (order : List ℕ) (o : IsOrder order) where
   pub placed-none : (column : List ℕ) → Placed 0 column column
   placed-none column = record { at = λ j h. absurd (omega arith); rest = refl; len = refl }
 
-  pub placed-more : (i : ℕ) (column₀ column : List ℕ) {k : ℕ} → i < length order → length order ≤ length column₀ → Placed i column₀ column → k ≡ get_or order i 0
-      → Placed (i + 1) column₀ (set column k i)
-  placed-more i column₀ column {k} h room p e =
-      let b : k < length order = rw e (order_below order o i h) in
-      record {
-        at = λ j l. elim (ℕ_discrete j i) [
-          | yes q ↦ ap (λ (x : ℕ). get_or (set column k i) (get_or order x 0) 0) q ∙ ap (λ (x : ℕ). get_or (set column k i) x 0) (sym e)
-              ∙ get_or-set_same column k i 0 (omega (arith, p.len)) ∙ sym q
-          | no q ↦ get_or-set_other column k (get_or order j 0) i 0 (λ r. order-once order o j i (omega arith) h (r ∙ e)) ∙ p.at j (omega arith)
-        ];
-        rest = drop-set-lt (length order) column k i b ∙ p.rest;
-        len = length-set column k i ∙ p.len;
-      }
+  pub placed-more : (i : ℕ) (column₀ column : List ℕ) → i < length order → length order ≤ length column₀ → Placed i column₀ column → Placed (i + 1) column₀ (set column (get_or order i 0) i)
+  placed-more i column₀ column h room p = let k = get_or order i 0 in record {
+    at = λ j l. elim (ℕ_discrete j i) [
+      | yes q ↦ ap (λ (x : ℕ). get_or (set column k i) (get_or order x 0) 0) q ∙ get_or-set_same column k i 0 (omega (arith, p.len, order_below order o i h)) ∙ sym q
+      | no q ↦ get_or-set_other column k (get_or order j 0) i 0 (order-once order o j i (omega arith) h) ∙ p.at j (omega arith)
+    ];
+    rest = drop-set-lt (length order) column k i (order_below order o i h) ∙ p.rest;
+    len = length-set column k i ∙ p.len;
+  }
 
   pub placed_end : (i : ℕ) (column₀ column : List ℕ) → i ≡ length order → length order ≤ length column₀ → Placed i column₀ column → column ≡ over (old_to_new order) column₀
   unfolding old_to_new

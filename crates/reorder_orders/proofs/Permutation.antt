@@ -35,11 +35,6 @@ unfolding total
 total_zero zero f h = refl
 total_zero (suc n) f h = omega (arith, total_zero n f (λ u l. h u (omega arith)), h n (omega arith))
 
-total_ones : (n : ℕ) → total n (λ u. 1) ≡ n
-unfolding total
-total_ones zero = refl
-total_ones (suc n) = omega (arith, total_ones n)
-
 -- fewer than n where each is at most 1 and one is 0
 total_less : (n : ℕ) (f : ℕ → ℕ) (u : ℕ) → u < n → f u ≡ 0 → ((k : ℕ) → k < n → f k ≤ 1) → total n f < n
 unfolding total

@@ -9,7 +9,6 @@ ghost use Rattle.reorder_orders.specs.Order.{none_twice, old_to_new, renamed, mo
 ghost use Rattle.reorder_orders.specs.Steps.{IsOrder};
 
 use columns::refusal::{Refusal, require};
-use columns::wide;
 
 // Whether no number is twice in the order; seen holds 0 alone.
 fn fresh_in(order: &[u32], seen: &mut [u8]) -> bool
@@ -17,7 +16,7 @@ fn fresh_in(order: &[u32], seen: &mut [u8]) -> bool
     ensures { result ≡ none_twice order.now }
 {
     for vertex in order {
-        let at = wide(*vertex);
+        let at = *vertex as usize;
         if seen[at] == 1 {
             return false;
         }
@@ -51,7 +50,7 @@ pub fn place_numbers(order: &[u32], new_numbers: &mut [u32])
     ensures { new_numbers.new ≡ over (old_to_new order.now) new_numbers.old }
 {
     for (i, vertex) in order.iter().enumerate() {
-        let at = wide(*vertex);
+        let at = *vertex as usize;
         new_numbers[at] = i as u32;
     }
 }
@@ -62,7 +61,7 @@ pub fn gather_u32(list: &[u32], from: &[u32], to: &mut [u32])
     ensures { to.new ≡ over (moved list.now 0 from.now) to.old }
 {
     for (i, place) in list.iter().enumerate() {
-        to[i] = from[wide(*place)];
+        to[i] = from[*place as usize];
     }
 }
 
@@ -91,7 +90,7 @@ fn rename_by(new_numbers: &[u32], ends: &mut [u32], n: usize)
     ensures { ends.new ≡ over (moved (take n ends.old) 0 new_numbers.now) ends.old }
 {
     for end in &mut ends[..n] {
-        *end = new_numbers[wide(*end)];
+        *end = new_numbers[*end as usize];
     }
 }
 

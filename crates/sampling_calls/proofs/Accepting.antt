@@ -7,7 +7,7 @@ use native.Mathlib.Nat.{zero-add}
 use native.Mathlib.Decide.{ℕ_discrete}
 use native.Mathlib.Omega.{arith}
 use lib.ListN.{length, get_or, take, drop, take-append-drop}
-use lib.Seq.{length-take-le, get_or-take}
+use lib.Seq.{length-take-le}
 use lib.Dec.{leb, eqb}
 use borrow.Author.Tests.{leb-true, eq-eqb, ne_eqb}
 use Rattle.columns.specs.Lists.{over}
@@ -100,10 +100,6 @@ pub listed-over : (n : ℕ) (vs column : List ℕ) → length vs ≡ n → liste
 unfolding listed
 listed-over n vs column e =
     chosen_same n _ _ (λ k h. ap is_set (over-in vs column 0 k (omega arith)))
-
-pub listed-take : (n : ℕ) (xs : List ℕ) → listed n (take n xs) ≡ listed n xs
-unfolding listed
-listed-take n xs = chosen_same n _ _ (λ k h. ap is_set (get_or-take n xs k 0 h))
 
 -- flips in the first v places of a column leave the others
 pub flip_each-over : (v e : ℕ) (a b m ks xs d : List ℕ) → length xs ≡ v → InRange a e v → InRange b e v → ((i : ℕ) → i < length ks → get_or ks i 0 < e)

@@ -5,7 +5,7 @@ use mathlib.Core.List.{List}
 use Prim.Native.Nat.{ℕ, ◌≤◌, ◌<◌}
 use native.Mathlib.Omega.{arith}
 use lib.ListN.{length, get_or, replicate, length-replicate}
-use lib.Seq.{sets, length-sets}
+use lib.Seq.{sets}
 use lib.Ieee.{Float}
 use Rattle.columns.specs.Lists.{over}
 use Rattle.columns.specs.Questions.{ask}
@@ -72,14 +72,6 @@ module _ (r : DeterministicRng) (g : CodeGraph) (p pe : List Float) (d₀ s₀ :
   unfolding sampled_erasures
   sampled-erasure =
       this.erasure_is ∙ sets_over s₀ (sampled_erasures r pe g.edges) (omega (arith, length-each {A = ℕ} g.edges (λ k. cond (is_erased r pe k) 1 0)))
-
-  pub length-defect : length d ≡ length d₀
-  length-defect =
-      ap length this.defect_is ∙ length-flipEach g.ends_a g.ends_b g.boundary (sampled_errors r p pe g.edges) d₁
-      ∙ ap length cleared ∙ length-sets d₀ 0 (replicate g.vertices 0)
-
-  pub length-erasure : length s ≡ length s₀
-  length-erasure = ap length this.erasure_is ∙ length-sets s₀ 0 (sampled_erasures r pe g.edges)
 
 pub length-sampled_defects : (r : DeterministicRng) (g : CodeGraph) (p pe : List Float) → length (sampled_defects r g p pe) ≡ g.vertices
 unfolding sampled_defects

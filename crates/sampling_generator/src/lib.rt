@@ -4,37 +4,11 @@
 ghost use Rattle.std.specs.Prelude.{◌≡◌, ◌+◌, ◌*◌, ◌%◌, ◌^◌, ◌<◌};
 ghost use Rattle.sampling_generator.specs.Random.{rotate_left, shift_xor, split_mix_next, split_mix_word, seed_from_u64, word_of, next_of, draw_of};
 
-// The low 64 bits of the product, from halves of 32 bits.
-fn mul_halves(a: u64, b: u64) -> u64
-    ensures { result ≡ (a * b) % 2 ^ 64 }
-{
-    let a0 = a % 0x1_0000_0000;
-    let a1 = a / 0x1_0000_0000;
-    let b0 = b % 0x1_0000_0000;
-    let b1 = b / 0x1_0000_0000;
-    let cross = (a1 * b0) % 0x1_0000_0000 + (a0 * b1) % 0x1_0000_0000;
-    std::num::wrapping_add_u64(a0 * b0, cross << 32)
-}
-
-// The low 64 bits of x * (2 ^ k + 1), from a shift.
-fn mul_shifted(x: u64, k: u32) -> u64
-    requires { k < 64 }
-    ensures { result ≡ (x * (2 ^ k + 1)) % 2 ^ 64 }
-{
-    std::num::wrapping_add_u64(x, x << k)
-}
-
-// The low 64 bits of the product. The factors of Xoshiro256**, 5 and 9, need no halves.
+// The low 64 bits of the product.
 pub fn wrapping_mul(a: u64, b: u64) -> u64
     ensures { result ≡ (a * b) % 2 ^ 64 }
 {
-    if b == 5 {
-        return mul_shifted(a, 2);
-    }
-    if b == 9 {
-        return mul_shifted(a, 3);
-    }
-    mul_halves(a, b)
+    a.wrapping_mul(b)
 }
 
 // The word turned left by k bits.
@@ -42,7 +16,7 @@ fn rotate_left(x: u64, k: u32) -> u64
     requires { (0 < k) × (k < 64) }
     ensures { result ≡ rotate_left x k }
 {
-    (x << k) | (x >> (64 - k))
+    x.rotate_left(k)
 }
 
 // z ^ (z >> k)
@@ -84,13 +58,15 @@ impl DeterministicRng {
     const MULTIPLIER_2: u64 = 0x94d0_49bb_1331_11eb;
 
     // The next state of SplitMix64.
+    #[tactic(auto, unfolding(crate::specs::Random::split_mix_next))]
     pub fn split_mix_next(state: u64) -> u64
         ensures { result ≡ split_mix_next state }
     {
-        std::num::wrapping_add_u64(state, Self::INCREMENT)
+        state.wrapping_add(Self::INCREMENT)
     }
 
     // The word that a state of SplitMix64 gives.
+    #[tactic(auto, unfolding(crate::specs::Random::split_mix_word))]
     pub fn split_mix_word(state: u64) -> u64
         ensures { result ≡ split_mix_word state }
     {

@@ -5,17 +5,10 @@
 use sampling_flips::flip;
 use test_numbers::{end_line, show, show_bytes, show_length, show_lengths, show_list};
 
-// One flip.
-fn show_flip(rt: &impl Print, boundary: u8, byte: u8) {
-    show(rt, flip(boundary, byte) as u64);
-}
-
 // The flip of each byte from 0 to 255.
 fn flips(rt: &impl Print, boundary: u8) {
-    let mut byte: u32 = 0;
-    while byte < 256 {
-        show_flip(rt, boundary, byte as u8);
-        byte += 1;
+    for byte in 0..=u8::MAX {
+        show(rt, flip(boundary, byte) as u64);
     }
     end_line(rt);
 }

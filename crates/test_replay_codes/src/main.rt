@@ -23,20 +23,13 @@ const ORDERED: usize = 24;
 
 // The probability whose place in the table is the number at i.
 fn probability(numbers: &[u64], i: usize) -> f64 {
-    let place = at(numbers, i);
-    if place == 0 {
-        return 0.0;
+    match at(numbers, i) {
+        0 => 0.0,
+        1 => 0.5,
+        2 => 0.1,
+        3 => 0.25,
+        _ => 0.01,
     }
-    if place == 1 {
-        return 0.5;
-    }
-    if place == 2 {
-        return 0.1;
-    }
-    if place == 3 {
-        return 0.25;
-    }
-    0.01
 }
 
 fn vertices_in(answer: Created) -> u32 {
@@ -314,12 +307,9 @@ fn case(rt: &impl Print, numbers: &[u64], from: usize) -> usize {
 }
 
 fn replay(rt: &impl Print, numbers: &[u64]) {
-    let cases = size_at(numbers, 0);
     let mut place: usize = 1;
-    let mut left = cases;
-    while 0 < left {
+    for _ in 0..size_at(numbers, 0) {
         place = case(rt, numbers, place);
-        left -= 1;
     }
 }
 

@@ -2,7 +2,7 @@
 #![tactic(auto)]
 
 ghost use Rattle.std.specs.Prelude.{◌≡◌};
-ghost use Rattle.weights_diagonal.specs.Diagonal.{absolute, manhattan_distance, is_diagonal, new_diagonal, is_diagonal_probability};
+ghost use Rattle.weights_diagonal.specs.Diagonal.{manhattan_distance, is_diagonal, new_diagonal, is_diagonal_probability};
 
 use columns::VisualizePosition;
 use weights_questions::is_probability;
@@ -18,30 +18,14 @@ pub fn new_diagonal_probability(p: f64) -> Option<f64>
 pub fn is_diagonal_probability(d: Option<f64>) -> bool
     ensures { result ≡ is_diagonal_probability d }
 {
-    match d {
-        None => true,
-        Some(x) => is_probability(x),
-    }
-}
-
-// The absolute value.
-fn abs(x: f64) -> f64
-    ensures { result ≡ absolute x }
-{
-    if x < 0.0 {
-        return -x;
-    }
-    if x == 0.0 {
-        return 0.0;
-    }
-    x
+    d.is_none_or(is_probability)
 }
 
 // The Manhattan distance of two positions.
 fn manhattan_distance(a: VisualizePosition, b: VisualizePosition) -> f64
     ensures { result ≡ manhattan_distance a b }
 {
-    abs(a.i - b.i) + abs(a.j - b.j) + abs(a.t - b.t)
+    (a.i - b.i).abs() + (a.j - b.j).abs() + (a.t - b.t).abs()
 }
 
 // Whether an edge with these ends is diagonal.

@@ -1,6 +1,6 @@
 -- `reorder_columns::gather_positions` meets its contract: after k turns the first k listed positions are stored. Assumes nothing.
 use mathlib.Core.Path.{◌≡◌, ap, ◌∙◌}
-use Prim.Native.Nat.{ℕ, ◌<◌}
+use Prim.Native.Nat.{◌<◌}
 use native.Mathlib.Omega.{arith}
 use lib.ListN.{get_or, length}
 use Rattle.columns.specs.Places.{zero_float}
@@ -13,12 +13,11 @@ loop-k-preserved c =
     let a = c.args in
     let l = c.loop-k in
     let v = c.load-position.ensures in
-    let w = c.wide-at.ensures.0 in
     let e = c.store.ensures in
     let b : l.k < length a.list.now = omega arith in (
-      e.0 ∙ gather-more (λ u. get_or a.from_i.now u zero_float) _ _ l.k b l.invariant.0 (ap (λ (p : VisualizePosition). p.i) v ∙ ap (λ (u : ℕ). get_or a.from_i.now u zero_float) w),
-      e.1 ∙ gather-more (λ u. get_or a.from_j.now u zero_float) _ _ l.k b l.invariant.1 (ap (λ (p : VisualizePosition). p.j) v ∙ ap (λ (u : ℕ). get_or a.from_j.now u zero_float) w),
-      e.2 ∙ gather-more (λ u. get_or a.from_t.now u zero_float) _ _ l.k b l.invariant.2 (ap (λ (p : VisualizePosition). p.t) v ∙ ap (λ (u : ℕ). get_or a.from_t.now u zero_float) w),
+      e.0 ∙ gather-more (λ u. get_or a.from_i.now u zero_float) _ _ l.k b l.invariant.0 (ap (λ (p : VisualizePosition). p.i) v),
+      e.1 ∙ gather-more (λ u. get_or a.from_j.now u zero_float) _ _ l.k b l.invariant.1 (ap (λ (p : VisualizePosition). p.j) v),
+      e.2 ∙ gather-more (λ u. get_or a.from_t.now u zero_float) _ _ l.k b l.invariant.2 (ap (λ (p : VisualizePosition). p.t) v),
     )
 
 pub returns : goal.returns

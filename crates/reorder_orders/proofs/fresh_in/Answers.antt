@@ -16,16 +16,15 @@ loop-vertex-init c = (seen_none _ _ c.requires.1, refl)
 pub returns-then-seen-at-eq1 : goal.returns-then-seen-at-eq1
 returns-then-seen-at-eq1 c =
     let l = c.loop-vertex in
-    seen_twice _ l.vertex-index l.seen (omega arith) l.invariant.0 c.wide-at.ensures.0 (omega (arith, c.requires.0 l.vertex-index (omega arith))) c.if-seen-at-eq1.true
+    seen_twice _ l.vertex-index l.seen (omega arith) l.invariant.0 (omega (arith, c.requires.0 l.vertex-index (omega arith))) c.if-seen-at-eq1.true
 
 pub loop-vertex-preserved : goal.loop-vertex-preserved
 loop-vertex-preserved c =
     let l = c.loop-vertex in
+    let i = l.vertex-index in
     let o = c.args.order.now in
-    let b : c.wide-at.result < length l.seen = omega (arith, c.requires.0 l.vertex-index (omega arith)) in (
-      seen_more o l.vertex-index l.seen l.invariant.0 c.wide-at.ensures.0 b,
-      every_more (λ k. unseen o k (get_or o k 0)) l.vertex-index l.invariant.1 (seen-once o l.vertex-index l.seen l.invariant.0 c.wide-at.ensures.0 b c.if-seen-at-eq1.false),
-    )
+    let b : get_or o i 0 < length l.seen = omega (arith, c.requires.0 i (omega arith)) in
+    (seen_more o i l.seen l.invariant.0 b, every_more (λ k. unseen o k (get_or o k 0)) i l.invariant.1 (seen-once o i l.seen l.invariant.0 b c.if-seen-at-eq1.false))
 
 pub returns : goal.returns
 unfolding none_twice

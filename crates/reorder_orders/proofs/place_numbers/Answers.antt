@@ -8,10 +8,10 @@ pub loop-i-init : goal.loop-i-init
 loop-i-init c = λ o. placed-none _ o _
 
 pub bounds-new_numbers-at : goal.bounds-new_numbers-at
-bounds-new_numbers-at c = let i = c.loop-i.i in omega (arith, order_below c.args.order.now c.requires.0 i (omega arith))
+bounds-new_numbers-at c = omega (arith, order_below c.args.order.now c.requires.0 c.loop-i.i (omega arith))
 
 pub loop-i-preserved : goal.loop-i-preserved
-loop-i-preserved c = let l = c.loop-i in λ o. placed-more _ o l.i _ l.new_numbers (omega arith) c.requires.1 (l.invariant o) c.wide-at.ensures.0
+loop-i-preserved c = let l = c.loop-i in λ o. placed-more _ o l.i _ l.new_numbers (omega arith) c.requires.1 (l.invariant o)
 
 pub returns : goal.returns
 returns c = let l = c.loop-i in placed_end _ c.requires.0 l.i _ l.new_numbers (omega arith) c.requires.1 (l.invariant c.requires.0)

@@ -93,6 +93,7 @@ fn write_lists(
 }
 
 // Builds a position for each of n vertices: 0, 0, 0.
+#[tactic(auto, using(columns::proofs::Columns::fill_more))]
 fn fill_positions(pos_i: &mut [f64], pos_j: &mut [f64], pos_t: &mut [f64], n: usize)
     ensures pos_i_after { pos_i.new ≡ sets pos_i.old 0 (replicate n zero_float) }
     ensures pos_j_after { pos_j.new ≡ sets pos_j.old 0 (replicate n zero_float) }

@@ -31,6 +31,7 @@ fn positions_questions(
 }
 
 // Copies the positions of the first n vertices.
+#[tactic(auto, using(columns::proofs::Columns::copy_more))]
 fn copy_positions(
     n: usize,
     pos_i: &[f64],

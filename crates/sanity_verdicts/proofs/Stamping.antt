@@ -19,7 +19,7 @@ use Rattle.columns_neighbors.specs.Lists.{sum_to, neighbor_list_at}
 use Rattle.columns_neighbors.proofs.Placing.{sum_more, sum_ascends}
 use Rattle.columns_places.specs.Places.{LastSame}
 use Rattle.sanity_verdicts.specs.ListSteps.{Seen, Stamped, Below, Ascends}
-use Rattle.sanity_verdicts.proofs.Scans.{first_next, first_stop, first-all, first_same, first_any, found_false}
+use Rattle.sanity_verdicts.proofs.Scans.{none_of, first_none, first_next, first_stop, first-all, first_same, first_any, found_false}
 
 module _ (numbers : List ℕ) (start : ℕ) where
   -- none of the numbers
@@ -151,3 +151,13 @@ unfolding at_vertex
 lists_ascend lengths numbers n fits a = first_same n _ _ (λ u h.
     ap (λ (x : Option Finding). cond (eqb (get_or lengths u 0) 0) (Some (NoEdges (vertex_numbered u))) x)
     (sym (twice-ascends numbers (sum_to u lengths) (get_or lengths u 0) (a u h) u (list_room lengths numbers n u h fits refl refl))))
+
+-- ---- what the loops over a list and over the vertices need
+
+pub ruleset list_laws = (none_start, none_next, twice_stop, twice_none, stamp_new, stamp_below)
+
+pub ruleset vertex_laws = (no_edges, some_edges, below_more)
+
+pub ruleset room_laws = (list_room, sum_more)
+
+pub ruleset finding_laws = (vertex_is, none_of, first_none, first_next, first_stop)

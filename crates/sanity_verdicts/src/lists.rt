@@ -66,7 +66,7 @@ fn stamp_next(numbers: &[u32], start: usize, i: usize, x: EdgeIndex, mark: &mut 
 }
 
 // The first number twice in the list of vertex v, which starts at a place and has a length.
-#[tactic(auto, using(crate::proofs::Stamping::none_start, crate::proofs::Stamping::none_next, crate::proofs::Stamping::twice_stop, crate::proofs::Stamping::twice_none, crate::proofs::Stamping::stamp_new, crate::proofs::Stamping::stamp_below))]
+#[tactic(auto, using(crate::proofs::Stamping::list_laws))]
 fn twice_in(
     numbers: &[u32],
     start: usize,
@@ -92,7 +92,7 @@ fn twice_in(
 }
 
 // The finding at vertex v.
-#[tactic(auto, using(crate::proofs::Stamping::no_edges, crate::proofs::Stamping::some_edges, crate::proofs::Stamping::below_more))]
+#[tactic(auto, using(crate::proofs::Stamping::vertex_laws))]
 fn at_vertex(
     numbers: &[u32],
     start: usize,
@@ -113,7 +113,7 @@ fn at_vertex(
 }
 
 // The first finding among n vertices; mark holds 0 alone.
-#[tactic(auto, using(crate::proofs::Stamping::list_room, columns_neighbors::proofs::Placing::sum_more, crate::proofs::Stamping::vertex_is, crate::proofs::Scans::none_of, crate::proofs::Scans::first_none, crate::proofs::Scans::first_next, crate::proofs::Scans::first_stop), unfolding(columns_neighbors::specs::Lists::sum_to))]
+#[tactic(auto, using(crate::proofs::Stamping::room_laws, crate::proofs::Stamping::finding_laws), unfolding(columns_neighbors::specs::Lists::sum_to))]
 fn vertices_in(
     lengths: &[u32],
     numbers: &[u32],
@@ -187,7 +187,7 @@ fn list_ascends(numbers: &[u32], start: usize, len: usize) -> bool
 }
 
 // Whether the numbers of each list of n vertices ascend.
-#[tactic(auto, using(crate::proofs::Stamping::list_room, columns_neighbors::proofs::Placing::sum_more), unfolding(columns_neighbors::specs::Lists::sum_to))]
+#[tactic(auto, using(crate::proofs::Stamping::room_laws), unfolding(columns_neighbors::specs::Lists::sum_to))]
 fn lists_ascend(lengths: &[u32], numbers: &[u32], n: usize) -> bool
     requires { (n ≤ length lengths.now) × (sum_to n lengths.now ≤ length numbers.now) }
     ensures { result ≡ true → (u : ℕ) → u < n → Ascends numbers.now (sum_to u lengths.now) (get_or lengths.now u 0) }

@@ -4,11 +4,11 @@ ghost use Rattle.engine_columns.specs.Records.{counts, engine_in};
 ghost use Rattle.query_questions.specs.Scratch.{scratch_in};
 ghost use Rattle.query_paths.specs.GetPath.{GotPath};
 ghost use Rattle.query_crossing_answer.specs.Crossing.{FoundCrossing};
-ghost use Rattle.c_reports.specs.Reports.{Reported};
-ghost use Rattle.c_engine.specs.QueryReports.{ReportsPath, ReportsCrossing};
+ghost use Rattle.c_reports.specs.Reports.{Reported, ReportsCount};
+ghost use Rattle.c_engine.specs.QueryReports.{ReportsPath};
 
-use super::query_reports::{crossing_report, path_report};
-use c_reports::{OneCount, TwoCounts};
+use super::query_reports::path_report;
+use c_reports::{OneCount, TwoCounts, count_report};
 use columns::{TableWeight, VertexIndex, Weight};
 use engine_columns::EngineCounts;
 
@@ -90,11 +90,11 @@ pub extern "C" fn moldingcress_crossing(
     node: &mut [u64],
     leaf: &mut [u64],
 ) -> OneCount
-    ensures { Reported ReportsCrossing (λ r. FoundCrossing (engine_in (counts vertices edges entries) ends_a.now ends_b.now weights.now boundary.now log_edges.now log_weights.now) r out_weight.old out_weight.new
+    ensures { Reported ReportsCount (λ r. FoundCrossing (engine_in (counts vertices edges entries) ends_a.now ends_b.now weights.now boundary.now log_edges.now log_weights.now) r out_weight.old out_weight.new
         (scratch_in neighbor_numbers.old list_ends.old status.old weight.old previous.old node.old leaf.old)
         (scratch_in neighbor_numbers.new list_ends.new status.new weight.new previous.new node.new leaf.new)) result }
 {
-    crossing_report(query_crossings::crossing(
+    count_report(query_crossings::crossing(
         EngineCounts {
             vertices,
             edges,

@@ -5,11 +5,11 @@ ghost use Rattle.query_questions.specs.Scratch.{scratch_in};
 ghost use Rattle.prebuilt_calls.specs.Rows.{FilledRow};
 ghost use Rattle.prebuilt_calls.specs.Nearest.{GotBoundaryWeight};
 ghost use Rattle.prebuilt_calls.specs.Boundaries.{FilledBoundaries};
-ghost use Rattle.c_reports.specs.Reports.{Reported, ReportsDone};
+ghost use Rattle.c_reports.specs.Reports.{Reported, ReportsNumber};
 ghost use Rattle.c_engine.specs.PrebuiltReports.{ReportsBoundary};
 
 use super::prebuilt_reports::{BoundaryReport, boundary_report};
-use c_reports::done_number;
+use c_reports::number_of;
 use columns::{TableWeight, VertexIndex, Weight};
 use engine_columns::EngineCounts;
 
@@ -38,12 +38,12 @@ pub extern "C" fn moldingcress_fill_row(
     node: &mut [u64],
     leaf: &mut [u64],
 ) -> u32
-    ensures { Reported ReportsDone (λ r. FilledRow (engine_in (counts vertices edges entries) ends_a.now ends_b.now weights.now boundary.now log_edges.now log_weights.now) vertex nearest.now r
+    ensures { Reported ReportsNumber (λ r. FilledRow (engine_in (counts vertices edges entries) ends_a.now ends_b.now weights.now boundary.now log_edges.now log_weights.now) vertex nearest.now r
         out.old out.new before.old before.new
         (scratch_in neighbor_numbers.old list_ends.old status.old weight.old previous.old node.old leaf.old)
         (scratch_in neighbor_numbers.new list_ends.new status.new weight.new previous.new node.new leaf.new)) result }
 {
-    done_number(prebuilt_calls::fill_row(
+    number_of(prebuilt_calls::fill_row(
         EngineCounts {
             vertices,
             edges,
@@ -146,12 +146,12 @@ pub extern "C" fn moldingcress_fill_boundaries(
     node: &mut [u64],
     leaf: &mut [u64],
 ) -> u32
-    ensures { Reported ReportsDone (λ r. FilledBoundaries (engine_in (counts vertices edges entries) ends_a.now ends_b.now weights.now boundary.now log_edges.now log_weights.now) r
+    ensures { Reported ReportsNumber (λ r. FilledBoundaries (engine_in (counts vertices edges entries) ends_a.now ends_b.now weights.now boundary.now log_edges.now log_weights.now) r
         out_weight.old out_weight.new out_vertex.old out_vertex.new least.old least.new before.old before.new
         (scratch_in neighbor_numbers.old list_ends.old status.old weight.old previous.old node.old leaf.old)
         (scratch_in neighbor_numbers.new list_ends.new status.new weight.new previous.new node.new leaf.new)) result }
 {
-    done_number(prebuilt_calls::boundaries::fill_boundaries(
+    number_of(prebuilt_calls::boundaries::fill_boundaries(
         EngineCounts {
             vertices,
             edges,

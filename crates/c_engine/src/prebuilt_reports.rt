@@ -2,7 +2,8 @@
 ghost use Rattle.c_engine.specs.PrebuiltReports.{ReportsBoundary};
 
 use columns::Weight;
-use prebuilt_calls::nearest::BoundaryAnswer;
+use columns::refusal::Refusal;
+use prebuilt_calls::nearest::BoundaryVertex;
 
 // `found` is 1 where there is a virtual vertex, 0 where there is none.
 #[repr(C)]
@@ -14,24 +15,24 @@ pub struct BoundaryReport {
     pub weight: Weight,
 }
 
-pub fn boundary_report(answer: BoundaryAnswer) -> BoundaryReport
+pub fn boundary_report(answer: Result<Option<BoundaryVertex>, Refusal>) -> BoundaryReport
     ensures { ReportsBoundary answer result }
 {
     match answer {
-        BoundaryAnswer::Nearest(vertex, weight) => BoundaryReport {
+        Ok(Some(nearest)) => BoundaryReport {
             number: 0,
             found: 1,
-            vertex: vertex.0,
-            weight,
+            vertex: nearest.vertex.0,
+            weight: nearest.weight,
         },
-        BoundaryAnswer::NoBoundary => BoundaryReport {
+        Ok(None) => BoundaryReport {
             number: 0,
             found: 0,
             vertex: 0,
             weight: 0,
         },
-        BoundaryAnswer::Refused(number) => BoundaryReport {
-            number,
+        Err(refusal) => BoundaryReport {
+            number: u32::from(refusal),
             found: 0,
             vertex: 0,
             weight: 0,

@@ -1,37 +1,24 @@
-// Answers as structs of numbers.
-ghost use Rattle.c_engine.specs.QueryReports.{ReportsPath, ReportsCrossing};
+// A path's answer as a struct of numbers.
+ghost use Rattle.c_engine.specs.QueryReports.{ReportsPath};
 
-use c_reports::{OneCount, TwoCounts};
-use query_crossing_answer::CrossingReply;
-use query_paths::PathAnswer;
+use c_reports::TwoCounts;
+use columns::refusal::Refusal;
+use query_paths::PathCounts;
 
 // The path's length and total.
-pub fn path_report(answer: PathAnswer) -> TwoCounts
+pub fn path_report(answer: Result<PathCounts, Refusal>) -> TwoCounts
     ensures { ReportsPath answer result }
 {
     match answer {
-        PathAnswer::Found(count, total) => TwoCounts {
+        Ok(path) => TwoCounts {
             number: 0,
-            first: count,
-            second: total,
+            first: path.length,
+            second: path.total,
         },
-        PathAnswer::Refused(number) => TwoCounts {
-            number,
+        Err(refusal) => TwoCounts {
+            number: u32::from(refusal),
             first: 0,
             second: 0,
         },
-    }
-}
-
-// The crossing weight.
-pub fn crossing_report(answer: CrossingReply) -> OneCount
-    ensures { ReportsCrossing answer result }
-{
-    match answer {
-        CrossingReply::Crossed(weight) => OneCount {
-            number: 0,
-            count: weight,
-        },
-        CrossingReply::Refused(number) => OneCount { number, count: 0 },
     }
 }

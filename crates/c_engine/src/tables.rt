@@ -1,11 +1,11 @@
-ghost use Rattle.c_reports.specs.Reports.{Reported, ReportsDone};
+ghost use Rattle.c_reports.specs.Reports.{Reported, ReportsNumber};
 ghost use Rattle.c_reports.specs.Engine.{given_end, no_end};
 ghost use Rattle.query_tables.specs.Tables.{FoundTable};
 ghost use Rattle.query_questions.specs.Scratch.{scratch_in};
 ghost use Rattle.engine_columns.specs.Records.{counts, engine_in};
 
-use c_reports::done_number;
 use c_reports::engine::end_of;
+use c_reports::number_of;
 use columns::{TableWeight, VertexIndex, Weight};
 use engine_columns::EngineCounts;
 
@@ -36,12 +36,12 @@ pub extern "C" fn moldingcress_all_edges_with_terminate(
     node: &mut [u64],
     leaf: &mut [u64],
 ) -> u32
-    ensures { Reported ReportsDone (λ r. FoundTable (engine_in (counts vertices edges entries) ends_a.now ends_b.now weights.now boundary.now log_edges.now log_weights.now) source (given_end has_end end) r
+    ensures { Reported ReportsNumber (λ r. FoundTable (engine_in (counts vertices edges entries) ends_a.now ends_b.now weights.now boundary.now log_edges.now log_weights.now) source (given_end has_end end) r
         out_weight.old out_weight.new out_previous.old out_previous.new
         (scratch_in neighbor_numbers.old list_ends.old status.old weight.old previous.old node.old leaf.old)
         (scratch_in neighbor_numbers.new list_ends.new status.new weight.new previous.new node.new leaf.new)) result }
 {
-    done_number(query_tables::all_edges_with_terminate(
+    number_of(query_tables::all_edges_with_terminate(
         EngineCounts {
             vertices,
             edges,
@@ -90,12 +90,12 @@ pub extern "C" fn moldingcress_all_edges(
     node: &mut [u64],
     leaf: &mut [u64],
 ) -> u32
-    ensures { Reported ReportsDone (λ r. FoundTable (engine_in (counts vertices edges entries) ends_a.now ends_b.now weights.now boundary.now log_edges.now log_weights.now) source no_end r
+    ensures { Reported ReportsNumber (λ r. FoundTable (engine_in (counts vertices edges entries) ends_a.now ends_b.now weights.now boundary.now log_edges.now log_weights.now) source no_end r
         out_weight.old out_weight.new out_previous.old out_previous.new
         (scratch_in neighbor_numbers.old list_ends.old status.old weight.old previous.old node.old leaf.old)
         (scratch_in neighbor_numbers.new list_ends.new status.new weight.new previous.new node.new leaf.new)) result }
 {
-    done_number(query_tables::all_edges(
+    number_of(query_tables::all_edges(
         EngineCounts {
             vertices,
             edges,

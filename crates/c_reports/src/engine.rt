@@ -1,11 +1,10 @@
-// Answers as structs of numbers, and enum arguments from numbers.
+// Answers as structs of numbers, and an optional argument from numbers.
 ghost use Rattle.std.specs.Prelude.{◌≡◌};
 ghost use Rattle.c_reports.specs.Engine.{ReportsEngine, given_end};
 
 use columns::VertexIndex;
 use columns::refusal::Refusal;
 use engine_columns::EngineCounts;
-use query_tables::End;
 
 #[repr(C)]
 #[derive(Clone, Copy)]
@@ -37,11 +36,12 @@ pub fn engine_report(answer: Result<EngineCounts, Refusal>) -> EngineReport
 }
 
 // The end of a search, if there is one: any byte but 0 says so.
-pub fn end_of(has_end: u8, end: u32) -> End
+pub fn end_of(has_end: u8, end: u32) -> Option<VertexIndex>
     ensures { result ≡ given_end has_end end }
 {
     if has_end == 0 {
-        return End::None;
+        None
+    } else {
+        Some(VertexIndex(end))
     }
-    End::At(VertexIndex(end))
 }

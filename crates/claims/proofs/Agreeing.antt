@@ -20,16 +20,16 @@ use Rattle.engine_tally.proofs.Agreement.{Agrees, long_same}
 use Rattle.engine_columns.proofs.Refusals.{sound_from}
 use Rattle.engine_walks.specs.Graph.{edges, GraphInRange}
 use Rattle.engine_walks.specs.Answers.{crossing, least_from_left, weight_in}
-use Rattle.query_crossing_answer.specs.declared.CrossingReply.{CrossingReply}
-use Rattle.query_crossing_answer.specs.declared.CrossingReply.TheVariants.{Crossed}
+use Rattle.std.specs.Prelude.{Result, Ok}
+use Rattle.columns.specs.declared.refusal.Refusal.{Refusal}
 use Rattle.query_questions.specs.Queries as Q
 use Rattle.query_crossing_answer.specs.Crossing as C
-use Rattle.query_crossing_answer.specs.Crossing.{is_joined, weight_found, reply_number, crossing_said}
+use Rattle.query_crossing_answer.specs.Crossing.{is_joined, weight_found, reply_number}
 use Rattle.query_crossing_answer.proofs.Cases.{crossed_case}
 use Rattle.query_crossings.proofs.Crossings.{left-length}
 use Rattle.query_search.proofs.Ranges.{in_range}
 use Rattle.claims.specs.Listed.{OwnLengths, tally_graph, tally_weights, crossing_long, before18, tally_crossing_refusal}
-use Rattle.columns_answers.specs.Said.{Answered}
+use Rattle.columns_answers.specs.Said.{said, Answered}
 use Rattle.query_questions.specs.Scratch.{scratch_long}
 
 -- whether scratch is long enough, from its lengths
@@ -37,9 +37,9 @@ abbrev fits : Engine → OwnLengths → Bool
 fits e o = scratch_long e.counts o.scratch
 
 -- what a crossing answers and leaves in the weight column, from the lengths of its columns
-pub record CrossingBy (e : Engine) (o : OwnLengths) (r : CrossingReply) (column₀ column : List ℤ) : Type 0 where
+pub record CrossingBy (e : Engine) (o : OwnLengths) (r : Result ℕ Refusal) (column₀ column : List ℤ) : Type 0 where
   pub same : length column₀ ≡ o.weights
-  pub answers : Answered (crossing_said r) (C.crossing_refusal e (fits e o) (length column₀)) (weight_found (crossing (Q.graph_in e) (Q.weights_in e))) 0
+  pub answers : Answered (said 0 r) (C.crossing_refusal e (fits e o) (length column₀)) (weight_found (crossing (Q.graph_in e) (Q.weights_in e))) 0
   pub weights_after : column ≡ after (C.crossing_refusal e (fits e o) (length column₀)) (least_from_left (Q.graph_in e) (Q.weights_in e)) column₀
 
 -- a question that did not stop the call leads to the next
@@ -76,7 +76,7 @@ module _ (t : Tally) (e : Engine) (a : Agrees t e) where
       (λ i. ask (long_same 0 e t.counts a.counts_are i && (leb (a.counts_are i).vertices o.weights && scratch_long (a.counts_are i) o.scratch)) 6
       (ask (sound_from e a.sound i) 7 (ask (is_joined (crossing (graph_same i) (weights-same i))) 18 0)))
 
-  module _ (o : OwnLengths) (r : CrossingReply) (column₀ column : List ℤ) (step : CrossingBy e o r column₀ column) where
+  module _ (o : OwnLengths) (r : Result ℕ Refusal) (column₀ column : List ℤ) (step : CrossingBy e o r column₀ column) where
     abbrev number : ℕ
     number = C.crossing_refusal e (fits e o) (length column₀)
 
@@ -93,7 +93,7 @@ module _ (t : Tally) (e : Engine) (a : Agrees t e) where
     crossing-number = step.answers.number_is ∙ number-is-tally's
 
     -- what an accepted crossing reports
-    pub accepted-of : reply_number r ≡ 0 → (W : ℕ) × (found ≡ some W) × (r ≡ Crossed W) × (column ≡ over (least_from_left (tally_graph t) (tally_weights t)) column₀)
+    pub accepted-of : reply_number r ≡ 0 → (W : ℕ) × (found ≡ some W) × (r ≡ Ok W) × (column ≡ over (least_from_left (tally_graph t) (tally_weights t)) column₀)
     accepted-of z = go found refl
       where
         zero_number : number ≡ 0
@@ -103,12 +103,12 @@ module _ (t : Tally) (e : Engine) (a : Agrees t e) where
         refused true h = omega arith
         refused false h = omega arith
 
-        go : (c : Option ℕ) → found ≡ c → (W : ℕ) × (found ≡ some W) × (r ≡ Crossed W) × (column ≡ over (least_from_left (tally_graph t) (tally_weights t)) column₀)
+        go : (c : Option ℕ) → found ≡ c → (W : ℕ) × (found ≡ some W) × (r ≡ Ok W) × (column ≡ over (least_from_left (tally_graph t) (tally_weights t)) column₀)
         go none q = absurd (refused (crossing_long (lengths_of e) o t.counts) (sym (ap (λ c. ask (crossing_long (lengths_of e) o t.counts) 6 (ask (is_joined c) 18 0)) q) ∙ sym number-is-tally's ∙ zero_number))
         go (some W) q = (
           W,
           q,
-          crossed_case r step.answers zero_number ∙ ap (λ c. Crossed (weight_found c)) (found-same ∙ q),
+          crossed_case r step.answers zero_number ∙ ap (λ c. Ok (weight_found c)) (found-same ∙ q),
           step.weights_after ∙ (λ i. after number (least_from_left (graph_same i) (weights-same i)) column₀) ∙ after-accepted number (least_from_left (tally_graph t) (tally_weights t)) column₀ zero_number,
         )
 

@@ -20,14 +20,15 @@ use Rattle.engine_walks.specs.Claims.{IsCrossing, CrossingAnswer, LeftWeight}
 use Rattle.engine_walks.proofs.LeastCrossing.{crossing_is_least}
 use Rattle.query_questions.specs.Queries.{graph_in, weights_in}
 use Rattle.query_questions.specs.Scratch.{ScratchColumns, scratch_fits}
-use Rattle.query_crossing_answer.specs.declared.CrossingReply.{CrossingReply}
+use Rattle.std.specs.Prelude.{Result}
+use Rattle.columns.specs.declared.refusal.Refusal.{Refusal}
 use Rattle.query_crossing_answer.specs.Crossing.{reply_number, is_joined, weight_found, crossing_refusal, FoundCrossing}
 use Rattle.claims.specs.QueriesCalled.{crossing_returned}
 use Rattle.claims.specs.Met.{CrossingMet}
 use Rattle.claims.specs.Queries.{CrossingSays, CrossingCallIsLeast}
 use Rattle.claims.proofs.Questions.{longAll, crossing-met, crossing-long, columns_in_range}
 
-module _ (e : Engine) (r : CrossingReply) (weights₀ weights : List ℤ) (scratch₀ scratch : ScratchColumns) (step : FoundCrossing e r weights₀ weights scratch₀ scratch) where
+module _ (e : Engine) (r : Result ℕ Refusal) (weights₀ weights : List ℤ) (scratch₀ scratch : ScratchColumns) (step : FoundCrossing e r weights₀ weights scratch₀ scratch) where
   abbrev g : Graph
   g = graph_in e
 

@@ -8,7 +8,7 @@ use native.Mathlib.Omega.{arith}
 use lib.ListN.{length, take}
 use lib.Dec.{eqb}
 use Rattle.columns.proofs.Columns.{take-over}
-use Rattle.columns_answers.proofs.Said.{values_of}
+use Rattle.columns_answers.proofs.Said.{values_of, question-of}
 use Rattle.engine_columns.specs.Records.{Engine}
 use Rattle.engine_walks.specs.Graph.{Graph, Joined, Walk}
 use Rattle.engine_walks.specs.Answers.{FoundPath, path}
@@ -16,8 +16,11 @@ use Rattle.engine_walks.specs.Claims.{Route, arrived, onto, IsPath, PathAnswer}
 use Rattle.engine_walks.proofs.TableAndPath.{path_is_least}
 use Rattle.query_questions.specs.Queries.{graph_in, weights_in}
 use Rattle.query_questions.specs.Scratch.{ScratchColumns, scratch_fits}
-use Rattle.query_paths.specs.declared.PathAnswer.{PathAnswer as Reply}
-use Rattle.query_paths.specs.GetPath.{found_said, length_of, length_and_total, vertices_after, steps_after, GotPath}
+use Rattle.std.specs.Prelude.{Result}
+use Rattle.columns.specs.declared.refusal.Refusal.{Refusal}
+use Rattle.columns.specs.Refusals.{question_of}
+use Rattle.query_paths.specs.declared.PathCounts.{PathCounts}
+use Rattle.query_paths.specs.GetPath.{length_of, length_and_total, vertices_after, steps_after, GotPath}
 use Rattle.query_paths.specs.GetPath as P
 use Rattle.query_paths.proofs.PathAsked.{before-17}
 use Rattle.claims.specs.QueriesCalled.{PathColumns, path_returned}
@@ -34,7 +37,7 @@ route_same (onto e h j c r) = ap suc (route_same r)
 path_joins : {g : Graph} {w : ℕ → ℕ} {a b : ℕ} {p : FoundPath} → IsPath g w a b p → Joined g a b
 path_joins {g} {w} {a} {b} i = let (x, s, e, k, q) = i.least.some_walk in (s, subst (λ y. Walk g y s b) e k)
 
-module _ (e : Engine) (a b : ℕ) (r : Reply) (columns₀ columns : PathColumns) (scratch₀ scratch : ScratchColumns)
+module _ (e : Engine) (a b : ℕ) (r : Result PathCounts Refusal) (columns₀ columns : PathColumns) (scratch₀ scratch : ScratchColumns)
     (step : GotPath e a b r columns₀.vertices columns.vertices columns₀.steps columns.steps scratch₀ scratch) where
   abbrev number : ℕ
   number = pathNumber e a b columns₀ scratch₀
@@ -51,38 +54,38 @@ module _ (e : Engine) (a b : ℕ) (r : Reply) (columns₀ columns : PathColumns)
   unmet : {n : ℕ} → number ≡ suc n → PathMet e a b columns₀ scratch₀ → ⊥
   unmet d m = omega (arith, d, path-number e a b columns₀ scratch₀ m)
 
-  replies : (n : ℕ) (o : Option FoundPath) → number ≡ n → path g w a b ≡ o → (found_said r).number ≡ P.path_refusal n o
-  replies n o d p = step.answers.number_is ∙ (λ i. P.path_refusal (d i) (p i))
+  replies : (n : ℕ) (o : Option FoundPath) → number ≡ n → path g w a b ≡ o → question_of r ≡ P.path_refusal n o
+  replies n o d p = question-of r step.answers ∙ (λ i. P.path_refusal (d i) (p i))
 
   by-case : (n : ℕ) (o : Option FoundPath) → number ≡ n → path g w a b ≡ o → (n ≡ 0 → PathAnswer g w a b o) → PathSays e a b r columns₀ columns scratch₀
   by-case (suc n) o d p h =
-      let q : (found_said r).number ≡ suc n = replies (suc n) o d p in
+      let q : question_of r ≡ suc n = replies (suc n) o d p in
       record {
         not_reached = ((λ z. absurd (before-17 e (scratch_fits e.counts scratch₀) a b (length columns₀.vertices) (length columns₀.steps) (d ∙ sym q ∙ z))), λ z. absurd (unmet d z.0));
         reached = ((λ z. absurd (omega (arith, z, q))), λ z. absurd (unmet d z.0));
         least = λ z. absurd (omega (arith, z, q));
       }
   by-case zero none d p h =
-      let q : (found_said r).number ≡ 17 = replies 0 none d p in
+      let q : question_of r ≡ 17 = replies 0 none d p in
       record {
         not_reached = ((λ z. (met d, h refl)), λ z. q);
         reached = ((λ z. absurd (omega (arith, z, q))), λ z. absurd (h refl z.1));
         least = λ z. absurd (omega (arith, z, q));
       }
   by-case zero (some f) d p h =
-      let q : (found_said r).number ≡ 0 = replies 0 (some f) d p in
+      let q : question_of r ≡ 0 = replies 0 (some f) d p in
       let x = values_of step.answers (λ i. P.path_refusal (d i) (p i)) ∙ ap length_and_total p in
       let i : IsPath g w a b f = h refl in
       let ev : take (length_of r) columns.vertices ≡ f.vertices =
-      (λ j. take (x j).0 ((step.vertices_after_holds ∙ (λ k. cond (eqb (d k) 0) (vertices_after (p k) columns₀.vertices) columns₀.vertices)) j))
+      (λ j. take (x j).length ((step.vertices_after_holds ∙ (λ k. cond (eqb (d k) 0) (vertices_after (p k) columns₀.vertices) columns₀.vertices)) j))
       ∙ take-over f.vertices columns₀.vertices (length f.vertices) refl in
       let es : take (length_of r) columns.steps ≡ f.steps =
-      (λ j. take (x j).0 ((step.steps_after_holds ∙ (λ k. cond (eqb (d k) 0) (steps_after (p k) columns₀.steps) columns₀.steps)) j))
+      (λ j. take (x j).length ((step.steps_after_holds ∙ (λ k. cond (eqb (d k) 0) (steps_after (p k) columns₀.steps) columns₀.steps)) j))
       ∙ take-over f.steps columns₀.steps (length f.vertices) (route_same i.route) in
       record {
         not_reached = ((λ z. absurd (omega (arith, z, q))), λ z. absurd (z.1 (path_joins i)));
         reached = ((λ z. (met d, path_joins i)), λ z. q);
-        least = λ z. subst (λ (k : FoundPath). IsPath g w a b k) (sym (λ j. record { vertices = ev j; steps = es j; total = (x j).1 })) i;
+        least = λ z. subst (λ (k : FoundPath). IsPath g w a b k) (sym (λ j. record { vertices = ev j; steps = es j; total = (x j).total })) i;
       }
 
   path-says : PathSays e a b r columns₀ columns scratch₀

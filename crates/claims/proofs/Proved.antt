@@ -31,7 +31,6 @@ use Rattle.engine_walks.specs.Claims.{CrossingAnswer, IsCrossing, LeftWeight, No
 use Rattle.engine_walks.proofs.LeastCrossing.{crossing_is_least}
 use Rattle.engine_walks.proofs.TwoGraphs.{weights_compare}
 use Rattle.query_questions.specs.Scratch.{ScratchColumns, scratch_of, scratch_long}
-use Rattle.query_crossing_answer.specs.declared.CrossingReply.TheVariants.{Crossed}
 use Rattle.query_crossing_answer.specs.Crossing.{reply_number, reply_weight, weight_found}
 use Rattle.claims.specs.Listed.{CallArguments, modify_by, cross_with, listed_calls, own_lengths, tally_graph, crossing_long, before18, tally_crossing_refusal, modifying, modifying_answers, numbers}
 use Rattle.claims.specs.Called.{OpenReturned, open_called, crossing_called, no_call}
@@ -84,7 +83,7 @@ module _ (h : History) where
     number = crossing-number (tally_last h) h.at_end agrees c.own c.reply c.column₀ c.column step
 
     abbrev pub Reports : Type 0
-    Reports = (W : ℕ) × (found ≡ some W) × (c.reply ≡ Crossed W) × (c.column ≡ over (least_from_left (graph_at_end h) (weights_at_end h)) c.column₀)
+    Reports = (W : ℕ) × (found ≡ some W) × (c.reply ≡ Ok W) × (c.column ≡ over (least_from_left (graph_at_end h) (weights_at_end h)) c.column₀)
 
     pub reports : reply_number c.reply ≡ 0 → Reports
     reports = accepted-of (tally_last h) h.at_end agrees c.own c.reply c.column₀ c.column step
@@ -114,7 +113,7 @@ module _ (h : History) where
         back j = by found refl least j
 
     distance : (kind d rounds : ℕ) → BuiltGraph kind d rounds h.vertices h.edges h.handed.ends_a h.handed.ends_b h.handed.boundary
-        → ((k : ℕ) → k < h.edges → weights_at_end h k ≡ 1) → refused_before h c ≡ 0 → c.reply ≡ Crossed d
+        → ((k : ℕ) → k < h.edges → weights_at_end h k ≡ 1) → refused_before h c ≡ 0 → c.reply ≡ Ok d
     distance kind d rounds b ones z =
         let same = (weights_compare (graph_at_end h) (graph_at_end h) (weights_at_end h) (λ k. 1) in_range
         (record { same_vertices = refl; same_edges = refl; same_a = λ e l. refl; same_b = λ e l. refl; same_byte = λ v l. refl })).1 in
@@ -122,7 +121,7 @@ module _ (h : History) where
         ∙ ap (λ (g : Graph). crossing g (λ k. 1)) graph-first
         ∙ built_distance kind d rounds h.vertices h.edges h.handed b in
         let (W, q, r, k) = reports (accepted z d f) in
-        r ∙ ap Crossed (same_some W d (sym q ∙ f))
+        r ∙ ap Ok (same_some W d (sym q ∙ f))
       where
         same_some : (x y : ℕ) → some x ≡ some y → x ≡ y
         same_some x y p = ap weight_found p
@@ -221,7 +220,7 @@ one_history = record {
   crossing = one-crossing;
   reports =
       let (W, f, r, k) = reports one one-crossing (accepted one one-crossing one_asked 3 one_found) in
-      r ∙ ap (λ o. Crossed (weight_found o)) (sym f ∙ one_found);
+      r ∙ ap (λ o. Ok (weight_found o)) (sym f ∙ one_found);
 }
 
 -- ---- a built code, opened with every weight 1

@@ -19,8 +19,8 @@ use Rattle.engine_walks.specs.Answers.{TableColumns}
 use Rattle.query_questions.specs.Queries.{query_refusal}
 use Rattle.query_questions.specs.Scratch.{ScratchColumns, scratch_fits}
 use Rattle.query_search.proofs.Ranges.{in_range}
-use Rattle.query_tables.specs.declared.End.{End}
-use Rattle.query_tables.specs.declared.End.TheVariants.{None, At}
+use Rattle.std.specs.Prelude.{Option, Some, None}
+use Rattle.columns.specs.declared.VertexIndex.{VertexIndex}
 use Rattle.query_tables.specs.Ends.{end_in, end_in_range}
 use Rattle.query_tables.specs.Tables.{table_refusal}
 use Rattle.query_tables.proofs.Tables.{table_of}
@@ -36,15 +36,15 @@ query_met e fits in_range next p q r s = λ i. ask (both_and p q i) 6 (ask (r i)
 
 -- ---- a table
 
-end_of : (o : End) (n : ℕ) → end_in_range o n ≡ true → EndWithin n (end_in o)
+end_of : (o : Option VertexIndex) (n : ℕ) → end_in_range o n ≡ true → EndWithin n (end_in o)
 end_of None n h = tt
-end_of (At b) n h = ltb-true b.0 n h
+end_of (Some b) n h = ltb-true b.0 n h
 
-end_from : (o : End) (n : ℕ) → EndWithin n (end_in o) → end_in_range o n ≡ true
+end_from : (o : Option VertexIndex) (n : ℕ) → EndWithin n (end_in o) → end_in_range o n ≡ true
 end_from None n h = refl
-end_from (At b) n h = lt-ltb b.0 n h
+end_from (Some b) n h = lt-ltb b.0 n h
 
-module _ (e : Engine) (source : ℕ) (o : End) (columns : TableColumns) (scratch : ScratchColumns) where
+module _ (e : Engine) (source : ℕ) (o : Option VertexIndex) (columns : TableColumns) (scratch : ScratchColumns) where
   abbrev pub tableNumber : ℕ
   tableNumber = table_refusal e (scratch_fits e.counts scratch) source o (length columns.weights) (length columns.previous)
 

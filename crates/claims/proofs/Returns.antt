@@ -1,13 +1,13 @@
 -- Every open, load, reset and crossing has an answer and columns with what its callers learn, and every list of them answers and an engine at its end: the relations that
 -- the contracts cite are equations for the answer and for each column, and what a search leaves in scratch is built from the state it settles in. Assumes nothing.
 use mathlib.Core.Path.{◌≡◌, refl, ap, ◌∙◌, subst}
-use mathlib.Core.Bool.{Bool, true, false, cond}
+use mathlib.Core.Bool.{Bool, true, false, cond, ◌&&◌}
 use mathlib.Core.List.{List, [], ◌∷◌, ◌++◌}
 use Prim.Native.Nat.{ℕ, ◌+◌}
 use native.Mathlib.Omega.{arith}
 use lib.ListN.{length, take, drop}
 use lib.Seq.{drop_at}
-use lib.Dec.{eqb}
+use lib.Dec.{leb, eqb}
 use borrow.Author.Tests.{eqb-true, eqb-false}
 use lib.IntN.{ℤ}
 use contract.Lifetimes.{Lfts}
@@ -41,9 +41,7 @@ use Rattle.engine_walks.specs.Answers.{crossing, from_left, least_from_left}
 use Rattle.query_relaxing.specs.Ready.{key_of}
 use Rattle.query_questions.specs.Queries.{graph_in, weights_in}
 use Rattle.query_questions.specs.Scratch.{ScratchColumns, scratch_of, scratch_fits, is_free, SearchAfter, ScratchAfter}
-use Rattle.query_crossing_answer.specs.declared.CrossingReply.{CrossingReply}
-use Rattle.query_crossing_answer.specs.declared.CrossingReply.TheVariants as reply
-use Rattle.query_crossing_answer.specs.Crossing.{crossing_said, reply_number, weight_found, crossing_refusal}
+use Rattle.query_crossing_answer.specs.Crossing.{reply_number, is_joined, weight_found, crossing_refusal}
 use Rattle.engine_calls.proofs.open.Kinds as open-kinds
 use Rattle.engine_calls.proofs.load_erasures.Kinds as erasures-kinds
 use Rattle.engine_calls.proofs.load_dynamic_weights.Kinds as weights-kinds
@@ -221,25 +219,20 @@ module _ (g : Graph) (s : State) (scratch₀ : ScratchColumns) where
       kept-so true e = absurd (let z : ◌≡◌ {A = ℕ} 0 1 = cc in omega arith)
       kept-so false e = refl
 
-abbrev reply_by : Bool → ℕ → ℕ → CrossingReply
-reply_by true q weight = reply.Crossed weight
-reply_by false q weight = reply.Refused q
-
-replies : (q weight : ℕ) → Answered (crossing_said (reply_by (eqb q 0) q weight)) q weight 0
-replies q weight = either (eqb q 0) refl
-  where
-    either : (b : Bool) → eqb q 0 ≡ b → Answered (crossing_said (reply_by b q weight)) q weight 0
-    either true e = accepts-of (eqb-true q 0 e)
-    either false e = refuses-of refl (eqb-false q 0 e)
+crossing_named : (e : Engine) (scratch : Bool) (weights : ℕ) → Named (crossing_refusal e scratch weights)
+crossing_named e scratch weights =
+    asks (engine_long 0 e && (leb e.counts.vertices weights && scratch)) refusal.ShortColumn
+    (asks (engine_sound e) refusal.UnsoundColumns (asks (is_joined (crossing (graph_in e) (weights_in e))) refusal.NoCrossing all_met))
 
 pub crossing_returns : (e : Engine) (weights₀ : List ℤ) (scratch₀ : ScratchColumns)
-    → (r : CrossingReply) × (weights : List ℤ) × (scratch : ScratchColumns) × CrossingReturned e r weights₀ weights scratch₀ scratch
+    → (r : Result ℕ Refusal) × (weights : List ℤ) × (scratch : ScratchColumns) × CrossingReturned e r weights₀ weights scratch₀ scratch
 crossing_returns e weights₀ scratch₀ =
     let κs : Lfts 14 = ([], ([], ([], ([], ([], ([], eight)))))) in
     let g = graph_in e in
     let w = weights_in e in
     let q = crossing_refusal e (scratch_fits e.counts scratch₀) (length weights₀) in
-    let r = reply_by (eqb q 0) q (weight_found (crossing g w)) in
+    let k = crossing_named e (scratch_fits e.counts scratch₀) (length weights₀) in
+    let r = answer_by (eqb q 0) k.refusal (weight_found (crossing g w)) in
     let weights = after q (least_from_left g w) weights₀ in
     let c = scratchBy g (from_left g w) scratch₀ (reply_number r) in
     let a : Dens κs crossing-kinds.ps = (
@@ -292,7 +285,7 @@ crossing_returns e weights₀ scratch₀ =
         ),
       ),
     ) in
-    (_, _, _, crossing_returned κs a r s (record { answers = replies q _; weights_after = refl; scratch_after = scratch_after g (from_left g w) scratch₀ (reply_number r) }))
+    (_, _, _, crossing_returned κs a r s (record { answers = says q k _ 0; weights_after = refl; scratch_after = scratch_after g (from_left g w) scratch₀ (reply_number r) }))
 
 -- ---- lists
 

@@ -15,7 +15,6 @@ use Rattle.engine_tally.specs.Tally.{Tally, tally_of, lengths_of, tally_refusal,
 use Rattle.engine_tally.proofs.Agreement.{Agrees, step_agrees, opened_agrees}
 use Rattle.engine_columns.proofs.Refusals.{opens_of}
 use Rattle.query_questions.specs.Scratch.{ScratchColumns}
-use Rattle.query_crossing_answer.specs.declared.CrossingReply.{CrossingReply}
 use Rattle.query_crossing_answer.specs.Crossing.{FoundCrossing}
 use Rattle.claims.specs.Listed.{OwnLengths, ListedCall, modifies, crosses, modifying, modifying_answers, tally_at_end, numbers}
 use Rattle.claims.specs.QueriesCalled.{CrossingReturned, crossing_returned}
@@ -28,11 +27,11 @@ step_of call e r e₁ (load_erasures_called κs a q s h) = h
 step_of call e r e₁ (load_weights_called κs a q s h) = h
 step_of call e r e₁ (reset_called κs a q s h) = h
 
-found_of : (e : Engine) (r : CrossingReply) (column₀ column : List ℤ) (scratch₀ scratch : ScratchColumns) → CrossingReturned e r column₀ column scratch₀ scratch
+found_of : (e : Engine) (r : Result ℕ Refusal) (column₀ column : List ℤ) (scratch₀ scratch : ScratchColumns) → CrossingReturned e r column₀ column scratch₀ scratch
     → FoundCrossing e r column₀ column scratch₀ scratch
 found_of e r column₀ column scratch₀ scratch (crossing_returned κs a q s h) = h
 
-pub crossing_of : (e : Engine) (o : OwnLengths) (r : CrossingReply) (column₀ column : List ℤ) → CrossingCalled e o r column₀ column
+pub crossing_of : (e : Engine) (o : OwnLengths) (r : Result ℕ Refusal) (column₀ column : List ℤ) → CrossingCalled e o r column₀ column
     → CrossingBy e o r column₀ column
 crossing_of e o r column₀ column (crossing_called scratch₀ scratch c) =
     let h = found_of e r column₀ column scratch₀ scratch c in

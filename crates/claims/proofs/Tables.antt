@@ -2,8 +2,11 @@
 use mathlib.Core.Path.{◌≡◌, sym, ap, ◌∙◌, subst}
 use Prim.Native.Nat.{ℕ}
 use lib.ListN.{take}
-use Rattle.columns_answers.specs.Done.{done_said}
-use Rattle.columns.specs.declared.Done.{Done}
+use Rattle.std.specs.Prelude.{Option, None, Result}
+use Rattle.columns.specs.declared.refusal.Refusal.{Refusal}
+use Rattle.columns.specs.Refusals.{question_of}
+use Rattle.columns.specs.declared.VertexIndex.{VertexIndex}
+use Rattle.columns_answers.proofs.Said.{question-of}
 use Rattle.columns.proofs.Columns.{take-over, after-accepted}
 use Rattle.engine_columns.specs.Records.{Engine}
 use Rattle.engine_walks.specs.Answers.{TableColumns, table}
@@ -11,21 +14,19 @@ use Rattle.engine_walks.specs.Claims.{IsTable}
 use Rattle.engine_walks.proofs.TableAndPath.{table_is_least}
 use Rattle.query_questions.specs.Queries.{graph_in, weights_in}
 use Rattle.query_questions.specs.Scratch.{ScratchColumns}
-use Rattle.query_tables.specs.declared.End.{End}
-use Rattle.query_tables.specs.declared.End.TheVariants.{None}
 use Rattle.query_tables.specs.Ends.{end_in}
 use Rattle.query_tables.specs.Tables.{FoundTable}
 use Rattle.claims.specs.QueriesCalled.{end_returned, all_returned}
 use Rattle.claims.specs.Queries.{TableSays, AllEdgesIsLeast}
 use Rattle.claims.proofs.Questions.{tableNumber, table-met, table-number, columns_in_range}
 
-module _ (e : Engine) (source : ℕ) (o : End) (r : Done) (columns₀ columns : TableColumns) (scratch₀ scratch : ScratchColumns)
+module _ (e : Engine) (source : ℕ) (o : Option VertexIndex) (r : Result (Unit {0}) Refusal) (columns₀ columns : TableColumns) (scratch₀ scratch : ScratchColumns)
     (step : FoundTable e source o r columns₀.weights columns.weights columns₀.previous columns.previous scratch₀ scratch) where
   abbrev number : ℕ
   number = tableNumber e source o columns₀ scratch₀
 
-  is_number : (done_said r).number ≡ number
-  is_number = step.answers.number_is
+  is_number : question_of r ≡ number
+  is_number = question-of r step.answers
 
   -- the first places of the columns left
   abbrev first : TableColumns

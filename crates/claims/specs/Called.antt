@@ -12,7 +12,6 @@ use Rattle.engine_columns.specs.Records.{Engine, engine, kept, engine_in}
 use Rattle.engine_columns.specs.Calls.{Call, load_erasures, load_weights, reset}
 use Rattle.engine_columns.specs.Open.{GraphColumns, graph_columns}
 use Rattle.engine_tally.specs.Tally.{lengths_of}
-use Rattle.query_crossing_answer.specs.declared.CrossingReply.{CrossingReply}
 use Rattle.query_crossing_answer.specs.Crossing.{reply_number}
 use Rattle.claims.specs.Listed.{OwnLengths, own_lengths, ListedCall, modifies, crosses}
 use Rattle.claims.specs.QueriesCalled.{CrossingReturned}
@@ -73,8 +72,8 @@ pub data Called : Call → Engine → Result EngineCounts Refusal → Engine →
       (engine_in (kept a.0 r) a.1.0.now a.1.1.0.now s.1.1.1.0.now a.1.1.1.1.0.now a.1.1.1.1.1.0.now a.1.1.1.1.1.1.0.now)
 
 -- Engine, Crossing: a crossing that returned: the columns lent, which it only reads, the lengths of its own columns, the answer, and the weight column before and after.
-pub data CrossingCalled : Engine → OwnLengths → CrossingReply → (column₀ column : List ℤ) → Type 0 where
-  crossing_called : {e : Engine} {r : CrossingReply} {column₀ column : List ℤ} (scratch₀ scratch : ScratchColumns) → CrossingReturned e r column₀ column scratch₀ scratch
+pub data CrossingCalled : Engine → OwnLengths → Result ℕ Refusal → (column₀ column : List ℤ) → Type 0 where
+  crossing_called : {e : Engine} {r : Result ℕ Refusal} {column₀ column : List ℤ} (scratch₀ scratch : ScratchColumns) → CrossingReturned e r column₀ column scratch₀ scratch
       → CrossingCalled e (own_lengths column₀ scratch₀) r column₀ column
 
 -- Engine, Tally, sentences 2 and 3: a list of calls with the number of each answer: each call is lent the engine's columns, the log and their counts
@@ -83,5 +82,5 @@ pub data Calls : Engine → List ListedCall → List ℕ → Engine → Type 0 w
   no_call : {e : Engine} → Calls e [] [] e
   modified_then : {e e₁ e₂ : Engine} {cs : List ListedCall} {ns : List ℕ} (call : Call) (r : Result EngineCounts Refusal)
       → Called call e r e₁ → Calls e₁ cs ns e₂ → Calls e (modifies (record { call = call; lent = lengths_of e }) ∷ cs) (question_of r ∷ ns) e₂
-  crossed_then : {e e₂ : Engine} {cs : List ListedCall} {ns : List ℕ} (own : OwnLengths) (r : CrossingReply) (column₀ column : List ℤ)
+  crossed_then : {e e₂ : Engine} {cs : List ListedCall} {ns : List ℕ} (own : OwnLengths) (r : Result ℕ Refusal) (column₀ column : List ℤ)
       → CrossingCalled e own r column₀ column → Calls e cs ns e₂ → Calls e (crosses (lengths_of e) own ∷ cs) (reply_number r ∷ ns) e₂

@@ -16,8 +16,6 @@ use Rattle.engine_walks.specs.Graph.{Graph, LeftJoinsRight, CrossingSet}
 use Rattle.engine_walks.specs.Answers.{weight_in}
 use Rattle.engine_walks.specs.Claims.{Alike, NotGreater, LeftWeight}
 use Rattle.query_questions.specs.Scratch.{ScratchColumns}
-use Rattle.query_crossing_answer.specs.declared.CrossingReply.{CrossingReply}
-use Rattle.query_crossing_answer.specs.declared.CrossingReply.TheVariants.{Crossed}
 use Rattle.query_crossing_answer.specs.Crossing.{reply_number, reply_weight}
 use Rattle.claims.specs.Listed.{OwnLengths, ListedCall, CallArguments, modify_by, cross_with, listed_calls, tally_graph, tally_weights, before18, tally_crossing_refusal, modifying, modifying_answers, tally_at_end, numbers}
 use Rattle.claims.specs.QueriesCalled.{CrossingReturned}
@@ -56,7 +54,7 @@ weights_at_end h = tally_weights (tally_last h)
 -- Demand 3, sentence 4: a crossing called then: its own columns' lengths, its answer, and the weight column before and after.
 pub record CrossingThen (h : History) : Type 0 where
   pub own : OwnLengths
-  pub reply : CrossingReply
+  pub reply : Result ℕ Refusal
   pub column₀ : List ℤ
   pub column : List ℤ
   pub called : CrossingCalled h.at_end own reply column₀ column
@@ -84,7 +82,7 @@ pub record OneHistory : Type 0 where
       ≡ listed_calls (lengths_of history.fresh) (modify_by (load_weights (0 ∷ []) (3 ∷ [])) ∷ cross_with weights scratch ∷ modify_by (load_erasures (0 ∷ [])) ∷ [])
   pub answers_are : history.answers ≡ 0 ∷ 0 ∷ 12 ∷ []
   pub crossing : CrossingThen history
-  pub reports : crossing.reply ≡ Crossed 3
+  pub reports : crossing.reply ≡ Ok 3
 
 -- Demand 3, the clause about d: a built code, by its counts, ends and boundary bytes, is opened with every weight 1, and a crossing called then reports d.
 pub record DistanceReported (d vertices edges : ℕ) (ends_a ends_b boundary : List ℕ) : Type 0 where
@@ -94,7 +92,7 @@ pub record DistanceReported (d vertices edges : ℕ) (ends_a ends_b boundary : L
   pub handed_are : history.handed ≡ graph_columns ends_a ends_b (replicate edges 1) boundary
   pub calls_are : history.calls ≡ []
   pub crossing : CrossingThen history
-  pub reports : crossing.reply ≡ Crossed d
+  pub reports : crossing.reply ≡ Ok d
 
 -- Demand 3 as one claim (Engine, Tally, sentence 1). The quoted words are the demand's where no section is named.
 pub record Demand3 : Type 0 where
@@ -104,7 +102,7 @@ pub record Demand3 : Type 0 where
   pub open_returns : (vertices edges : ℕ) (handed lent₀ : GraphColumns) → (r : Result EngineCounts Refusal) × (lent : GraphColumns) × OpenReturned vertices edges handed lent₀ r lent
   pub modifying_returns : (call : Call) (e₀ : Engine) → (r : Result EngineCounts Refusal) × (e : Engine) × Called call e₀ r e
   pub crossing_returns : (e : Engine) (weights₀ : List ℤ) (scratch₀ : ScratchColumns)
-      → (r : CrossingReply) × (weights : List ℤ) × (scratch : ScratchColumns) × CrossingReturned e r weights₀ weights scratch₀ scratch
+      → (r : Result ℕ Refusal) × (weights : List ℤ) × (scratch : ScratchColumns) × CrossingReturned e r weights₀ weights scratch₀ scratch
   pub list_returns : (vertices edges : ℕ) (handed : GraphColumns) (fresh : Engine) → OpenCalled vertices edges handed fresh → (list : List CallArguments)
       → (answers : List ℕ) × (at_end : Engine) × Calls fresh (listed_calls (lengths_of fresh) list) answers at_end
   pub one_history : OneHistory
@@ -161,7 +159,7 @@ pub record Demand3 : Type 0 where
       → take h.edges h.handed.ends_a ≡ take h.edges ends_a
       → take h.edges h.handed.ends_b ≡ take h.edges ends_b
       → take h.vertices h.handed.boundary ≡ take h.vertices boundary
-      → ((k : ℕ) → k < h.edges → weights_at_end h k ≡ 1) → refused_before h c ≡ 0 → c.reply ≡ Crossed d
+      → ((k : ℕ) → k < h.edges → weights_at_end h k ≡ 1) → refused_before h c ≡ 0 → c.reply ≡ Ok d
   -- There is such a history and crossing for every code that was built, and a code that was built for every kind, d and rounds that questions 2 to 5 accept.
   pub distance_reported : (kind d rounds vertices edges : ℕ) (ends_a ends_b boundary : List ℕ)
       → CodeBuilt kind d rounds vertices edges ends_a ends_b boundary → DistanceReported d vertices edges ends_a ends_b boundary

@@ -1,18 +1,17 @@
 -- Calls of the queries' functions. `Learnt` is what a caller of a function learns of a call, made from the function's own contract: lifetimes, the arguments as they
 -- were passed, the result, and the parameters at exit. The columns lent are any: no call needs to have made them.
-use Rattle.std.specs.Prelude.{ℕ, List, ℤ}
+use Rattle.std.specs.Prelude.{ℕ, List, ℤ, Result}
 use Rattle.std.proofs.Math.Option.{Option, none}
 use contract.Lifetimes.{Lfts}
 use denote.Triple.Clauses.{AtExit}
 use borrow.Fn.World.{ArgsD, ResD}
 use Rattle.learnt.specs.Learnt.{Reading, Learnt, one_fact}
-use Rattle.columns.specs.declared.Done.{Done}
+use Rattle.columns.specs.declared.refusal.Refusal.{Refusal}
 use Rattle.engine_columns.specs.Records.{Engine, engine_in}
 use Rattle.engine_walks.specs.Answers.{TableColumns}
 use Rattle.query_questions.specs.Scratch.{ScratchColumns, scratch_in}
-use Rattle.query_crossing_answer.specs.declared.CrossingReply.{CrossingReply}
 use Rattle.query_tables.specs.Ends.{end_in}
-use Rattle.query_paths.specs.declared.PathAnswer.{PathAnswer}
+use Rattle.query_paths.specs.declared.PathCounts.{PathCounts}
 use Rattle.query_tables.specs.contracts.all_edges_with_terminate as end_contract
 use Rattle.query_tables.specs.contracts.all_edges as all_contract
 use Rattle.query_paths.specs.contracts.get_path as path_contract
@@ -50,15 +49,15 @@ path_columns vertices steps = record { vertices = vertices; steps = steps }
 
 -- Engine, Table: a table query that returned, with a named end or none: the engine lent,
 -- the source, the end, the answer, the table's columns and scratch before and after.
-pub data TableReturned : Engine → (source : ℕ) → Option ℕ → Done → (columns₀ columns : TableColumns) → (scratch₀ scratch : ScratchColumns) → Type 0 where
-  end_returned : (κs : Lfts 15) (a : ArgsD end_contract.signature κs) (r : Done) (s : AtExit end_contract.ended κs) → Learnt (end_reading κs a r s)
+pub data TableReturned : Engine → (source : ℕ) → Option ℕ → Result (Unit {0}) Refusal → (columns₀ columns : TableColumns) → (scratch₀ scratch : ScratchColumns) → Type 0 where
+  end_returned : (κs : Lfts 15) (a : ArgsD end_contract.signature κs) (r : Result (Unit {0}) Refusal) (s : AtExit end_contract.ended κs) → Learnt (end_reading κs a r s)
       → TableReturned
       (engine_in a.0 a.1.0.now a.1.1.0.now a.1.1.1.0.now a.1.1.1.1.0.now a.1.1.1.1.1.0.now a.1.1.1.1.1.1.0.now)
       a.1.1.1.1.1.1.1.0.0 (end_in a.1.1.1.1.1.1.1.1.0) r
       (table_columns a.1.1.1.1.1.1.1.1.1.0.now a.1.1.1.1.1.1.1.1.1.1.0.now) (table_columns s.1.1.1.1.1.1.1.1.1.0.now s.1.1.1.1.1.1.1.1.1.1.0.now)
       (scratch_in a.1.1.1.1.1.1.1.1.1.1.1.0.now a.1.1.1.1.1.1.1.1.1.1.1.1.0.now a.1.1.1.1.1.1.1.1.1.1.1.1.1.0.now a.1.1.1.1.1.1.1.1.1.1.1.1.1.1.0.now a.1.1.1.1.1.1.1.1.1.1.1.1.1.1.1.0.now a.1.1.1.1.1.1.1.1.1.1.1.1.1.1.1.1.0.now a.1.1.1.1.1.1.1.1.1.1.1.1.1.1.1.1.1.0.now)
       (scratch_in s.1.1.1.1.1.1.1.1.1.1.1.0.now s.1.1.1.1.1.1.1.1.1.1.1.1.0.now s.1.1.1.1.1.1.1.1.1.1.1.1.1.0.now s.1.1.1.1.1.1.1.1.1.1.1.1.1.1.0.now s.1.1.1.1.1.1.1.1.1.1.1.1.1.1.1.0.now s.1.1.1.1.1.1.1.1.1.1.1.1.1.1.1.1.0.now s.1.1.1.1.1.1.1.1.1.1.1.1.1.1.1.1.1.0.now)
-  all_returned : (κs : Lfts 15) (a : ArgsD all_contract.signature κs) (r : Done) (s : AtExit all_contract.ended κs) → Learnt (all_reading κs a r s)
+  all_returned : (κs : Lfts 15) (a : ArgsD all_contract.signature κs) (r : Result (Unit {0}) Refusal) (s : AtExit all_contract.ended κs) → Learnt (all_reading κs a r s)
       → TableReturned
       (engine_in a.0 a.1.0.now a.1.1.0.now a.1.1.1.0.now a.1.1.1.1.0.now a.1.1.1.1.1.0.now a.1.1.1.1.1.1.0.now)
       a.1.1.1.1.1.1.1.0.0 none r
@@ -67,8 +66,8 @@ pub data TableReturned : Engine → (source : ℕ) → Option ℕ → Done → (
       (scratch_in s.1.1.1.1.1.1.1.1.1.1.0.now s.1.1.1.1.1.1.1.1.1.1.1.0.now s.1.1.1.1.1.1.1.1.1.1.1.1.0.now s.1.1.1.1.1.1.1.1.1.1.1.1.1.0.now s.1.1.1.1.1.1.1.1.1.1.1.1.1.1.0.now s.1.1.1.1.1.1.1.1.1.1.1.1.1.1.1.0.now s.1.1.1.1.1.1.1.1.1.1.1.1.1.1.1.1.0.now)
 
 -- Engine, Path: a path query that returned: the engine lent, both vertices, the answer, the path's columns and scratch before and after.
-pub data PathReturned : Engine → (a b : ℕ) → PathAnswer → (columns₀ columns : PathColumns) → (scratch₀ scratch : ScratchColumns) → Type 0 where
-  path_returned : (κs : Lfts 15) (a : ArgsD path_contract.signature κs) (r : PathAnswer) (s : AtExit path_contract.ended κs) → Learnt (path_reading κs a r s)
+pub data PathReturned : Engine → (a b : ℕ) → Result PathCounts Refusal → (columns₀ columns : PathColumns) → (scratch₀ scratch : ScratchColumns) → Type 0 where
+  path_returned : (κs : Lfts 15) (a : ArgsD path_contract.signature κs) (r : Result PathCounts Refusal) (s : AtExit path_contract.ended κs) → Learnt (path_reading κs a r s)
       → PathReturned
       (engine_in a.0 a.1.0.now a.1.1.0.now a.1.1.1.0.now a.1.1.1.1.0.now a.1.1.1.1.1.0.now a.1.1.1.1.1.1.0.now)
       a.1.1.1.1.1.1.1.0.0 a.1.1.1.1.1.1.1.1.0.0 r
@@ -77,8 +76,8 @@ pub data PathReturned : Engine → (a b : ℕ) → PathAnswer → (columns₀ co
       (scratch_in s.1.1.1.1.1.1.1.1.1.1.1.0.now s.1.1.1.1.1.1.1.1.1.1.1.1.0.now s.1.1.1.1.1.1.1.1.1.1.1.1.1.0.now s.1.1.1.1.1.1.1.1.1.1.1.1.1.1.0.now s.1.1.1.1.1.1.1.1.1.1.1.1.1.1.1.0.now s.1.1.1.1.1.1.1.1.1.1.1.1.1.1.1.1.0.now s.1.1.1.1.1.1.1.1.1.1.1.1.1.1.1.1.1.0.now)
 
 -- Engine, Crossing: a crossing that returned: the engine lent, the answer, the weight column and scratch before and after.
-pub data CrossingReturned : Engine → CrossingReply → (weights₀ weights : List ℤ) → (scratch₀ scratch : ScratchColumns) → Type 0 where
-  crossing_returned : (κs : Lfts 14) (a : ArgsD crossing_contract.signature κs) (r : CrossingReply) (s : AtExit crossing_contract.ended κs) → Learnt (crossing_reading κs a r s)
+pub data CrossingReturned : Engine → Result ℕ Refusal → (weights₀ weights : List ℤ) → (scratch₀ scratch : ScratchColumns) → Type 0 where
+  crossing_returned : (κs : Lfts 14) (a : ArgsD crossing_contract.signature κs) (r : Result ℕ Refusal) (s : AtExit crossing_contract.ended κs) → Learnt (crossing_reading κs a r s)
       → CrossingReturned
       (engine_in a.0 a.1.0.now a.1.1.0.now a.1.1.1.0.now a.1.1.1.1.0.now a.1.1.1.1.1.0.now a.1.1.1.1.1.1.0.now)
       r a.1.1.1.1.1.1.1.0.now s.1.1.1.1.1.1.1.0.now

@@ -12,7 +12,7 @@ use borrow.Author.Tests.{le-leb, lt-ltb}
 use Rattle.columns.specs.Lists.{over}
 use Rattle.columns.specs.Questions.{ask, all}
 use Rattle.columns.proofs.Tests.{both_and}
-use Rattle.columns_answers.specs.Said.{Answered, accepts, refuses}
+use Rattle.columns_answers.specs.Said.{said, Answered, accepts, refuses}
 use Rattle.engine_columns.specs.declared.EngineCounts.{EngineCounts}
 use Rattle.engine_columns.specs.Records.{Engine, counts}
 use Rattle.engine_columns.specs.Calls.{load_erasures, load_weights, reset}
@@ -22,10 +22,11 @@ use Rattle.engine_tally.proofs.Agreement.{Agrees, long_same}
 use Rattle.engine_walks.specs.Answers.{path, crossing}
 use Rattle.query_questions.specs.Queries as Q
 use Rattle.query_questions.specs.Scratch.{ScratchColumns, scratch_fits, is_free}
-use Rattle.query_crossing_answer.specs.declared.CrossingReply.TheVariants.{Crossed}
+use Rattle.std.specs.Prelude.{Result, Ok}
+use Rattle.columns.specs.declared.refusal.Refusal.{Refusal}
 use Rattle.query_crossing_answer.specs.Crossing.{weight_found}
-use Rattle.query_paths.specs.declared.PathAnswer.{PathAnswer}
-use Rattle.query_paths.specs.GetPath.{found_said, path_asked, path_refusal, length_and_total, vertices_after, steps_after, GotPath}
+use Rattle.query_paths.specs.declared.PathCounts.{PathCounts}
+use Rattle.query_paths.specs.GetPath.{path_counts, no_path, path_asked, path_refusal, length_and_total, vertices_after, steps_after, GotPath}
 use Rattle.claims.specs.Listed.{CallArguments, modify_by, listed_calls, tally_graph, tally_weights, tally_at_end, numbers}
 use Rattle.claims.specs.QueriesCalled.{PathColumns, PathReturned, path_returned}
 use Rattle.claims.specs.Called.{OpenCalled}
@@ -80,41 +81,41 @@ module _ (e : Engine) (o : OpenCalled 4 3 listing_graph e) where
     asked-16 = query_met e _ _ 16 (long_from 0 e agrees.long) (both_and (le-leb _ _ vertices_fit) (both_and (le-leb _ _ steps-fit) scratch_fits_holds)) (sound_from e agrees.sound)
         (both_and (lt-ltb _ _ (within 2 (omega arith))) (lt-ltb _ _ (within 2 (omega arith))))
 
-    module _ (r : PathAnswer) (columns : PathColumns) (scratch : ScratchColumns) where
+    module _ (r : Result PathCounts Refusal) (columns : PathColumns) (scratch : ScratchColumns) where
       abbrev Got : (a b : ℕ) → Type 0
       Got a b = GotPath e a b r columns₀.vertices columns.vertices columns₀.steps columns.steps scratch₀ scratch
 
       found-path : Got 3 2
-          → (found_said r ≡ accepts (3, 3000)) × (columns.vertices ≡ over (0 ∷ 1 ∷ 2 ∷ []) columns₀.vertices) × (columns.steps ≡ over (1000 ∷ 1000 ∷ 1000 ∷ []) columns₀.steps)
+          → (said no_path r ≡ accepts (path_counts 3 3000)) × (columns.vertices ≡ over (0 ∷ 1 ∷ 2 ∷ []) columns₀.vertices) × (columns.steps ≡ over (1000 ∷ 1000 ∷ 1000 ∷ []) columns₀.steps)
       found-path h =
           let is : path (Q.graph_in e) (Q.weights_in e) 3 2 ≡ some (record { vertices = 0 ∷ 1 ∷ 2 ∷ []; steps = 1000 ∷ 1000 ∷ 1000 ∷ []; total = 3000 })
           = (λ i. path (graph_same first e agrees i) (weights-same first e agrees i) 3 2) ∙ path_3000 in (
-            said-accepts (subst (λ p. Answered (found_said r) (path_refusal 0 p) (length_and_total p) (0, 0)) is
-                (subst (λ q. Answered (found_said r) (path_refusal q (path (Q.graph_in e) (Q.weights_in e) 3 2)) (length_and_total (path (Q.graph_in e) (Q.weights_in e) 3 2)) (0, 0)) asked_0 h.answers)) refl,
+            said-accepts (subst (λ p. Answered (said no_path r) (path_refusal 0 p) (length_and_total p) no_path) is
+                (subst (λ q. Answered (said no_path r) (path_refusal q (path (Q.graph_in e) (Q.weights_in e) 3 2)) (length_and_total (path (Q.graph_in e) (Q.weights_in e) 3 2)) no_path) asked_0 h.answers)) refl,
             h.vertices_after_holds ∙ (λ i. cond (eqb (asked_0 i) 0) (vertices_after (is i) columns₀.vertices) columns₀.vertices),
             h.steps_after_holds ∙ (λ i. cond (eqb (asked_0 i) 0) (steps_after (is i) columns₀.steps) columns₀.steps),
           )
 
-      refused-path : Got 2 2 → (found_said r ≡ refuses 16 (0, 0)) × (columns ≡ columns₀) × (scratch ≡ scratch₀)
+      refused-path : Got 2 2 → (said no_path r ≡ refuses 16 no_path) × (columns ≡ columns₀) × (scratch ≡ scratch₀)
       refused-path h =
           let p = path (Q.graph_in e) (Q.weights_in e) 2 2 in
           let v = h.vertices_after_holds ∙ (λ i. cond (eqb (asked-16 i) 0) (vertices_after p columns₀.vertices) columns₀.vertices) in
           let s = h.steps_after_holds ∙ (λ i. cond (eqb (asked-16 i) 0) (steps_after p columns₀.steps) columns₀.steps) in
-          let said : found_said r ≡ refuses 16 (0, 0) = said-refuses 16 h.answers (ap (λ q. path_refusal q p) asked-16) (λ z. omega arith) in
+          let said : said no_path r ≡ refuses 16 no_path = said-refuses 16 h.answers (ap (λ q. path_refusal q p) asked-16) (λ z. omega arith) in
           (said, (λ i. record { vertices = v i; steps = s i }), h.scratch_after.kept (ap (λ x. is_free x.number) said))
 
-got_of : (e : Engine) (a b : ℕ) (r : PathAnswer) (columns₀ columns : PathColumns) (scratch₀ scratch : ScratchColumns) → PathReturned e a b r columns₀ columns scratch₀ scratch
+got_of : (e : Engine) (a b : ℕ) (r : Result PathCounts Refusal) (columns₀ columns : PathColumns) (scratch₀ scratch : ScratchColumns) → PathReturned e a b r columns₀ columns scratch₀ scratch
     → GotPath e a b r columns₀.vertices columns.vertices columns₀.steps columns.steps scratch₀ scratch
 got_of e a b r columns₀ columns scratch₀ scratch (path_returned κs x q s h) = h
 
-pub path_called : (e : Engine) (r : PathAnswer) (columns₀ columns : PathColumns) (scratch₀ scratch : ScratchColumns) → OpenCalled 4 3 listing_graph e
+pub path_called : (e : Engine) (r : Result PathCounts Refusal) (columns₀ columns : PathColumns) (scratch₀ scratch : ScratchColumns) → OpenCalled 4 3 listing_graph e
     → PathReturned e 3 2 r columns₀ columns scratch₀ scratch → PathRoom columns₀ scratch₀
-    → (found_said r ≡ accepts (3, 3000)) × (columns.vertices ≡ over (0 ∷ 1 ∷ 2 ∷ []) columns₀.vertices) × (columns.steps ≡ over (1000 ∷ 1000 ∷ 1000 ∷ []) columns₀.steps)
+    → (said no_path r ≡ accepts (path_counts 3 3000)) × (columns.vertices ≡ over (0 ∷ 1 ∷ 2 ∷ []) columns₀.vertices) × (columns.steps ≡ over (1000 ∷ 1000 ∷ 1000 ∷ []) columns₀.steps)
 path_called e r columns₀ columns scratch₀ scratch o c room = found-path e o columns₀ scratch₀ room r columns scratch (got_of e 3 2 r columns₀ columns scratch₀ scratch c)
 
-pub path_refused : (e : Engine) (r : PathAnswer) (columns₀ columns : PathColumns) (scratch₀ scratch : ScratchColumns) → OpenCalled 4 3 listing_graph e
+pub path_refused : (e : Engine) (r : Result PathCounts Refusal) (columns₀ columns : PathColumns) (scratch₀ scratch : ScratchColumns) → OpenCalled 4 3 listing_graph e
     → PathReturned e 2 2 r columns₀ columns scratch₀ scratch → PathRoom columns₀ scratch₀
-    → (found_said r ≡ refuses 16 (0, 0)) × (columns ≡ columns₀) × (scratch ≡ scratch₀)
+    → (said no_path r ≡ refuses 16 no_path) × (columns ≡ columns₀) × (scratch ≡ scratch₀)
 path_refused e r columns₀ columns scratch₀ scratch o c room = refused-path e o columns₀ scratch₀ room r columns scratch (got_of e 2 2 r columns₀ columns scratch₀ scratch c)
 
 -- ---- crossings
@@ -142,7 +143,7 @@ crosses_at list weight x h c on asked =
     }) in
     let f : found h ≡ some weight = (λ i. crossing (tally_graph (tally_at_end (on.calls_are i) (first-is i))) (tally_weights (tally_at_end (on.calls_are i) (first-is i)))) ∙ x.weighs k room in
     let (W, is, r, column) = reports h c (accepted h c asked weight f) in
-    ((run h).0 ∙ (λ i. numbers (on.calls_are i) (first-is i)) ∙ x.all_accepted k room, r ∙ ap (λ o. Crossed (weight_found o)) (sym is ∙ f))
+    ((run h).0 ∙ (λ i. numbers (on.calls_are i) (first-is i)) ∙ x.all_accepted k room, r ∙ ap (λ o. Ok (weight_found o)) (sym is ∙ f))
 
 module _ (k : Lengths) (room : Roomy k) where
   abbrev fresh : Tally

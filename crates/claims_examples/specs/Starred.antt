@@ -27,9 +27,9 @@ use Rattle.engine_tally.specs.Tally.{Lengths, Tally, Fed, tally_of, tally_after,
 use Rattle.engine_walks.specs.Answers.{path, crossing}
 use Rattle.query_questions.specs.Queries as Q
 use Rattle.query_questions.specs.Scratch.{ScratchColumns, scratch_fits}
-use Rattle.query_crossing_answer.specs.declared.CrossingReply.TheVariants.{Crossed}
-use Rattle.query_paths.specs.declared.PathAnswer.{PathAnswer}
-use Rattle.query_paths.specs.GetPath.{found_said, path_asked, path_refusal}
+use Rattle.columns.specs.declared.refusal.Refusal.{Refusal}
+use Rattle.query_paths.specs.declared.PathCounts.{PathCounts}
+use Rattle.query_paths.specs.GetPath.{path_counts, no_path, path_asked, path_refusal}
 use Rattle.weights_claims.specs.Called.{WeightsReturned}
 use Rattle.claims.specs.BuildersCalled.{CreateReturned, NewReturned, NewDiagonalReturned, CodeBuilt}
 use Rattle.claims_examples.specs.Called.{InitializerReturned}
@@ -129,7 +129,7 @@ pub record OnListing (h : History) (list : List CallArguments) : Type 0 where
 -- Checked examples, of the listing's graph: these calls are accepted, and a crossing called then, if no question before 18 refuses it, reports this weight.
 abbrev pub CrossesAt : List CallArguments → ℕ → Type 0
 CrossesAt list weight =
-    (h : History) (c : CrossingThen h) → OnListing h list → refused_before h c ≡ 0 → (h.answers ≡ replicate (length list) 0) × (c.reply ≡ Crossed weight)
+    (h : History) (c : CrossingThen h) → OnListing h list → refused_before h c ≡ 0 → (h.answers ≡ replicate (length list) 0) × (c.reply ≡ Ok weight)
 
 -- Checked examples, those with a star, as one joint statement; the quoted words are document 01's.
 pub record StarredExamples : Type 0 where
@@ -174,9 +174,9 @@ pub record StarredExamples : Type 0 where
   pub path_3_2 : path (tally_graph (listing_after [])) (tally_weights (listing_after [])) 3 2
       ≡ some (record { vertices = 0 ∷ 1 ∷ 2 ∷ []; steps = 1000 ∷ 1000 ∷ 1000 ∷ []; total = 3000 })
   pub path_3_2_asked : path_asked listing_engine true 3 2 4 4 ≡ 0
-  pub path_3_2_called : (e : Engine) (r : PathAnswer) (columns₀ columns : PathColumns) (scratch₀ scratch : ScratchColumns) → OpenCalled 4 3 listing_graph e
+  pub path_3_2_called : (e : Engine) (r : Result PathCounts Refusal) (columns₀ columns : PathColumns) (scratch₀ scratch : ScratchColumns) → OpenCalled 4 3 listing_graph e
       → PathReturned e 3 2 r columns₀ columns scratch₀ scratch → PathRoom columns₀ scratch₀
-      → (found_said r ≡ accepts (3, 3000)) × (columns.vertices ≡ over (0 ∷ 1 ∷ 2 ∷ []) columns₀.vertices) × (columns.steps ≡ over (1000 ∷ 1000 ∷ 1000 ∷ []) columns₀.steps)
+      → (said no_path r ≡ accepts (path_counts 3 3000)) × (columns.vertices ≡ over (0 ∷ 1 ∷ 2 ∷ []) columns₀.vertices) × (columns.steps ≡ over (1000 ∷ 1000 ∷ 1000 ∷ []) columns₀.steps)
   -- "edge 1 erased, crossing 2000;"
   pub edge_1_erased : crossing_after (fed (load_erasures (1 ∷ [])) ∷ []) ≡ some 2000
   pub edge_1_erased_called : CrossesAt (modify_by (load_erasures (1 ∷ [])) ∷ []) 2000
@@ -194,6 +194,6 @@ pub record StarredExamples : Type 0 where
       → WeightsReturned n (replicate n zero_float) column₀ max r column → (said tt r ≡ accepts tt) × (column ≡ over (replicate n 1) column₀)
   -- "Path 2 to 2: 16."
   pub path_2_2 : path_refusal (path_asked listing_engine true 2 2 4 4) (path (Q.graph_in listing_engine) (Q.weights_in listing_engine) 2 2) ≡ 16
-  pub path_2_2_called : (e : Engine) (r : PathAnswer) (columns₀ columns : PathColumns) (scratch₀ scratch : ScratchColumns) → OpenCalled 4 3 listing_graph e
+  pub path_2_2_called : (e : Engine) (r : Result PathCounts Refusal) (columns₀ columns : PathColumns) (scratch₀ scratch : ScratchColumns) → OpenCalled 4 3 listing_graph e
       → PathReturned e 2 2 r columns₀ columns scratch₀ scratch → PathRoom columns₀ scratch₀
-      → (found_said r ≡ refuses 16 (0, 0)) × (columns ≡ columns₀) × (scratch ≡ scratch₀)
+      → (said no_path r ≡ refuses 16 no_path) × (columns ≡ columns₀) × (scratch ≡ scratch₀)

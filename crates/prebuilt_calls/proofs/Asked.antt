@@ -9,7 +9,7 @@ use borrow.Author.Tests.{lt-ltb, le-leb, leb-true}
 use Rattle.columns.proofs.Tests.{and_both}
 use Rattle.engine_columns.specs.Records.{Engine}
 use Rattle.engine_columns.proofs.Refusals.{long_from, sound_from}
-use Rattle.query_tables.specs.declared.End.TheVariants.{None}
+use Rattle.std.specs.Prelude.{None}
 use Rattle.query_tables.specs.Tables.{table_refusal}
 use Rattle.query_questions.specs.Scratch.{is_free, scratch_long, ScratchLengths}
 use Rattle.query_search.proofs.Asked.{query_of}

@@ -3,30 +3,39 @@ use mathlib.Core.Path.{◌≡◌, refl, sym, ap, ◌∙◌}
 use mathlib.Core.Logic.{◌≢◌}
 use mathlib.Core.Bool.{Bool, true, false, ◌&&◌, ◌||◌}
 use mathlib.Core.List.{List}
-use Prim.Native.Nat.{ℕ, zero, suc, ◌+◌, ◌<◌, ◌≤◌}
+use mathlib.Core.Option.{none}
+use Prim.Native.Nat.{ℕ, ◌<◌, ◌≤◌}
 use native.Mathlib.Omega.{arith}
 use lib.ListN.{length, get_or}
 use lib.Seq.{sets}
 use lib.IntN.{ℤ, negsuc}
 use lib.Dec.{leb, ltb, eqb}
-use borrow.Author.Tests.{leb-true, ltb-true, le-leb, lt-ltb}
 use Rattle.columns.specs.Lists.{each, over}
-use Rattle.columns.proofs.Columns.{over-in}
+use Rattle.columns.specs.declared.refusal.Refusal.{Refusal}
+use Rattle.columns.specs.declared.refusal.Refusal.TheVariants.{ShortColumn}
+use Rattle.columns.specs.Refusals.{number}
+use Rattle.columns.proofs.Columns.{over-in, after-accepted, after-refused}
 use Rattle.columns.proofs.Counting.{length-each, each_same}
 use Rattle.columns.specs.Questions.{ask}
-use Rattle.columns.proofs.Tests.{and_both, both_and}
-use Rattle.engine_walks.specs.Answers.{weight_in}
+use Rattle.columns_answers.proofs.Said.{accepted-of, refusal-of, refused-of}
+use Rattle.engine_walks.specs.Answers.{weight_in, table}
 use Rattle.engine_columns.specs.Records.{Engine}
-use Rattle.engine_columns.proofs.Refusals.{Long, long_from, Sound, sound_from}
-use Rattle.query_tables.specs.declared.End.TheVariants.{None}
-use Rattle.query_questions.specs.Queries.{query_refusal}
-use Rattle.query_tables.specs.Tables.{table_refusal}
-use Rattle.query_questions.specs.Scratch.{is_free}
+use Rattle.engine_columns.specs.Questions.{engine_long, engine_sound}
+use Rattle.engine_columns.proofs.Refusals.{Long, Sound}
+use Rattle.columns.proofs.Tests.{and_both}
 use Rattle.query_search.proofs.Asked.{query_of}
-use Rattle.query_search.proofs.Scratch.{query_kept}
+use borrow.Author.Tests.{leb-true, ltb-true}
+use Rattle.engine_walks.specs.Graph.{Graph}
+use Rattle.std.specs.Prelude.{None, Ok, Err}
+use Rattle.query_questions.specs.Queries.{graph_in, weights_in, query_refusal}
+use Rattle.query_questions.specs.Scratch.{ScratchColumns, scratch_fits}
+use Rattle.query_tables.specs.Tables.{table_refusal, FoundTable}
+use Rattle.query_tables.proofs.Sources.{table-weights_length}
+use Rattle.query_search.proofs.Scratch.{scratch_kept}
 use Rattle.prebuilt_entries.specs.Entries.{is_virtual, entry_by, row_entry}
 use Rattle.prebuilt_entries.proofs.Stored.{over-over}
-use Rattle.prebuilt_calls.specs.Rows.{row_refusal}
+use Rattle.prebuilt_calls.specs.Rows.{row_refusal, FilledRow}
+use Rattle.prebuilt_calls.proofs.Replies.{inside_of, table_there}
 
 -- the row, from the table that stands in its column
 pub row-over : (bytes : List ℕ) (nearest : List ℤ) (v : ℕ) (weights column : List ℤ) (n : ℕ) → length weights ≡ n → n ≤ length column
@@ -64,24 +73,67 @@ module _ (e : Engine) (scratch : Bool) (v nearest out before : ℕ) where
         v_in = ltb-true _ _ q.in_range;
       }
 
-  -- the table query inside is accepted too
-  -- a refused call leaves scratch as it was
-  pub row_kept : row_refusal e scratch v nearest out before ≢ 0 → is_free (row_refusal e scratch v nearest out before) ≡ false
-  row_kept f =
-      let n = e.counts.vertices in
-      query_kept e (leb n nearest && (leb n out && (leb n before && scratch))) (ltb v n) 0 (λ x. absurd (x refl)) f
+-- ---- the questions: that of the column of weights, and those of the table
 
-  pub table-met : RowAsked e scratch v nearest out before → table_refusal e scratch v None out before ≡ 0
-  table-met k =
-      let n = e.counts.vertices in
-      let f : (leb n out && (leb n before && scratch)) ≡ true = both_and (le-leb n out k.out_long) (both_and (le-leb n before k.before_long) k.scratch_is) in
-      let i : (ltb v n && true) ≡ true = both_and (lt-ltb v n k.v_in) refl in
-      let l = long_from 0 e k.long in
-      let s = sound_from e k.sound in
-      (λ j. ask (l j && f j) 6 (ask (s j) 7 (ask (i j) 13 0)))
+and-true : (b : Bool) → (b && true) ≡ b
+and-true true = refl
+and-true false = refl
 
-  -- the number, from the tests as the code makes them
-  pub row_number : {no : ℕ} {fits i₂ i₃ x y w sc : Bool} → no ≡ query_refusal e fits (ltb v e.counts.vertices) 0 → fits ≡ (x && i₂) → i₂ ≡ (y && i₃) → i₃ ≡ (w && sc)
-      → x ≡ leb e.counts.vertices nearest → y ≡ leb e.counts.vertices out → w ≡ leb e.counts.vertices before → sc ≡ scratch → no ≡ row_refusal e scratch v nearest out before
-  row_number p a b d x y w s =
-      p ∙ (λ i. query_refusal e ((a ∙ (λ j. x j && (b ∙ (λ k. y k && (d ∙ (λ m. w m && s m)) k)) j)) i) (ltb v e.counts.vertices) 0)
+row_met : (e : Engine) (scratch : Bool) (v nearest out before : ℕ) → leb e.counts.vertices nearest ≡ true → table_refusal e scratch v None out before ≡ row_refusal e scratch v nearest out before
+row_met e scratch v nearest out before h =
+    let n = e.counts.vertices in
+    ap (λ r. query_refusal e (leb n out && (leb n before && scratch)) r 0) (and-true (ltb v n))
+    ∙ ap (λ b. query_refusal e (b && (leb n out && (leb n before && scratch))) (ltb v n) 0) (sym h)
+
+row-short : (e : Engine) (scratch : Bool) (v nearest out before : ℕ) → leb e.counts.vertices nearest ≡ false → 6 ≡ row_refusal e scratch v nearest out before
+row-short e scratch v nearest out before h =
+    let n = e.counts.vertices in
+    go (engine_long 0 e) ∙ ap (λ b. query_refusal e (b && (leb n out && (leb n before && scratch))) (ltb v n) 0) (sym h)
+  where
+    go : (b : Bool) → 6 ≡ ask (b && false) 6 (ask (engine_sound e) 7 (ask (ltb v e.counts.vertices) 13 0))
+    go true = refl
+    go false = refl
+
+-- ---- the whole call
+
+module _ (e : Engine) (v : ℕ) (nearest out₀ : List ℤ) (before₀ : List ℕ) (scratch₀ : ScratchColumns) where
+  abbrev g : Graph
+  g = graph_in e
+
+  pub row_filled : {middle out : List ℤ} {before : List ℕ} {scratch : ScratchColumns} → leb e.counts.vertices (length nearest) ≡ true
+      → FoundTable e v None (Ok tt) out₀ middle before₀ before scratch₀ scratch → out ≡ sets middle 0 (each e.counts.vertices (row_entry g.boundary nearest v middle))
+      → FilledRow e v nearest (Ok tt) out₀ out before₀ before scratch₀ scratch
+  row_filled {middle} h t q =
+      let there = table_there t in
+      let weights = (table g (weights_in e) v none).weights in
+      let z : row_refusal e _ v (length nearest) (length out₀) (length before₀) ≡ 0 = sym (row_met e _ v _ _ _ h) ∙ there.met in
+      record {
+        answers = accepted-of z;
+        out_after = q ∙ ap (λ l. sets l 0 (each e.counts.vertices (row_entry g.boundary nearest v l))) there.is_over
+            ∙ row-over g.boundary nearest v weights out₀ e.counts.vertices (table-weights_length g (weights_in e) v none) there.room ∙ sym (after-accepted _ _ out₀ z);
+        before_after = there.inside.before_after;
+        scratch_after = there.inside.scratch_after;
+      }
+
+  pub row_refused : {r : Refusal} {out : List ℤ} {before : List ℕ} {scratch : ScratchColumns} → leb e.counts.vertices (length nearest) ≡ true
+      → FoundTable e v None (Err r) out₀ out before₀ before scratch₀ scratch → FilledRow e v nearest (Err r) out₀ out before₀ before scratch₀ scratch
+  row_refused {r} h t =
+      let d = row_met e (scratch_fits e.counts scratch₀) v (length nearest) (length out₀) (length before₀) h in
+      let f = refused-of t.answers in
+      let inside = inside_of (number r) t refl in
+      record {
+        answers = refusal-of r (t.answers.number_is ∙ d);
+        out_after = t.weights_after ∙ after-refused _ _ out₀ f ∙ sym (after-refused _ _ out₀ (λ z. f (d ∙ z)));
+        before_after = inside.before_after;
+        scratch_after = inside.scratch_after;
+      }
+
+  pub row_too_short : leb e.counts.vertices (length nearest) ≡ false → FilledRow e v nearest (Err ShortColumn) out₀ out₀ before₀ before₀ scratch₀ scratch₀
+  row_too_short h =
+      let d = row-short e (scratch_fits e.counts scratch₀) v (length nearest) (length out₀) (length before₀) h in
+      record {
+        answers = refusal-of ShortColumn d;
+        out_after = sym (after-refused _ _ out₀ (λ z. absurd (omega (arith, d, z))));
+        before_after = refl;
+        scratch_after = scratch_kept 6 g _ scratch₀ refl;
+      }

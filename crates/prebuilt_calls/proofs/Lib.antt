@@ -2,3 +2,5 @@
 pub mod Entries
 pub mod Replies
 pub mod Asked
+pub mod Filled
+pub mod Boundary

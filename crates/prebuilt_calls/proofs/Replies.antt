@@ -4,16 +4,19 @@ use mathlib.Core.Logic.{◌≢◌}
 use mathlib.Core.Bool.{false}
 use mathlib.Core.List.{List, ◌++◌}
 use mathlib.Core.Option.{none}
-use Prim.Native.Nat.{ℕ, ◌+◌, ◌-◌, ◌<◌}
+use Prim.Native.Nat.{ℕ, ◌+◌, ◌-◌, ◌<◌, ◌≤◌}
 use native.Mathlib.Decide.{ℕ_discrete}
 use native.Mathlib.Omega.{arith}
-use lib.ListN.{length}
+use lib.ListN.{length, take}
 use lib.IntN.{ℤ}
 use Rattle.columns.specs.Lists.{each, over, after}
 use Rattle.columns.proofs.Counting.{length-each}
 use Rattle.columns.proofs.Columns.{drop-over, after-refused}
-use Rattle.columns_answers.specs.Done.{done_said}
-use Rattle.columns.specs.declared.Done.{Done}
+use Rattle.std.specs.Prelude.{None, Result, Ok}
+use Rattle.columns.specs.declared.refusal.Refusal.{Refusal}
+use Rattle.columns_answers.specs.Said.{said}
+use Rattle.columns_answers.proofs.Said.{zero_of}
+use Rattle.columns_neighbors.proofs.Ends.{graph-says}
 use Rattle.columns_neighbors.specs.Lists.{lists}
 use Rattle.engine_columns.specs.Records.{Engine}
 use Rattle.engine_walks.specs.Graph.{Graph, GraphInRange, edges}
@@ -23,22 +26,55 @@ use Rattle.engine_walks.proofs.Turns.{Fits, settle-valid}
 use Rattle.engine_walks.proofs.TableAndPath.{only_source}
 use Rattle.query_relaxing.specs.Ready.{key_of}
 use Rattle.query_questions.specs.Queries.{graph_in, weights_in}
-use Rattle.query_questions.specs.Scratch.{ScratchColumns, is_free, SearchAfter, ScratchAfter}
+use Rattle.query_questions.specs.Scratch.{ScratchColumns, scratch_fits, is_free, SearchAfter, ScratchAfter}
 use Rattle.query_search.proofs.Scratch.{scratch_free, scratch_kept}
-use Rattle.query_tables.specs.declared.End.TheVariants.{None}
-use Rattle.query_tables.specs.Tables.{FoundTable, TableInside}
+use Rattle.query_tables.specs.Tables.{table_refusal, FoundTable, TableInside}
+use Rattle.query_tables.proofs.Tables.{table_of}
 use Rattle.query_tables.proofs.Sources.{table-weights_length, table_previous-length}
+use Rattle.prebuilt_entries.proofs.Amounts.{cut_fits}
 use Rattle.prebuilt_calls.specs.Steps.{TablesInside}
 
 -- by another name of the number
-pub inside_of : {e : Engine} {v : ℕ} {d : Done} {least₀ least : List ℤ} {before₀ before : List ℕ} {s₀ s : ScratchColumns} (number : ℕ)
-    → FoundTable e v None d least₀ least before₀ before s₀ s → (done_said d).number ≡ number → TableInside number e v least₀ least before₀ before s₀ s
+pub inside_of : {e : Engine} {v : ℕ} {d : Result (Unit {0}) Refusal} {least₀ least : List ℤ} {before₀ before : List ℕ} {s₀ s : ScratchColumns} (number : ℕ)
+    → FoundTable e v None d least₀ least before₀ before s₀ s → (said tt d).number ≡ number → TableInside number e v least₀ least before₀ before s₀ s
 inside_of {e} {v = v} {least₀ = least₀} {before₀ = before₀} {s₀ = s₀} {s} number t q =
     let p = sym t.answers.number_is ∙ q in
     record {
       least_after = t.weights_after ∙ ap (λ n. after n (table (graph_in e) (weights_in e) v none).weights least₀) p;
       before_after = t.previous_after ∙ ap (λ n. after n (table (graph_in e) (weights_in e) v none).previous before₀) p;
       scratch_after = subst (λ n. ScratchAfter n (graph_in e) (settled (graph_in e) (weights_in e) (only v) none) s₀ s) q t.scratch_after;
+    }
+
+-- an accepted table, in the first places of its column
+pub record TableThere (e : Engine) (v : ℕ) (least₀ least : List ℤ) (before₀ before : List ℕ) (scratch₀ scratch : ScratchColumns) : Type 0 where
+  pub met : table_refusal e (scratch_fits e.counts scratch₀) v None (length least₀) (length before₀) ≡ 0
+  pub few : e.counts.vertices ≤ 4096
+  pub boundary_long : e.counts.vertices ≤ length e.boundary
+  pub v_in : v < e.counts.vertices
+  pub room : e.counts.vertices ≤ length least₀
+  pub fits : e.counts.vertices ≤ length least
+  pub is_over : least ≡ over (table (graph_in e) (weights_in e) v none).weights least₀
+  pub is_table : take e.counts.vertices least ≡ (table (graph_in e) (weights_in e) v none).weights
+  pub inside : TableInside 0 e v least₀ least before₀ before scratch₀ scratch
+
+pub table_there : {e : Engine} {v : ℕ} {least₀ least : List ℤ} {before₀ before : List ℕ} {s₀ s : ScratchColumns}
+    → FoundTable e v None (Ok tt) least₀ least before₀ before s₀ s → TableThere e v least₀ least before₀ before s₀ s
+table_there {e} {v} {least₀} {least} {before₀} {before} {s₀} {s} t =
+    let z = zero_of t.answers in
+    let k = table_of e (scratch_fits e.counts s₀) v None (length least₀) (length before₀) z in
+    let weights = (table (graph_in e) (weights_in e) v none).weights in
+    let o = t.weights_after ∙ ap (λ n. after n weights least₀) z in
+    let cut = cut_fits weights least₀ e.counts.vertices o (table-weights_length (graph_in e) (weights_in e) v none) k.weights_long in
+    record {
+      met = z;
+      few = (graph-says e.counts.vertices e.counts.edges e.ends_a e.ends_b k.sound.columns.graph).few_vertices;
+      boundary_long = k.long.columns.boundary;
+      v_in = k.source_in;
+      room = k.weights_long;
+      fits = cut.0;
+      is_over = o;
+      is_table = cut.2;
+      inside = inside_of 0 t refl;
     }
 
 -- a refused call

@@ -1,10 +1,9 @@
 -- The boundary weight and the boundary vertex of every vertex in the Rust's `PrebuiltCompleteGraph`.
-use Rattle.std.specs.Prelude.{ℕ, ◌-◌, ◌≡◌, Bool, true, ◌&&◌, List, length, leb, ℤ}
+use Rattle.std.specs.Prelude.{ℕ, ◌-◌, ◌≡◌, Bool, true, ◌&&◌, List, length, leb, ℤ, Result}
 use Rattle.std.proofs.Math.Option.{Option, none}
 use Rattle.columns.specs.Lists.{each, after}
-use Rattle.columns_answers.specs.Said.{Answered}
-use Rattle.columns_answers.specs.Done.{done_said}
-use Rattle.columns.specs.declared.Done.{Done}
+use Rattle.columns.specs.declared.refusal.Refusal.{Refusal}
+use Rattle.columns_answers.specs.Said.{said, Answered}
 use Rattle.engine_columns.specs.Records.{Engine}
 use Rattle.engine_walks.specs.Graph.{Graph}
 use Rattle.engine_walks.specs.Answers.{table}
@@ -36,13 +35,13 @@ boundaries_refusal e scratch weights vertices least before =
 
 -- complete_graph.rs, `PrebuiltCompleteGraph`: the answer of `fill_boundaries`, and both columns. The columns of the table, which serve as scratch, and scratch hold
 -- what the table from the last vertex leaves. A refused call leaves them as they were.
-pub record FilledBoundaries (e : Engine) (answer : Done) (weights₀ weights : List ℤ) (vertices₀ vertices : List ℕ) (least₀ least : List ℤ) (before₀ before : List ℕ)
+pub record FilledBoundaries (e : Engine) (answer : Result (Unit {0}) Refusal) (weights₀ weights : List ℤ) (vertices₀ vertices : List ℕ) (least₀ least : List ℤ) (before₀ before : List ℕ)
     (scratch₀ scratch : ScratchColumns) : Type 0 where
-  pub answers : Answered (done_said answer) (boundaries_refusal e (scratch_fits e.counts scratch₀) (length weights₀) (length vertices₀) (length least₀) (length before₀)) tt tt
+  pub answers : Answered (said tt answer) (boundaries_refusal e (scratch_fits e.counts scratch₀) (length weights₀) (length vertices₀) (length least₀) (length before₀)) tt tt
   pub weights_after : weights
       ≡ after (boundaries_refusal e (scratch_fits e.counts scratch₀) (length weights₀) (length vertices₀) (length least₀) (length before₀))
       (each e.counts.vertices (boundary_weight (graph_in e) (weights_in e))) weights₀
   pub vertices_after_holds : vertices
       ≡ after (boundaries_refusal e (scratch_fits e.counts scratch₀) (length weights₀) (length vertices₀) (length least₀) (length before₀))
       (each e.counts.vertices (boundary_vertex (graph_in e) (weights_in e))) vertices₀
-  pub table_after : TableInside (done_said answer).number e (e.counts.vertices - 1) least₀ least before₀ before scratch₀ scratch
+  pub table_after : TableInside (said tt answer).number e (e.counts.vertices - 1) least₀ least before₀ before scratch₀ scratch

@@ -1,10 +1,9 @@
 -- The row of a vertex in the Rust's `PrebuiltCompleteGraph`: least weights to the peers, without virtual vertices and without edges in the middle.
-use Rattle.std.specs.Prelude.{ℕ, ◌≡◌, Bool, ◌&&◌, List, length, leb, ltb, ℤ}
+use Rattle.std.specs.Prelude.{ℕ, ◌≡◌, Bool, ◌&&◌, List, length, leb, ltb, ℤ, Result}
 use Rattle.std.proofs.Math.Option.{none}
 use Rattle.columns.specs.Lists.{each, after}
-use Rattle.columns_answers.specs.Said.{Answered}
-use Rattle.columns_answers.specs.Done.{done_said}
-use Rattle.columns.specs.declared.Done.{Done}
+use Rattle.columns.specs.declared.refusal.Refusal.{Refusal}
+use Rattle.columns_answers.specs.Said.{said, Answered}
 use Rattle.engine_columns.specs.Records.{Engine}
 use Rattle.engine_walks.specs.Graph.{Graph}
 use Rattle.engine_walks.specs.Settling.{settled}
@@ -24,8 +23,8 @@ row_refusal e scratch v nearest out before =
 
 -- complete_graph.rs, `PrebuiltCompleteGraph`: the answer of `fill_row`, and the row's column. Engine, Table: the column of previous vertices, which serves as
 -- scratch, and scratch hold what the table from v with no end leaves. A refused call leaves them as they were.
-pub record FilledRow (e : Engine) (v : ℕ) (nearest : List ℤ) (answer : Done) (out₀ out : List ℤ) (before₀ before : List ℕ) (scratch₀ scratch : ScratchColumns) : Type 0 where
-  pub answers : Answered (done_said answer) (row_refusal e (scratch_fits e.counts scratch₀) v (length nearest) (length out₀) (length before₀)) tt tt
+pub record FilledRow (e : Engine) (v : ℕ) (nearest : List ℤ) (answer : Result (Unit {0}) Refusal) (out₀ out : List ℤ) (before₀ before : List ℕ) (scratch₀ scratch : ScratchColumns) : Type 0 where
+  pub answers : Answered (said tt answer) (row_refusal e (scratch_fits e.counts scratch₀) v (length nearest) (length out₀) (length before₀)) tt tt
   pub out_after : out ≡ after (row_refusal e (scratch_fits e.counts scratch₀) v (length nearest) (length out₀) (length before₀)) (row (graph_in e) (weights_in e) nearest v) out₀
-  pub before_after : before ≡ after (done_said answer).number (table (graph_in e) (weights_in e) v none).previous before₀
-  pub scratch_after : ScratchAfter (done_said answer).number (graph_in e) (settled (graph_in e) (weights_in e) (only v) none) scratch₀ scratch
+  pub before_after : before ≡ after (said tt answer).number (table (graph_in e) (weights_in e) v none).previous before₀
+  pub scratch_after : ScratchAfter (said tt answer).number (graph_in e) (settled (graph_in e) (weights_in e) (only v) none) scratch₀ scratch

@@ -9,12 +9,11 @@ ghost use Rattle.query_questions.specs.Scratch.{scratch_in};
 ghost use Rattle.prebuilt_calls.specs.Rows.{FilledRow};
 
 pub use boundaries::fill_boundaries;
-use columns::questions::{at_most, both};
-use columns::{Done, TableWeight, VertexIndex, Weight};
+use columns::refusal::{Refusal, require};
+use columns::{TableWeight, VertexIndex, Weight};
 use engine_columns::EngineCounts;
-pub use nearest::{BoundaryAnswer, get_boundary_weight};
+pub use nearest::{BoundaryVertex, get_boundary_weight};
 use prebuilt_entries::rows::write_row;
-use query_questions::{query_refusal, scratch_fits};
 use query_tables::all_edges;
 
 // The row of a vertex: for each vertex the least weight to it, -1 where there is no edge. `nearest` holds each vertex's least weight to a virtual one,
@@ -38,28 +37,15 @@ pub fn fill_row(
     previous: &mut [u32],
     node: &mut [u64],
     leaf: &mut [u64],
-) -> Done
+) -> Result<(), Refusal>
     ensures { FilledRow (engine_in c ends_a.now ends_b.now weights.now boundary.now log_edges.now log_weights.now) vertex.0 nearest.now result
         out.old out.new before.old before.new
         (scratch_in neighbor_numbers.old list_ends.old status.old weight.old previous.old node.old leaf.old)
         (scratch_in neighbor_numbers.new list_ends.new status.new weight.new previous.new node.new leaf.new) }
 {
     let v = c.vertices as usize;
-    let room = scratch_fits(
-        c,
-        neighbor_numbers,
-        list_ends,
-        status,
-        weight,
-        previous,
-        node,
-        leaf,
-    );
-    let fits = both(
-        at_most(v, nearest.len()),
-        both(at_most(v, out.len()), both(at_most(v, before.len()), room)),
-    );
-    let no = query_refusal(
+    require(v <= nearest.len(), Refusal::ShortColumn)?;
+    all_edges(
         c,
         ends_a,
         ends_b,
@@ -67,32 +53,17 @@ pub fn fill_row(
         boundary,
         log_edges,
         log_weights,
-        fits,
-        vertex.0 < c.vertices,
-        0,
-    );
-    if no == 0 {
-        all_edges(
-            c,
-            ends_a,
-            ends_b,
-            weights,
-            boundary,
-            log_edges,
-            log_weights,
-            vertex,
-            out,
-            before,
-            neighbor_numbers,
-            list_ends,
-            status,
-            weight,
-            previous,
-            node,
-            leaf,
-        );
-        write_row(&boundary[..v], nearest, vertex, out);
-        return Done::Accepted;
-    }
-    Done::Refused(no)
+        vertex,
+        out,
+        before,
+        neighbor_numbers,
+        list_ends,
+        status,
+        weight,
+        previous,
+        node,
+        leaf,
+    )?;
+    write_row(&boundary[..v], nearest, vertex, out);
+    Ok(())
 }

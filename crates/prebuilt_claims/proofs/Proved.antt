@@ -11,7 +11,9 @@ use lib.Dec.{eqb}
 use lib.IntN.{ℤ, pos, negsuc}
 use Rattle.columns.specs.Lists.{each, after}
 use Rattle.columns_answers.proofs.Said.{zero_of, values_of}
-use Rattle.columns.specs.declared.Done.TheVariants.{Accepted}
+use Rattle.std.specs.Prelude.{None, Result, Ok}
+use Rattle.std.specs.Prelude as std
+use Rattle.columns.specs.declared.refusal.Refusal.{Refusal}
 use Rattle.columns.proofs.Columns.{after-accepted, over-in}
 use Rattle.columns.proofs.Counting.{length-each, getD-each}
 use Rattle.engine_columns.specs.Records.{Engine}
@@ -26,9 +28,8 @@ use Rattle.prebuilt_entries.specs.Entries.{in_the_middle, row_entry, entry_by}
 use Rattle.prebuilt_calls.specs.Rows.{FilledRow, row_refusal}
 use Rattle.prebuilt_calls.proofs.Entries.{row-asked}
 use Rattle.prebuilt_calls.proofs.Asked.{fillable}
-use Rattle.prebuilt_calls.specs.declared.nearest.BoundaryAnswer.{BoundaryAnswer}
+use Rattle.prebuilt_calls.specs.declared.nearest.BoundaryVertex.{BoundaryVertex}
 use Rattle.prebuilt_calls.specs.Nearest.{nearest_said, boundary_found}
-use Rattle.query_tables.specs.declared.End.TheVariants.{None}
 use Rattle.query_tables.proofs.Tables.{table_of}
 use Rattle.prebuilt_calls.specs.Boundaries as ours
 use Rattle.prebuilt_claims.specs.Prebuilt.{virtual, get_boundary_weight, get_edge_weight, edge_entry, weight_entry, vertex_entry, boundary_values}
@@ -47,7 +48,7 @@ module _ {A : Type 0} where
       ap (λ l. get_or l v d) (e ∙ after-accepted q (each n f) column₀ z) ∙ over-in (each n f) column₀ d v (omega (arith, length-each n f, h)) ∙ getD-each n f d v h
 
 module _ (e : Engine) (weights₀ weights : List ℤ) (vertices₀ vertices : List ℕ) (least₀ least : List ℤ) (before₀ before : List ℕ) (scratch₀ scratch : ScratchColumns)
-    (s : ours.FilledBoundaries e Accepted weights₀ weights vertices₀ vertices least₀ least before₀ before scratch₀ scratch) where
+    (s : ours.FilledBoundaries e (Ok tt) weights₀ weights vertices₀ vertices least₀ least before₀ before scratch₀ scratch) where
   abbrev refusal : ℕ
   refusal = ours.boundaries_refusal e (scratch_fits e.counts scratch₀) (length weights₀) (length vertices₀) (length least₀) (length before₀)
 
@@ -70,7 +71,7 @@ pub vertex_of_lem : (e : Engine) (weights : List ℤ) (vertices : List ℕ) → 
     → get_or vertices v 0 ≡ vertex_entry (get_boundary_weight (graph_in e) (weights_in e) v)
 vertex_of_lem e weights vertices (called.BoundariesFilled.boundaries_filled κs a s l) v h = vertex-at e _ weights _ vertices _ _ _ _ _ _ l v h
 
-module _ (e : Engine) (v : ℕ) (near out₀ out : List ℤ) (before₀ before : List ℕ) (scratch₀ scratch : ScratchColumns) (s : FilledRow e v near Accepted out₀ out before₀ before scratch₀ scratch)
+module _ (e : Engine) (v : ℕ) (near out₀ out : List ℤ) (before₀ before : List ℕ) (scratch₀ scratch : ScratchColumns) (s : FilledRow e v near (Ok tt) out₀ out before₀ before scratch₀ scratch)
     (b : (v : ℕ) → v < e.counts.vertices → weight_in near v ≡ weight_entry (get_boundary_weight (graph_in e) (weights_in e) v)) where
   abbrev number : ℕ
   number = row_refusal e (scratch_fits e.counts scratch₀) v (length near) (length out₀) (length before₀)
@@ -105,7 +106,7 @@ least_in : (g : Graph) (w : ℕ → ℕ) (v u k : ℕ) → Row g w v (table g w 
 least_in g w v u k (inl r) e = let q : r.0 ≡ k = (let s = r.1 in cc) in subst (LeastWeight g w (λ x. x ≡ v) u) q r.2
 least_in g w v u k (inr r) e = absurd (let q : ◌≡◌ {A = ℕ} 0 1 = (let s = r.0 in cc) in omega arith)
 
-module _ (e : Engine) (v : ℕ) (near out₀ out : List ℤ) (before₀ before : List ℕ) (scratch₀ scratch : ScratchColumns) (s : FilledRow e v near Accepted out₀ out before₀ before scratch₀ scratch) where
+module _ (e : Engine) (v : ℕ) (near out₀ out : List ℤ) (before₀ before : List ℕ) (scratch₀ scratch : ScratchColumns) (s : FilledRow e v near (Ok tt) out₀ out before₀ before scratch₀ scratch) where
   abbrev question : ℕ
   question = row_refusal e (scratch_fits e.counts scratch₀) v (length near) (length out₀) (length before₀)
 
@@ -131,11 +132,11 @@ fill_range e weights vertices (called.BoundariesFilled.boundaries_filled κs a s
     let f = fillable e _ _ _ _ _ (zero_of l.answers) in
     in_range e (long_of 0 e f.long) (sound_of e f.is_sound_holds)
 
-record Asked (e : Engine) (v : ℕ) (r : BoundaryAnswer) : Type 0 where
+record Asked (e : Engine) (v : ℕ) (r : Result (std.Option BoundaryVertex) Refusal) : Type 0 where
   pub values_are : (nearest_said r).values ≡ boundary_values (get_boundary_weight (graph_in e) (weights_in e) v)
   pub boundary : BoundaryIs (graph_in e) (weights_in e) v (get_boundary_weight (graph_in e) (weights_in e) v)
 
-asked_of : (e : Engine) (v : ℕ) (r : BoundaryAnswer) → BoundaryAsked e v r → (nearest_said r).number ≡ 0 → Asked e v r
+asked_of : (e : Engine) (v : ℕ) (r : Result (std.Option BoundaryVertex) Refusal) → BoundaryAsked e v r → (nearest_said r).number ≡ 0 → Asked e v r
 asked_of e v r (called.BoundaryAsked.boundary_asked κs a q s l) z =
     let g = graph_in e in
     let w = weights_in e in

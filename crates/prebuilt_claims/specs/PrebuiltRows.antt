@@ -1,11 +1,12 @@
 -- `fill_boundaries`, `get_boundary_weight` and `fill_row` together are the Rust's `PrebuiltCompleteGraph`.
-use Rattle.std.specs.Prelude.{ℕ, ◌<◌, ◌≡◌, ◌↔◌, List, get_or, ℤ, pos, negsuc}
+use Rattle.std.specs.Prelude.{ℕ, ◌<◌, ◌≡◌, ◌↔◌, List, get_or, ℤ, pos, negsuc, Option, Result}
 use Rattle.columns_answers.specs.Said.{accepts}
 use Rattle.engine_columns.specs.Records.{Engine}
 use Rattle.engine_walks.specs.Graph.{LeastWeight}
 use Rattle.engine_walks.specs.Answers.{weight_in}
 use Rattle.query_questions.specs.Queries.{graph_in, weights_in}
-use Rattle.prebuilt_calls.specs.declared.nearest.BoundaryAnswer.{BoundaryAnswer}
+use Rattle.columns.specs.declared.refusal.Refusal.{Refusal}
+use Rattle.prebuilt_calls.specs.declared.nearest.BoundaryVertex.{BoundaryVertex}
 use Rattle.prebuilt_calls.specs.Nearest.{nearest_said}
 use Rattle.prebuilt_claims.specs.Prebuilt.{get_boundary_weight, get_edge_weight, edge_entry, weight_entry, vertex_entry, boundary_values, NearestVirtual, NoneVirtual, NoEdge}
 use Rattle.prebuilt_claims.specs.Called.{BoundariesFilled, RowFilled, BoundaryAsked}
@@ -22,12 +23,12 @@ pub record PrebuiltRows : Type 0 where
   pub none_nearest : (e : Engine) (weights : List ℤ) (vertices : List ℕ) → BoundariesFilled e weights vertices → (v : ℕ) → v < e.counts.vertices
       → (weight_in weights v ≡ negsuc 0) ↔ NoneVirtual (graph_in e) v
   -- `get_boundary_weight`: the values of an accepted answer are the Rust's,
-  pub asked : (e : Engine) (v : ℕ) (r : BoundaryAnswer) → BoundaryAsked e v r → (nearest_said r).number ≡ 0
+  pub asked : (e : Engine) (v : ℕ) (r : Result (Option BoundaryVertex) Refusal) → BoundaryAsked e v r → (nearest_said r).number ≡ 0
       → (nearest_said r).values ≡ boundary_values (get_boundary_weight (graph_in e) (weights_in e) v)
   -- the vertex u and the weight k that it reports are those of the lightest walks to virtual vertices,
-  pub asked_nearest : (e : Engine) (v : ℕ) (r : BoundaryAnswer) → BoundaryAsked e v r → (u k : ℕ) → nearest_said r ≡ accepts (1, u, k) → NearestVirtual (graph_in e) (weights_in e) v u k
+  pub asked_nearest : (e : Engine) (v : ℕ) (r : Result (Option BoundaryVertex) Refusal) → BoundaryAsked e v r → (u k : ℕ) → nearest_said r ≡ accepts (1, u, k) → NearestVirtual (graph_in e) (weights_in e) v u k
   -- and it reports none exactly where v is virtual or no walk joins it to a virtual vertex.
-  pub asked_none : (e : Engine) (v : ℕ) (r : BoundaryAnswer) → BoundaryAsked e v r → (nearest_said r).number ≡ 0
+  pub asked_none : (e : Engine) (v : ℕ) (r : Result (Option BoundaryVertex) Refusal) → BoundaryAsked e v r → (nearest_said r).number ≡ 0
       → ((nearest_said r).values ≡ (0, 0, 0)) ↔ NoneVirtual (graph_in e) v
   -- The row of v over that column is the Rust's at every peer: the edge's weight, -1 exactly where the Rust has no edge.
   pub rows : (e : Engine) (weights : List ℤ) (vertices : List ℕ) → BoundariesFilled e weights vertices → (v : ℕ) (row : List ℤ) → RowFilled e v weights row

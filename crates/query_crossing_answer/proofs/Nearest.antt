@@ -1,31 +1,37 @@
 -- The least weight so far. Assumes nothing.
-use mathlib.Core.Path.{◌≡◌, refl, ap}
+use mathlib.Core.Path.{◌≡◌, refl, ap, ◌∙◌}
 use mathlib.Core.Bool.{Bool, true, false, cond}
-use mathlib.Core.Option.{Option, some, none}
-use Prim.Native.Nat.{ℕ, suc, ◌<◌}
+use mathlib.Core.Option as maybe
+use Prim.Native.Nat.{ℕ, suc, min}
+use native.Mathlib.Numerals.{add-one}
+use native.Mathlib.Omega.{arith}
+use native.Mathlib.Decide.{dec_lt}
+use borrow.Author.Tests.{lt-ltb, le-ltb}
 use lib.Dec.{ltb}
-use borrow.Author.Tests.{lt-ltb}
-use Rattle.columns.specs.Limits.{sum_limit}
+use Rattle.std.specs.Prelude.{Option, Some, None, ◌+◌}
 use Rattle.engine_walks.specs.Settling.{State, weight_at, lesser, first_least}
 use Rattle.engine_walks.specs.Answers.{weight_of}
-use Rattle.query_crossing_answer.specs.Codes.{code_of}
+use Rattle.query_crossing_answer.specs.Least.{if_any, lesser_weight}
 
 module _ (s : State) (test : ℕ → Bool) where
-  best : ℕ → ℕ
-  best v = code_of (weight_of s (first_least test (weight_at s) v))
+  abbrev pub best : ℕ → Option ℕ
+  best v = if_any (weight_of s (first_least test (weight_at s) v))
 
-  choice : (b : Bool) (v u : ℕ) → cond b (weight_at s v) (weight_at s u) ≡ code_of (weight_of s (cond b (some v) (some u)))
-  choice true v u = refl
-  choice false v u = refl
-
-  next : (b : Bool) (v : ℕ) (p : Option ℕ) → weight_at s v < sum_limit
-      → cond b (cond (ltb (weight_at s v) (code_of (weight_of s p))) (weight_at s v) (code_of (weight_of s p))) (code_of (weight_of s p)) ≡ code_of (weight_of s (cond b (lesser (weight_at s) v p) p))
-  next false v p h = refl
-  next true v none h = ap (λ b. cond b (weight_at s v) sum_limit) (lt-ltb (weight_at s v) sum_limit h)
-  next true v (some u) h = choice (ltb (weight_at s v) (weight_at s u)) v u
-
-  pub best-next : (v : ℕ) → weight_at s v < sum_limit
-      → cond (test v) (cond (ltb (weight_at s v) (code_of (weight_of s (first_least test (weight_at s) v)))) (weight_at s v) (code_of (weight_of s (first_least test (weight_at s) v)))) (code_of (weight_of s (first_least test (weight_at s) v)))
-      ≡ code_of (weight_of s (first_least test (weight_at s) (suc v)))
+  pub best_none : best 0 ≡ None
   unfolding first_least
-  best-next v h = next (test v) v (first_least test (weight_at s) v) h
+  best_none = refl
+
+  lesser-weight : (v : ℕ) (p : maybe.Option ℕ) → lesser_weight (weight_at s v) (if_any (weight_of s p)) ≡ if_any (weight_of s (lesser (weight_at s) v p))
+  lesser-weight v maybe.none = refl
+  lesser-weight v (maybe.some u) = elim (dec_lt (weight_at s v) (weight_at s u)) [
+    | yes h ↦ rw (lt-ltb (weight_at s v) (weight_at s u) h) (ap Some (let e : min (weight_at s v) (weight_at s u) ≡ weight_at s v = omega arith in e))
+    | no h ↦ rw (le-ltb (weight_at s v) (weight_at s u) (omega arith)) (ap Some (let e : min (weight_at s v) (weight_at s u) ≡ weight_at s u = omega arith in e))
+  ]
+
+  pub best-next : (v : ℕ) → cond (test v) (lesser_weight (weight_at s v) (best v)) (best v) ≡ best (v + 1)
+  unfolding first_least
+  best-next v = go (test v) (first_least test (weight_at s) v) ∙ ap (λ n. if_any (weight_of s (first_least test (weight_at s) n))) (let e : suc v ≡ v + 1 = omega arith in e)
+    where
+      go : (b : Bool) (p : maybe.Option ℕ) → cond b (lesser_weight (weight_at s v) (if_any (weight_of s p))) (if_any (weight_of s p)) ≡ if_any (weight_of s (cond b (lesser (weight_at s) v p) p))
+      go true p = lesser-weight v p
+      go false p = refl

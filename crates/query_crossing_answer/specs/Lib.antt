@@ -1,3 +1,3 @@
--- Crossing: what the crossing query answers and leaves. Codes: how one number stands for a weight or for none.
+-- Crossing: what the crossing query answers and leaves. Least: the least weight so far.
 pub mod Crossing
-pub mod Codes
+pub mod Least

@@ -1,54 +1,42 @@
 // What a crossing asks and answers: its questions, the nearest of the right vertices that a search has taken, the reply.
 #![tactic(auto)]
 
-ghost use Rattle.std.specs.Prelude.{◌≡◌, cond, ◌&&◌, List, ℕ, ◌<◌, length, get_or, eqb, ltb};
-ghost use Rattle.columns.specs.Limits.{sum_limit};
+ghost use Rattle.std.specs.Prelude.{◌≡◌, cond, ◌&&◌, List, ℕ, length, get_or, eqb, ok_or};
+ghost use Rattle.columns.specs.Refusals.{question_of};
+ghost use Rattle.columns.specs.declared.refusal.Refusal.TheVariants.{NoCrossing};
 ghost use Rattle.engine_columns.specs.Records.{engine_in};
 ghost use Rattle.engine_walks.specs.Settling.{first_least, weight_at};
 ghost use Rattle.engine_walks.specs.Answers.{taken, weight_of};
 ghost use Rattle.query_relaxing.specs.Ready.{state_of};
-ghost use Rattle.query_crossing_answer.specs.Codes.{code_of};
+ghost use Rattle.query_crossing_answer.specs.Least.{if_any, lesser_weight};
 ghost use Rattle.query_crossing_answer.specs.Crossing.{crossing_asked};
 
-use columns::questions::{at_most, both};
-use columns::{SUM_LIMIT, Weight};
+use columns::refusal::Refusal;
+use columns::{RIGHT, Weight};
 use engine_columns::EngineCounts;
 use query_questions::query_refusal;
 
-// The crossing weight, or the number of the question that is not met.
-#[derive(Clone, Copy)]
-pub enum CrossingReply {
-    Crossed(Weight),
-    Refused(u32),
-}
-
-// A weight that no vertex has.
-pub const NO_WEIGHT: Weight = SUM_LIMIT;
-
-// The lesser of two weights where the second is that of a right vertex that was taken, else the first.
-fn nearer(best: Weight, boundary: u8, status: u8, weight: Weight) -> Weight
-    ensures { result ≡ cond (eqb boundary 2 && eqb status 2) (cond (ltb weight best) weight best) best }
+// The lesser of the least weight so far and that of a vertex, where the vertex is a right one that was taken.
+fn nearer(best: Option<Weight>, boundary: u8, status: u8, weight: Weight) -> Option<Weight>
+    ensures { result ≡ cond (eqb boundary 2 && eqb status 2) (lesser_weight weight best) best }
 {
-    if boundary == 2 {
-        if status == 2 {
-            if weight < best {
-                return weight;
-            }
-        }
+    if boundary != RIGHT || status != 2 {
+        return best;
     }
-    best
+    match best {
+        None => Some(weight),
+        Some(least) => Some(weight.min(least)),
+    }
 }
 
-// The least weight of a right vertex that was taken, NO_WEIGHT where there is none.
-pub fn nearest_right(status: &[u8], weight: &[Weight], boundary: &[u8]) -> Weight
-    requires { (length weight.now ≡ length status.now) × (length boundary.now ≡ length status.now) × ((v : ℕ) → v < length status.now → get_or weight.now v 0 < sum_limit) }
-    ensures { (p : List ℕ) → result ≡ code_of (weight_of (state_of status.now weight.now p) (first_least (λ v. eqb (get_or boundary.now v 0) 2 && taken (state_of status.now weight.now p) v) (weight_at (state_of status.now weight.now p)) (length status.now))) }
+// The least weight of a right vertex that was taken.
+pub fn nearest_right(status: &[u8], weight: &[Weight], boundary: &[u8]) -> Option<Weight>
+    requires { (length weight.now ≡ length status.now) × (length boundary.now ≡ length status.now) }
+    ensures { (p : List ℕ) → result ≡ if_any (weight_of (state_of status.now weight.now p) (first_least (λ v. eqb (get_or boundary.now v 0) 2 && taken (state_of status.now weight.now p) v) (weight_at (state_of status.now weight.now p)) (length status.now))) }
 {
-    let mut best: Weight = NO_WEIGHT;
-    let mut v: usize = 0;
-    while v < status.len() {
+    let mut best = None;
+    for v in 0..status.len() {
         best = nearer(best, boundary[v], status[v], weight[v]);
-        v += 1;
     }
     best
 }
@@ -64,10 +52,9 @@ pub fn crossing_asked(
     log_weights: &[Weight],
     out: usize,
     scratch: bool,
-) -> u32
-    ensures { result ≡ crossing_asked (engine_in c ends_a.now ends_b.now weights.now boundary.now log_edges.now log_weights.now) scratch out 0 }
+) -> Result<(), Refusal>
+    ensures { question_of result ≡ crossing_asked (engine_in c ends_a.now ends_b.now weights.now boundary.now log_edges.now log_weights.now) scratch out 0 }
 {
-    let fits = both(at_most(c.vertices as usize, out), scratch);
     query_refusal(
         c,
         ends_a,
@@ -76,18 +63,14 @@ pub fn crossing_asked(
         boundary,
         log_edges,
         log_weights,
-        fits,
+        c.vertices as usize <= out && scratch,
         true,
-        0,
     )
 }
 
-// 18, or the crossing weight that was found.
-pub fn reply(found: Weight) -> CrossingReply
-    ensures { result ≡ cond (eqb found sum_limit) (CrossingReply.Refused 18) (CrossingReply.Crossed found) }
+// Question 18: the crossing weight that was found.
+pub fn reply(found: Option<Weight>) -> Result<Weight, Refusal>
+    ensures { result ≡ ok_or found NoCrossing }
 {
-    if found == NO_WEIGHT {
-        return CrossingReply::Refused(18);
-    }
-    CrossingReply::Crossed(found)
+    found.ok_or(Refusal::NoCrossing)
 }

@@ -2,15 +2,17 @@
 #![tactic(auto)]
 
 ghost use Rattle.std.specs.Prelude.{◌≡◌, cond, eqb};
+ghost use Rattle.columns.specs.Refusals.{question_of};
 ghost use Rattle.engine_columns.specs.Records.{engine_in};
 ghost use Rattle.query_questions.specs.Queries.{query_refusal};
 ghost use Rattle.query_questions.specs.Scratch.{scratch_in, scratch_fits};
 
-use columns::questions::{asked, at_most, both};
+use columns::refusal::{Refusal, require};
 use columns::{VertexIndex, Weight};
 use engine_columns::{EngineCounts, engine_sound, long_enough};
 
 // Question 6, of scratch.
+#[tactic(auto, unfolding(crate::specs::Scratch::scratch_long))]
 pub fn scratch_fits(
     c: EngineCounts,
     neighbor_numbers: &[u32],
@@ -24,26 +26,16 @@ pub fn scratch_fits(
     ensures { result ≡ scratch_fits c (scratch_in neighbor_numbers.now list_ends.now status.now weight.now previous.now node.now leaf.now) }
 {
     let v = c.vertices as usize;
-    let twice = at_most(2 * (c.edges as usize), neighbor_numbers.len());
-    both(
-        twice,
-        both(
-            at_most(v, list_ends.len()),
-            both(
-                at_most(v, status.len()),
-                both(
-                    at_most(v, weight.len()),
-                    both(
-                        at_most(v, previous.len()),
-                        both(at_most(v, node.len()), at_most(v, leaf.len())),
-                    ),
-                ),
-            ),
-        ),
-    )
+    2 * (c.edges as usize) <= neighbor_numbers.len()
+        && v <= list_ends.len()
+        && v <= status.len()
+        && v <= weight.len()
+        && v <= previous.len()
+        && v <= node.len()
+        && v <= leaf.len()
 }
 
-// Questions 6, 7 and 13 of a query, then `next`, the number of its later questions.
+// Questions 6, 7 and 13 of a query.
 pub fn query_refusal(
     c: EngineCounts,
     ends_a: &[u32],
@@ -54,9 +46,8 @@ pub fn query_refusal(
     log_weights: &[Weight],
     fits: bool,
     in_range: bool,
-    next: u32,
-) -> u32
-    ensures { result ≡ query_refusal (engine_in c ends_a.now ends_b.now weights.now boundary.now log_edges.now log_weights.now) fits in_range next }
+) -> Result<(), Refusal>
+    ensures { question_of result ≡ query_refusal (engine_in c ends_a.now ends_b.now weights.now boundary.now log_edges.now log_weights.now) fits in_range 0 }
 {
     let long = long_enough(
         c,
@@ -68,12 +59,10 @@ pub fn query_refusal(
         log_weights,
         0,
     );
+    require(long && fits, Refusal::ShortColumn)?;
     let sound = engine_sound(c, ends_a, ends_b, weights, boundary, log_edges, log_weights);
-    asked(
-        both(long, fits),
-        6,
-        asked(sound, 7, asked(in_range, 13, next)),
-    )
+    require(sound, Refusal::UnsoundColumns)?;
+    require(in_range, Refusal::NumberOutOfRange)
 }
 
 // The number after which a search from the source stops, where an end is named: where that is the source, the number of vertices, which no vertex has.
@@ -81,7 +70,8 @@ pub fn named_stop(b: VertexIndex, source: VertexIndex, vertices: u32) -> VertexI
     ensures { result.0 ≡ cond (eqb b.0 source.0) vertices b.0 }
 {
     if b.0 == source.0 {
-        return VertexIndex(vertices);
+        VertexIndex(vertices)
+    } else {
+        b
     }
-    b
 }

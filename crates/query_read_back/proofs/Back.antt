@@ -12,7 +12,7 @@ use Rattle.columns.specs.declared.VertexIndex.{VertexIndex}
 use Rattle.engine_walks.specs.Graph.{Graph}
 use Rattle.engine_walks.specs.Settling.{State, previous_at, settled}
 use Rattle.engine_walks.specs.Answers.{entry, behind, read_back_of, taken, step_into, only, path, path_in}
-use Rattle.query_read_back.specs.declared.TableEntry.TheVariants.{Previous, None}
+use Rattle.std.specs.Prelude.{Some, None}
 use Rattle.query_read_back.specs.Path.{entry_of, step_back, path_of}
 
 -- the path of a to b in s, written down to place i and read back to v
@@ -29,7 +29,7 @@ pub entry_none : (o : Option ℕ) → entry_of o ≡ None → o ≡ none
 entry_none none e = refl
 entry_none (some v) e = absurd (let z : ◌≡◌ {A = ℕ} 0 1 = cc in omega arith)
 
-pub entry_some : (o : Option ℕ) (p : VertexIndex) → entry_of o ≡ Previous p → o ≡ some p.0
+pub entry_some : (o : Option ℕ) (p : VertexIndex) → entry_of o ≡ Some p → o ≡ some p.0
 entry_some none p e = absurd (let z : ◌≡◌ {A = ℕ} 0 1 = cc in omega arith)
 entry_some (some v) p e = let q : ◌≡◌ {A = VertexIndex} (record { 0 = v }) p = cc in ap (λ (x : VertexIndex). some x.0) q
 

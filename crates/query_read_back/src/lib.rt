@@ -9,57 +9,40 @@ ghost use Rattle.query_read_back.specs.Path.{step_back, entry_of};
 
 use columns::{VertexIndex, Weight};
 
-// An entry of the table: a previous vertex or none.
-#[derive(Clone, Copy)]
-pub enum TableEntry {
-    Previous(VertexIndex),
-    None,
-}
-
-// The entry of vertex v.
-fn entry_at(status: &[u8], previous: &[u32], v: VertexIndex) -> TableEntry
+// The table's entry for vertex v: its previous vertex, none where it was not taken.
+fn entry_at(status: &[u8], previous: &[u32], v: VertexIndex) -> Option<VertexIndex>
     ensures { (w : List ℕ) → result ≡ entry_of (entry (state_of status.now w previous.now) v.0) }
 {
-    let at = v.0 as usize;
-    if status.len() <= at {
-        return TableEntry::None;
+    if is_taken(status, v) {
+        Some(VertexIndex(load_previous(previous, v)))
+    } else {
+        None
     }
-    if status[at] != 2 {
-        return TableEntry::None;
-    }
-    TableEntry::Previous(VertexIndex(load_previous(previous, v)))
 }
 
 // The previous vertex of v, 0 past the column's end.
 fn load_previous(previous: &[u32], v: VertexIndex) -> u32
     ensures { result ≡ get_or previous.now v.0 0 }
 {
-    let at = v.0 as usize;
-    if at < previous.len() {
-        return previous[at];
-    }
-    0
+    previous.get(v.0 as usize).copied().unwrap_or(0)
 }
 
 // The weight of v, 0 past the column's end.
 pub fn load_weight(weight: &[Weight], v: VertexIndex) -> Weight
     ensures { result ≡ get_or weight.now v.0 0 }
 {
-    let at = v.0 as usize;
-    if at < weight.len() {
-        return weight[at];
-    }
-    0
+    weight.get(v.0 as usize).copied().unwrap_or(0)
 }
 
 // One step back from v on the way to a: none at a, and where v was not taken.
-fn step_back(status: &[u8], previous: &[u32], a: VertexIndex, v: VertexIndex) -> TableEntry
+fn step_back(status: &[u8], previous: &[u32], a: VertexIndex, v: VertexIndex) -> Option<VertexIndex>
     ensures { (w : List ℕ) → result ≡ entry_of (step_back (state_of status.now w previous.now) a.0 v.0) }
 {
     if v.0 == a.0 {
-        return TableEntry::None;
+        None
+    } else {
+        entry_at(status, previous, v)
     }
-    entry_at(status, previous, v)
 }
 
 // How many vertices the path from a to b has.
@@ -68,27 +51,20 @@ pub fn path_length(status: &[u8], previous: &[u32], a: VertexIndex, b: VertexInd
 {
     let n = status.len();
     let mut v = b;
-    let mut j: usize = 0;
-    while j < n {
-        let TableEntry::Previous(p) = step_back(status, previous, a, v) else {
+    for j in 0..n {
+        let Some(p) = step_back(status, previous, a, v) else {
             return j;
         };
         v = p;
-        j += 1;
     }
-    j
+    n
 }
 
 // The weight of the step from p to v, 0 where v weighs less.
 fn step_weight(weight: &[Weight], p: VertexIndex, v: VertexIndex) -> Weight
     ensures { result ≡ get_or weight.now v.0 0 - get_or weight.now p.0 0 }
 {
-    let at = load_weight(weight, v);
-    let before = load_weight(weight, p);
-    if at < before {
-        return 0;
-    }
-    at - before
+    load_weight(weight, v).saturating_sub(load_weight(weight, p))
 }
 
 // The path's vertices and the weights of its steps, from the last back to the first.
@@ -107,12 +83,10 @@ pub fn write_path(
     ensures out_steps_after { out_steps.new ≡ sets out_steps.old 0 (map (step_into (state_of status.now weight.now previous.now)) (read_back_of (state_of status.now weight.now previous.now) a.0 (length status.now) b.0)) }
 {
     let mut v = b;
-    let mut i = count;
-    while 0 < i {
-        let TableEntry::Previous(p) = step_back(status, previous, a, v) else {
+    for i in (0..count).rev() {
+        let Some(p) = step_back(status, previous, a, v) else {
             return;
         };
-        i -= 1;
         out_vertices[i] = v.0;
         out_steps[i] = step_weight(weight, p, v);
         v = p;
@@ -123,9 +97,5 @@ pub fn write_path(
 pub fn is_taken(status: &[u8], v: VertexIndex) -> bool
     ensures { (w p : List ℕ) → result ≡ taken (state_of status.now w p) v.0 }
 {
-    let at = v.0 as usize;
-    if at < status.len() {
-        return status[at] == 2;
-    }
-    false
+    status.get(v.0 as usize) == Some(&2)
 }

@@ -15,8 +15,8 @@ use Rattle.columns_neighbors.specs.Sound.{SoundGraph}
 use Rattle.columns_neighbors.proofs.Ends.{graph-says}
 use Rattle.engine_columns.specs.Records.{Engine}
 use Rattle.engine_columns.specs.declared.EngineCounts.{EngineCounts}
-use Rattle.engine_columns.specs.Questions.{engine_long, engine_sound}
-use Rattle.engine_columns.proofs.Refusals.{ColumnsLong, Long, long_of, ColumnsSound, Sound, sound_of}
+use Rattle.engine_columns.specs.Questions.{columns_long, columns_sound, engine_long, engine_sound}
+use Rattle.engine_columns.proofs.Refusals.{ColumnsLong, columns-long-from, Long, long_of, ColumnsSound, columns-sound-from, Sound, sound_of}
 use Rattle.query_questions.specs.Queries.{query_refusal}
 use Rattle.query_search.specs.Search.{Searchable}
 use Rattle.query_questions.specs.Scratch.{scratch_of, scratch_lengths, scratch_long, ScratchLengths}
@@ -72,6 +72,11 @@ query_of e fits within next z =
       in_range = met within 12 next z3;
       last = goes_on within 12 next z3;
     }
+
+-- what a search needs of the engine's columns
+pub query_columns : (e : Engine) (fits within : Bool) (next : ℕ) → query_refusal e fits within next ≡ 0
+    → (columns_long e.counts.vertices e.counts.edges e.ends_a e.ends_b e.weights e.boundary ≡ true) × (columns_sound e.counts.vertices e.counts.edges e.ends_a e.ends_b e.weights e.boundary ≡ true)
+query_columns e fits within next z = let q = query_of e fits within next z in (columns-long-from _ _ _ _ _ _ q.long.columns, columns-sound-from _ _ _ _ _ _ q.sound.columns)
 
 -- columns cut to their counts
 cut_graph : (v e : ℕ) (a b : List ℕ) → SoundGraph v e a b → SoundGraph v e (take e a) (take e b)

@@ -15,8 +15,8 @@ use Rattle.columns.proofs.Counting.{length-each}
 use Rattle.engine_walks.specs.Answers.{only, table, table_weight, table_previous}
 use Rattle.engine_walks.proofs.Turns.{source_stops_nothing}
 use Rattle.query_relaxing.specs.Ready.{end_of}
-use Rattle.query_tables.specs.declared.End.{End}
-use Rattle.query_tables.specs.declared.End.TheVariants.{None, At}
+use Rattle.std.specs.Prelude as std
+use Rattle.columns.specs.declared.VertexIndex.{VertexIndex}
 use Rattle.query_tables.specs.Ends.{end_in, end_in_range, stop_of}
 
 -- an end that is the source stops nothing
@@ -28,10 +28,10 @@ source_end g w a (suc k) = ap (next g w (only a) none) (source_end g w a k) ∙ 
     one : (s : State) → next g w (only a) none s ≡ next g w (only a) (some a) s
     one s = unfold next stopped in ap (λ b. cond b s (take_chosen g w s (to_take g.vertices s))) (sym (source_stops_nothing (only a) a s (eq-eqb a a refl)))
 
-pub stop_same : (g : Graph) (w : ℕ → ℕ) (a : ℕ) (end : End) → end_in_range end g.vertices ≡ true
+pub stop_same : (g : Graph) (w : ℕ → ℕ) (a : ℕ) (end : std.Option VertexIndex) → end_in_range end g.vertices ≡ true
     → settled g w (only a) (end_of g.vertices (stop_of end a g.vertices)) ≡ settled g w (only a) (end_in end)
-stop_same g w a None h = ap (λ b. settled g w (only a) (cond b (some g.vertices) none)) (le-ltb g.vertices g.vertices (omega arith))
-stop_same g w a (At b) h = elim (ℕ_discrete b.0 a) [
+stop_same g w a std.None h = ap (λ b. settled g w (only a) (cond b (some g.vertices) none)) (le-ltb g.vertices g.vertices (omega arith))
+stop_same g w a (std.Some b) h = elim (ℕ_discrete b.0 a) [
   | yes e ↦ ap (λ k. settled g w (only a) (end_of g.vertices (cond k g.vertices b.0))) (eq-eqb b.0 a e)
       ∙ ap (λ k. settled g w (only a) (cond k (some g.vertices) none)) (le-ltb g.vertices g.vertices (omega arith))
       ∙ source_end g w a g.vertices ∙ ap (λ k. settled g w (only a) (some k)) (sym e)
@@ -39,16 +39,16 @@ stop_same g w a (At b) h = elim (ℕ_discrete b.0 a) [
       ∙ ap (λ k. settled g w (only a) (cond k (some b.0) none)) h
 ]
 
-pub stop_other : (a v : ℕ) (end : End) → a < v → stop_of end a v ≢ a
-stop_other a v None h e = omega arith
-stop_other a v (At b) h e = go (ℕ_discrete b.0 a)
+pub stop_other : (a v : ℕ) (end : std.Option VertexIndex) → a < v → stop_of end a v ≢ a
+stop_other a v std.None h e = omega arith
+stop_other a v (std.Some b) h e = go (ℕ_discrete b.0 a)
   where
     go : Dec (b.0 ≡ a) → ⊥
     go (yes q) = let z = sym (ap (λ k. cond k v b.0) (eq-eqb b.0 a q)) ∙ e in omega arith
     go (no q) = q (sym (ap (λ k. cond k v b.0) (ne_eqb b.0 a q)) ∙ e)
 
 -- the table by the code's stop is the table by the named end
-pub table_same : (g : Graph) (w : ℕ → ℕ) (a : ℕ) (end : End) → end_in_range end g.vertices ≡ true
+pub table_same : (g : Graph) (w : ℕ → ℕ) (a : ℕ) (end : std.Option VertexIndex) → end_in_range end g.vertices ≡ true
     → table g w a (end_of g.vertices (stop_of end a g.vertices)) ≡ table g w a (end_in end)
 unfolding table
 table_same g w a end h = ap (λ s. record { weights = each g.vertices (table_weight s); previous = each g.vertices (table_previous s) }) (stop_same g w a end h)

@@ -8,12 +8,10 @@
 use columns::refusal::Refusal;
 use columns::{TableWeight, VertexIndex, Weight};
 use engine_columns::EngineCounts;
-use query_crossing_answer::CrossingReply;
-use query_paths::PathAnswer;
-use query_tables::End;
+use query_paths::PathCounts;
 use test_numbers::{
-    after, at, copy_u8, copy_u32, end_line, narrow_at, read_input, show, show_answer, show_done,
-    show_list, show_weights, size_at,
+    after, at, copy_u8, copy_u32, end_line, narrow_at, read_input, show, show_answer, show_list,
+    show_weights, size_at,
 };
 
 const VERTICES: usize = 16;
@@ -34,11 +32,12 @@ fn show_engine(rt: &impl Print, answer: Result<EngineCounts, Refusal>) {
 }
 
 // No end, or the end that a query names.
-fn end_of(kind: u64, end: u32) -> End {
+fn end_of(kind: u64, end: u32) -> Option<VertexIndex> {
     if kind == 0 {
-        return End::None;
+        None
+    } else {
+        Some(VertexIndex(end))
     }
-    End::At(VertexIndex(end))
 }
 
 // The table of a query, from columns that hold marks before it.
@@ -64,7 +63,7 @@ fn table(
     let mut previous = [0u32; VERTICES];
     let mut node = [0u64; VERTICES];
     let mut leaf = [0u64; VERTICES];
-    show_done(
+    show_answer(
         rt,
         query_tables::all_edges_with_terminate(
             c,
@@ -92,10 +91,10 @@ fn table(
 }
 
 // A refusal's number, or 0 and the crossing weight.
-fn show_crossing(rt: &impl Print, answer: CrossingReply) {
+fn show_crossing(rt: &impl Print, answer: Result<Weight, Refusal>) {
     match answer {
-        CrossingReply::Crossed(weight) => show_two(rt, 0, weight),
-        CrossingReply::Refused(number) => show(rt, number as u64),
+        Ok(weight) => show_two(rt, 0, weight),
+        Err(refusal) => show(rt, u32::from(refusal) as u64),
     }
     end_line(rt);
 }
@@ -148,10 +147,10 @@ fn cross(
 }
 
 // A refusal's number, or the path's length and total.
-fn show_path(rt: &impl Print, answer: PathAnswer) {
+fn show_path(rt: &impl Print, answer: Result<PathCounts, Refusal>) {
     match answer {
-        PathAnswer::Found(count, total) => show_two(rt, count, total),
-        PathAnswer::Refused(number) => show(rt, number as u64),
+        Ok(path) => show_two(rt, path.length, path.total),
+        Err(refusal) => show(rt, u32::from(refusal) as u64),
     }
     end_line(rt);
 }

@@ -25,10 +25,11 @@ use Rattle.codes_layers.proofs.Accepted.{accepted}
 use Rattle.codes_layers.proofs.Counted.{edges-counted, vertices-counted}
 use Rattle.codes_graphs.specs.Graphs.{built_graph}
 use Rattle.codes_graphs.proofs.Sound.{built}
-use Rattle.query_crossing_answer.specs.declared.CrossingReply.{CrossingReply}
+use Rattle.std.specs.Prelude.{Result}
+use Rattle.columns.specs.declared.refusal.Refusal.{Refusal}
 use Rattle.query_questions.specs.Queries.{graph_in, weights_in}
-use Rattle.query_crossing_answer.specs.Crossing.{is_joined, weight_found, crossing_said, crossing_refusal}
-use Rattle.columns_answers.specs.Said.{Answered}
+use Rattle.query_crossing_answer.specs.Crossing.{is_joined, weight_found, crossing_refusal}
+use Rattle.columns_answers.specs.Said.{said, Answered}
 use Rattle.text_listing.specs.Listing.{weights_of, crossing_of}
 use Rattle.text_listing.specs.Steps.{HoldsWeights, ScratchRoom, Replied}
 use Rattle.query_questions.specs.Scratch.{ScratchLengths, scratch_long}
@@ -105,12 +106,12 @@ module _ (kind d rounds : ℕ) (p : _) (max v e : ℕ) (a b w m : List ℕ) (s :
   unfolding crossing_of
   same-crossing le lw = λ i. crossing (same_graph le lw i) (λ k. get_or (s.in_w i) k 0)
 
-  pub replied : (le lw : List ℕ) (out : ℕ) (l : ScratchLengths) (r : CrossingReply) → ScratchRoom out l
-      → Answered (crossing_said r) (crossing_refusal (the-engine le lw) (scratch_long (counts v e 0) l) out) (weight_found (crossing (graph_in (the-engine le lw)) (weights_in (the-engine le lw)))) 0
+  pub replied : (le lw : List ℕ) (out : ℕ) (l : ScratchLengths) (r : Result ℕ Refusal) → ScratchRoom out l
+      → Answered (said 0 r) (crossing_refusal (the-engine le lw) (scratch_long (counts v e 0) l) out) (weight_found (crossing (graph_in (the-engine le lw)) (weights_in (the-engine le lw)))) 0
       → Replied kind d rounds p max r
   replied le lw out l r room q =
       let o : Option ℕ = crossing (graph_in (the-engine le lw)) (weights_in (the-engine le lw)) in
       let number : crossing_refusal (the-engine le lw) (scratch_long (counts v e 0) l) out ≡ ask (is_joined o) 18 0 =
       λ i. ask (both_and (engine-long le lw) (scratch_long_holds out l room) i) 6 (ask (engine-sound le lw i) 7 (ask (is_joined o) 18 0)) in
-      subst (λ (c : Option ℕ). Answered (crossing_said r) (ask (is_joined c) 18 0) (weight_found c) 0) (same-crossing le lw)
-      (subst (λ (n : ℕ). Answered (crossing_said r) n (weight_found o) 0) number q)
+      subst (λ (c : Option ℕ). Answered (said 0 r) (ask (is_joined c) 18 0) (weight_found c) 0) (same-crossing le lw)
+      (subst (λ (n : ℕ). Answered (said 0 r) n (weight_found o) 0) number q)

@@ -14,11 +14,12 @@ use Rattle.codes_layers.specs.Codes.{edges_of, vertices_of}
 use Rattle.codes_layers.specs.Counts.{vertex_num, edge_num}
 use Rattle.text_numbers.specs.Text.{ended, vertex_line, edge_line, graph_line, crossing_line, vertex_lines, edge_lines, listing, refusal_line}
 use Rattle.text_numbers.specs.Steps.{Put}
-use Rattle.query_crossing_answer.specs.declared.CrossingReply.{CrossingReply}
-use Rattle.query_crossing_answer.specs.declared.CrossingReply.TheVariants.{Crossed, Refused}
+use Rattle.std.specs.Prelude.{Result, Ok, Err}
+use Rattle.columns.specs.declared.refusal.Refusal.{Refusal}
+use Rattle.columns.specs.Refusals.{number}
 use Rattle.columns.specs.Questions.{ask}
-use Rattle.columns_answers.specs.Said.{Answered}
-use Rattle.query_crossing_answer.specs.Crossing.{is_joined, weight_found, crossing_said}
+use Rattle.columns_answers.specs.Said.{said, Answered}
+use Rattle.query_crossing_answer.specs.Crossing.{is_joined, weight_found}
 use Rattle.query_crossing_answer.proofs.Cases.{crossed_case, refused_case}
 use Rattle.std.specs.Prelude.{Result, Ok, Err}
 use Rattle.codes_calls.specs.declared.CodeCounts.{CodeCounts}
@@ -54,12 +55,12 @@ module _ (kind d rounds : ℕ) (p : Float) (max v e : ℕ) (a b w m : List ℕ) 
   unfolding listing
   same-listing weight = λ i. graph_line kind d rounds (s.vertices i) (s.edges i) ++ (same_vertices i ++ (same_edges i ++ crossing_line weight))
 
-  by-crossing : (o : Option ℕ) (r : CrossingReply) → Answered (crossing_said r) (ask (is_joined o) 18 0) (weight_found o) 0
+  by-crossing : (o : Option ℕ) (r : Result ℕ Refusal) → Answered (said 0 r) (ask (is_joined o) 18 0) (weight_found o) 0
       → reply_text kind d rounds v e m a b w r ≡ with_crossing kind d rounds (weights_of kind d rounds p max) o
   by-crossing (some weight) r q = ap (reply_text kind d rounds v e m a b w) (crossed_case r q refl) ∙ same-listing weight
-  by-crossing none r q = ap (reply_text kind d rounds v e m a b w) (refused_case r q (λ h. absurd (omega arith)))
+  by-crossing none r q = let k = refused_case r q (λ h. absurd (omega arith)) in ap (reply_text kind d rounds v e m a b w) k.is ∙ ap refusal_line k.number_is
 
-  pub reply-is : (r : CrossingReply) → Replied kind d rounds p max r → reply_text kind d rounds v e m a b w r ≡ listing_of kind d rounds p max
+  pub reply-is : (r : Result ℕ Refusal) → Replied kind d rounds p max r → reply_text kind d rounds v e m a b w r ≡ listing_of kind d rounds p max
   unfolding listing_of
   reply-is r q = by-crossing (crossing_of kind d rounds p max) r q
 
@@ -72,11 +73,11 @@ renamed {xs} {ys} {t₀} {t} {at} {r} e p = subst (λ (l : List ℕ). Put t₀ a
 pub fitting : {xs ys : List ℕ} {room : ℕ} → xs ≡ ys → length ys ≤ room → length xs ≤ room
 fitting {xs} {ys} {room} e h = subst (λ (l : List ℕ). length l ≤ room) (sym e) h
 
-module _ (kind d rounds v e : ℕ) (m a b w : List ℕ) (reply : CrossingReply) {room : ℕ} where
-  pub refused-reply-fits : (n : ℕ) → reply ≡ Refused n → length (reply_text kind d rounds v e m a b w reply) ≤ room → length (refusal_line n) ≤ room
+module _ (kind d rounds v e : ℕ) (m a b w : List ℕ) (reply : Result ℕ Refusal) {room : ℕ} where
+  pub refused-reply-fits : (n : Refusal) → reply ≡ Err n → length (reply_text kind d rounds v e m a b w reply) ≤ room → length (refusal_line (number n)) ≤ room
   refused-reply-fits n q h = fitting (ap (reply_text kind d rounds v e m a b w) (sym q)) h
 
-  pub crossed-reply-fits : (weight : ℕ) → reply ≡ Crossed weight → length (reply_text kind d rounds v e m a b w reply) ≤ room → length (listing kind d rounds v e m a b w weight) ≤ room
+  pub crossed-reply-fits : (weight : ℕ) → reply ≡ Ok weight → length (reply_text kind d rounds v e m a b w reply) ≤ room → length (listing kind d rounds v e m a b w weight) ≤ room
   crossed-reply-fits weight q h = fitting (ap (reply_text kind d rounds v e m a b w) (sym q)) h
 
 -- an answer that is no refusal has the listing
@@ -91,11 +92,11 @@ module _ (kind d rounds : ℕ) (p : Float) (max : ℕ) (answer : Result CodeCoun
   pub built-made-fits : ((n : Refusal) → answer ≡ Err n → ⊥) → length (made_text kind d rounds p max answer) ≤ room → length (listing_of kind d rounds p max) ≤ room
   built-made-fits f h = fitting (built_text kind d rounds p max answer f) h
 
-module _ (kind d rounds v e : ℕ) (m a b w : List ℕ) (reply : CrossingReply) {t₀ t : List ℕ} {r : ℕ} where
-  pub refused-reply : (n : ℕ) → Put t₀ 0 (refusal_line n) t r → reply ≡ Refused n → Put t₀ 0 (reply_text kind d rounds v e m a b w reply) t r
+module _ (kind d rounds v e : ℕ) (m a b w : List ℕ) (reply : Result ℕ Refusal) {t₀ t : List ℕ} {r : ℕ} where
+  pub refused-reply : (n : Refusal) → Put t₀ 0 (refusal_line (number n)) t r → reply ≡ Err n → Put t₀ 0 (reply_text kind d rounds v e m a b w reply) t r
   refused-reply n p q = renamed (ap (reply_text kind d rounds v e m a b w) (sym q)) p
 
-  pub crossed-reply : (weight : ℕ) → Put t₀ 0 (listing kind d rounds v e m a b w weight) t r → reply ≡ Crossed weight → Put t₀ 0 (reply_text kind d rounds v e m a b w reply) t r
+  pub crossed-reply : (weight : ℕ) → Put t₀ 0 (listing kind d rounds v e m a b w weight) t r → reply ≡ Ok weight → Put t₀ 0 (reply_text kind d rounds v e m a b w reply) t r
   crossed-reply weight p q = renamed (ap (reply_text kind d rounds v e m a b w) (sym q)) p
 
   pub listed-reply : (p : Float) (max : ℕ) → HoldsWeights kind d rounds p max v e a b w m → Replied kind d rounds p max reply

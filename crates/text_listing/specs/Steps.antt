@@ -10,10 +10,8 @@ use Rattle.columns.specs.Questions.{ask, weights_sound}
 use Rattle.codes_calls.specs.declared.CodeCounts.{CodeCounts}
 use Rattle.columns.specs.declared.refusal.Refusal.{Refusal}
 use Rattle.columns.specs.Refusals.{number}
-use Rattle.query_crossing_answer.specs.declared.CrossingReply.{CrossingReply}
-use Rattle.query_crossing_answer.specs.declared.CrossingReply.TheVariants.{Crossed, Refused}
 use Rattle.query_crossing_answer.specs.Crossing.{is_joined, weight_found, crossing_said}
-use Rattle.columns_answers.specs.Said.{Answered}
+use Rattle.columns_answers.specs.Said.{Answered, said}
 use Rattle.text_numbers.specs.Text.{refusal_line, listing}
 use Rattle.text_listing.specs.Listing.{weights_of, crossing_of, listing_of}
 use Rattle.codes_calls.specs.Probabilities.{probabilities, diagonal_of}
@@ -58,13 +56,13 @@ pub record HoldsWeights (kind d rounds : ℕ) (p : Float) (max v e : ℕ) (a b w
   pub in_m : take v m ≡ boundaries (vertices_of kind d rounds)
 
 -- Engine, Crossing; Questions at the door, 18: what the crossing query answers.
-abbrev pub Replied : (kind d rounds : ℕ) (p : Float) (max : ℕ) → CrossingReply → Type 0
-Replied kind d rounds p max r = Answered (crossing_said r) (ask (is_joined (crossing_of kind d rounds p max)) 18 0) (weight_found (crossing_of kind d rounds p max)) 0
+abbrev pub Replied : (kind d rounds : ℕ) (p : Float) (max : ℕ) → Result ℕ Refusal → Type 0
+Replied kind d rounds p max r = Answered (said 0 r) (ask (is_joined (crossing_of kind d rounds p max)) 18 0) (weight_found (crossing_of kind d rounds p max)) 0
 
 -- The program codelist, sentence 4 and the listing: the text for what the crossing query answers.
-abbrev pub reply_text : (kind d rounds v e : ℕ) (boundary a b weights : List ℕ) → CrossingReply → List ℕ
-reply_text kind d rounds v e boundary a b weights (Crossed weight) = listing kind d rounds v e boundary a b weights weight
-reply_text kind d rounds v e boundary a b weights (Refused number) = refusal_line number
+abbrev pub reply_text : (kind d rounds v e : ℕ) (boundary a b weights : List ℕ) → Result ℕ Refusal → List ℕ
+reply_text kind d rounds v e boundary a b weights (Ok weight) = listing kind d rounds v e boundary a b weights weight
+reply_text kind d rounds v e boundary a b weights (Err r) = refusal_line (number r)
 
 -- The program codelist, sentence 2: where `new` answers with a code, these columns hold it.
 abbrev pub MadeHolds : (kind d rounds : ℕ) (p : Float) (max : ℕ) (a b h m : List ℕ) → Result CodeCounts Refusal → Type 0

@@ -6,9 +6,9 @@ ghost use Rattle.text_listing.specs.Steps.{HoldsCode, HoldsWeights, ScratchRoom,
 ghost use Rattle.query_questions.specs.Scratch.{scratch_in, scratch_lengths};
 
 use access_vertices::weights::store_weights;
+use columns::refusal::Refusal;
 use columns::{TableWeight, Weight};
 use engine_columns::EngineCounts;
-use query_crossing_answer::CrossingReply;
 use query_crossings::crossing;
 use text_numbers::lines::{GraphLine, write_listing, write_refusal};
 
@@ -39,7 +39,7 @@ fn crossing_in(
     previous: &mut [u32],
     node: &mut [u64],
     leaf: &mut [u64],
-) -> CrossingReply
+) -> Result<Weight, Refusal>
     requires holds_weights { HoldsWeights code.kind code.d code.rounds code.probability code.max v e ends_a.now ends_b.now weights.now boundary.now }
     requires scratch_room { ScratchRoom (length out_weight.old) (scratch_lengths (scratch_in neighbor_numbers.old list_ends.old status.old weight.old previous.old node.old leaf.old)) }
     ensures { Replied code.kind code.d code.rounds code.probability code.max result }
@@ -79,7 +79,7 @@ fn crossing_of(
     ends_b: &[u32],
     weights: &[Weight],
     boundary: &[u8],
-) -> CrossingReply
+) -> Result<Weight, Refusal>
     requires { HoldsWeights code.kind code.d code.rounds code.probability code.max v e ends_a.now ends_b.now weights.now boundary.now }
     ensures { Replied code.kind code.d code.rounds code.probability code.max result }
 {
@@ -112,7 +112,7 @@ fn crossing_of(
 
 // The listing, or the number that the crossing is refused with.
 fn write_reply(
-    reply: CrossingReply,
+    reply: Result<Weight, Refusal>,
     code: CodeArguments,
     v: u32,
     e: u32,
@@ -128,8 +128,8 @@ fn write_reply(
     ensures { Put text.old 0 (reply_text code.kind code.d code.rounds v e boundary.now ends_a.now ends_b.now weights.now reply) text.new result }
 {
     match reply {
-        CrossingReply::Refused(number) => write_refusal(text, number),
-        CrossingReply::Crossed(weight) => write_listing(
+        Err(refusal) => write_refusal(text, u32::from(refusal)),
+        Ok(weight) => write_listing(
             text,
             GraphLine {
                 kind: code.kind,

@@ -1,35 +1,27 @@
 -- `query_crossing_answer::nearest_right` meets its contract. Invariant: the least weight among the first v vertices. Assumes nothing.
-use mathlib.Core.Path.{◌≡◌, refl, sym, ap, ◌∙◌}
+use mathlib.Core.Path.{◌≡◌, sym, ap, ◌∙◌}
 use mathlib.Core.Bool.{cond, ◌&&◌}
 use native.Mathlib.Omega.{arith}
-use native.Mathlib.Numerals.{add-one}
 use lib.ListN.{length, get_or}
-use lib.Dec.{eqb, ltb}
-use Rattle.engine_walks.specs.Settling.{first_least, weight_at}
-use Rattle.engine_walks.specs.Answers.{taken, weight_of}
+use lib.Dec.{eqb}
 use Rattle.query_relaxing.specs.Ready.{state_of}
-use Rattle.query_crossing_answer.specs.Codes.{code_of}
-use Rattle.query_crossing_answer.proofs.Nearest.{best-next}
-use borrow.Author.Rules.{rules}
+use Rattle.engine_walks.specs.Answers.{taken}
+use Rattle.query_crossing_answer.specs.Least.{lesser_weight}
+use Rattle.query_crossing_answer.proofs.Nearest.{best, best_none, best-next}
 use Rattle.query_crossing_answer.proofs.nearest_right.Goals as goal
 
 pub loop-v-init : goal.loop-v-init
-unfolding first_least
-loop-v-init c = (search rules, λ p. refl)
-
-pub bounds-boundary-v : goal.bounds-boundary-v
-bounds-boundary-v c = omega (arith, c.requires.1)
-
-pub bounds-weight-v : goal.bounds-weight-v
-bounds-weight-v c = omega (arith, c.requires.0)
+loop-v-init c p = let s = state_of c.args.status.now c.args.weight.now p in sym (best_none s (λ u. eqb (get_or c.args.boundary.now u 0) 2 && taken s u))
 
 pub loop-v-preserved : goal.loop-v-preserved
-loop-v-preserved c = let s = c in let at = c.loop-v in (
-  search rules,
-  λ p. c.nearer-best.ensures ∙ (λ i. cond (eqb (get_or s.args.boundary.now at.v 0) 2 && eqb (get_or s.args.status.now at.v 0) 2) (cond (ltb (get_or s.args.weight.now at.v 0) (at.invariant.1 p i)) (get_or s.args.weight.now at.v 0) (at.invariant.1 p i)) (at.invariant.1 p i))
-      ∙ best-next (state_of s.args.status.now s.args.weight.now p) (λ u. eqb (get_or s.args.boundary.now u 0) 2 && taken (state_of s.args.status.now s.args.weight.now p) u) at.v (s.requires.2 at.v c.loop-v-test.true)
-      ∙ ap (λ k. code_of (weight_of (state_of s.args.status.now s.args.weight.now p) (first_least (λ u. eqb (get_or s.args.boundary.now u 0) 2 && taken (state_of s.args.status.now s.args.weight.now p) u) (weight_at (state_of s.args.status.now s.args.weight.now p)) k))) (sym (add-one at.v)),
-)
+loop-v-preserved c p =
+    let a = c.args in
+    let s = state_of a.status.now a.weight.now p in
+    let v = c.loop-v.v in
+    c.nearer-best.ensures ∙ ap (λ b. cond (eqb (get_or a.boundary.now v 0) 2 && eqb (get_or a.status.now v 0) 2) (lesser_weight (get_or a.weight.now v 0) b) b) (c.loop-v.invariant p)
+    ∙ best-next s (λ u. eqb (get_or a.boundary.now u 0) 2 && taken s u) v
 
 pub returns : goal.returns
-returns c = let s = c in let at = c.loop-v in let e : at.v ≡ length s.args.status.now = omega arith in λ p. at.invariant.1 p ∙ ap (λ k. code_of (weight_of (state_of s.args.status.now s.args.weight.now p) (first_least (λ u. eqb (get_or s.args.boundary.now u 0) 2 && taken (state_of s.args.status.now s.args.weight.now p) u) (weight_at (state_of s.args.status.now s.args.weight.now p)) k))) e
+returns c p =
+    let s = state_of c.args.status.now c.args.weight.now p in
+    let e : c.loop-v.v ≡ length c.args.status.now = omega arith in c.loop-v.invariant p ∙ ap (best s (λ u. eqb (get_or c.args.boundary.now u 0) 2 && taken s u)) e

@@ -1,7 +1,5 @@
 -- `prebuilt_calls::boundaries::fill_all` meets its contract. Invariant: the first v places are filled. Assumes nothing.
 use mathlib.Core.Path.{◌≡◌}
-use Prim.Native.Nat.{◌-◌, ◌≤◌}
-use lib.ListN.{length}
 use lib.Seq.{sets}
 use Rattle.columns.specs.Lists.{each}
 use Rattle.engine_columns.specs.Records.{engine}
@@ -12,7 +10,10 @@ use Rattle.prebuilt_calls.specs.Boundaries.{boundary_weight, boundary_vertex}
 use Rattle.prebuilt_calls.proofs.boundaries.fill_all.Given as goal
 
 abbrev pub invariant-loop-v : goal.invariant-loop-v
-invariant-loop-v l = (l.v ≤ l.c.vertices) × (l.out_weight ≡ sets l.initial.out_weight 0 (each l.v (boundary_weight (graph_in (engine l.c l.ends_a l.ends_b l.weights l.boundary l.log_edges l.log_weights)) (weights_in (engine l.c l.ends_a l.ends_b l.weights l.boundary l.log_edges l.log_weights))))) × (l.out_vertex ≡ sets l.initial.out_vertex 0 (each l.v (boundary_vertex (graph_in (engine l.c l.ends_a l.ends_b l.weights l.boundary l.log_edges l.log_weights)) (weights_in (engine l.c l.ends_a l.ends_b l.weights l.boundary l.log_edges l.log_weights))))) × (length l.out_weight ≡ length l.initial.out_weight) × (length l.out_vertex ≡ length l.initial.out_vertex) × (length l.least ≡ length l.initial.least) × (length l.before ≡ length l.initial.before) × (length l.neighbor_numbers ≡ length l.initial.neighbor_numbers) × (length l.list_ends ≡ length l.initial.list_ends) × (length l.status ≡ length l.initial.status) × (length l.weight ≡ length l.initial.weight) × (length l.previous ≡ length l.initial.previous) × (length l.node ≡ length l.initial.node) × (length l.leaf ≡ length l.initial.leaf) × TablesInside (engine l.c l.ends_a l.ends_b l.weights l.boundary l.log_edges l.log_weights) l.v l.initial.least l.least l.initial.before l.before (scratch_of l.initial.neighbor_numbers l.initial.list_ends l.initial.status l.initial.weight l.initial.previous l.initial.node l.initial.leaf) (scratch_of l.neighbor_numbers l.list_ends l.status l.weight l.previous l.node l.leaf)
-
-abbrev pub decreases-loop-v : goal.decreases-loop-v
-decreases-loop-v l = l.c.vertices - l.v
+invariant-loop-v l =
+    let e = engine l.c l.ends_a l.ends_b l.weights l.boundary l.log_edges l.log_weights in
+    (l.out_weight ≡ sets l.initial.out_weight 0 (each l.v (boundary_weight (graph_in e) (weights_in e))))
+    × (l.out_vertex ≡ sets l.initial.out_vertex 0 (each l.v (boundary_vertex (graph_in e) (weights_in e))))
+    × TablesInside e l.v l.initial.least l.least l.initial.before l.before
+    (scratch_of l.initial.neighbor_numbers l.initial.list_ends l.initial.status l.initial.weight l.initial.previous l.initial.node l.initial.leaf)
+    (scratch_of l.neighbor_numbers l.list_ends l.status l.weight l.previous l.node l.leaf)

@@ -1,0 +1,2 @@
+-- Found: what a crossing finds in a settled state.
+pub mod Found

@@ -1,7 +1,0 @@
--- `query_read_back::load_previous` meets its contract: past the end `get_or` gives 0, else the element. Assumes nothing.
-use mathlib.Core.Path.{sym}
-use lib.ListN.{get_or-eq_default}
-use Rattle.query_read_back.proofs.load_previous.Goals as goal
-
-pub returns : goal.returns
-returns c = let s = c.args in sym (get_or-eq_default s.previous.now 0 {n = s.v.0} c.if-at-previous.false)

@@ -5,11 +5,6 @@ use Rattle.columns.specs.declared.refusal.Refusal.{Refusal}
 use Rattle.columns_answers.specs.Said.{said}
 use Rattle.columns_answers.specs.declared.SyndromeLengths.{SyndromeLengths}
 use Rattle.columns_answers.specs.Counts.{no_lengths}
-use Rattle.columns.specs.declared.Done.{Done}
-use Rattle.columns_answers.specs.Done.{done_said}
-use Rattle.columns_answers.specs.declared.ListCount.{ListCount}
-use Rattle.columns_answers.specs.declared.SyndromeCounts.{SyndromeCounts}
-use Rattle.columns_answers.specs.Counts.{list_said, syndrome_said}
 use Rattle.c_reports.specs.declared.OneCount.{OneCount}
 use Rattle.c_reports.specs.declared.TwoCounts.{TwoCounts}
 
@@ -18,21 +13,6 @@ pub record Reported {A : Type 0} {B : Type 0} (Reports : A → B → Type 0) (Ca
   pub answer : A
   pub called : Call answer
   pub reported : Reports answer r
-
--- Expected forms by place, last paragraph: the number of an answer that has no value.
-abbrev pub ReportsDone : Done → ℕ → Type 0
-ReportsDone a r = r ≡ (done_said a).number
-
--- Expected forms by place, last paragraph: the number of a list handed back, and how many numbers it has.
-pub record ReportsList (a : ListCount) (r : OneCount) : Type 0 where
-  pub number : r.number ≡ (list_said a).number
-  pub count : r.count ≡ (list_said a).values
-
--- Expected forms by place, last paragraph: the number of a syndrome handed back, how many defects, and how many erasures.
-pub record ReportsSyndrome (a : SyndromeCounts) (r : TwoCounts) : Type 0 where
-  pub number : r.number ≡ (syndrome_said a).number
-  pub first : r.first ≡ (syndrome_said a).values.0
-  pub second : r.second ≡ (syndrome_said a).values.1
 
 -- Expected forms by place, last paragraph: the number of an answer that has no value.
 abbrev pub ReportsNumber : Result (Unit {0}) Refusal → ℕ → Type 0

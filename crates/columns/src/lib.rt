@@ -9,7 +9,6 @@ pub mod stores;
 ghost use Rattle.std.specs.Prelude.{◌≡◌, ◌<◌, set};
 ghost use Rattle.std.specs.Float.{binary64};
 ghost use Rattle.std.specs.Float.Ieee.{of_bits};
-ghost use Rattle.columns.specs.Answers.{done};
 ghost use Rattle.columns.specs.Places.{position, position_at};
 
 // The number of a vertex, and of an edge. They count separately from 0.
@@ -63,24 +62,6 @@ pub fn of_bits(n: u64) -> f64
         0.0 / 0.0
     } else {
         f64::from_bits(n)
-    }
-}
-
-// What a call answers that has no value to report.
-#[derive(Clone, Copy)]
-pub enum Done {
-    Accepted,
-    Refused(u32),
-}
-
-// The answer for a question's number, 0 where every question is met.
-pub fn done_of(number: u32) -> Done
-    ensures { result ≡ done number }
-{
-    if number == 0 {
-        Done::Accepted
-    } else {
-        Done::Refused(number)
     }
 }
 

@@ -7,53 +7,11 @@ use super::{
     BOUNDARY_LIMIT, EDGE_LIMIT, HALF_WEIGHT_LIMIT, MARK_LIMIT, VERTEX_LIMIT, WEIGHT_LIMIT, Weight,
 };
 
-// Whether both hold.
-pub fn both(a: bool, b: bool) -> bool
-    ensures { result ≡ (a && b) }
-{
-    a & b
-}
-
-// Whether one of two tests is met.
-pub fn either(a: bool, b: bool) -> bool
-    ensures { result ≡ (a || b) }
-{
-    a | b
-}
-
-// A question: yes goes on to the next, no yields its number.
-pub fn asked(met: bool, number: u32, next: u32) -> u32
-    ensures { result ≡ ask met number next }
-{
-    if met { next } else { number }
-}
-
-// Whether a is at most b; with a count and a length, whether a column is long enough.
-pub fn at_most(a: usize, b: usize) -> bool
-    ensures { result ≡ leb a b }
-{
-    a <= b
-}
-
-// Whether a is b.
-pub fn equal(a: usize, b: usize) -> bool
-    ensures { result ≡ eqb a b }
-{
-    a == b
-}
-
 // Whether a column of so many places has room for more entries beside those used.
 pub fn has_room(used: usize, more: usize, places: usize) -> bool
     ensures { result ≡ leb (used + more) places }
 {
     used <= places && more <= places - used
-}
-
-// The lesser of two sizes.
-pub fn lesser(a: usize, b: usize) -> usize
-    ensures { result ≡ min a b }
-{
-    if a <= b { a } else { b }
 }
 
 // Whether each of the first n elements, or of all where there are fewer, passes a test. Every element is tested.

@@ -1,3 +1,2 @@
--- Said: what an answer's words tell. Done: they determine the case of Done.
+-- Said: what an answer's words tell.
 pub mod Said
-pub mod Done

@@ -1,4 +1,3 @@
--- Said: document 01's number and values of an answer. Done: of the enum Done. Counts: of the enums ListCount and SyndromeCounts.
+-- Said: document 01's number and values of an answer. Counts: how many defects and erasures.
 pub mod Said
-pub mod Done
 pub mod Counts

@@ -1,4 +1,4 @@
--- What document 01 says of an answer. Each enum that a call answers has one function into Said, case by case, named for the enum; the promises of its calls use it by Answered.
+-- What document 01 says of an answer. `said` states it for each case of the `Result` that a call answers; the promises of the calls use it by Answered.
 use Rattle.std.specs.Prelude.{ℕ, ◌≡◌, Bool, true, false, cond, eqb, Result, Ok, Err}
 use Rattle.columns.specs.declared.refusal.Refusal.{Refusal}
 use Rattle.columns.specs.Refusals.{number}

@@ -5,8 +5,8 @@
 ghost use Rattle.std.specs.Prelude.{◌≤◌, length};
 
 use columns::refusal::Refusal;
-use columns::{Done, TableWeight};
-use columns_answers::{ListCount, SyndromeCounts, SyndromeLengths};
+use columns::TableWeight;
+use columns_answers::SyndromeLengths;
 use std::io::Read;
 
 pub fn at(list: &[u64], i: usize) -> u64 {
@@ -174,14 +174,6 @@ pub fn checksum(bytes: &[u8], n: usize) -> u64 {
     h
 }
 
-// The number of a refusal, 0 where there is none.
-pub fn number_of(answer: Done) -> u32 {
-    match answer {
-        Done::Accepted => 0,
-        Done::Refused(number) => number,
-    }
-}
-
 pub fn write(rt: &impl Print, text: &[u8]) {
     let _ = rt.write_all(text);
 }
@@ -202,33 +194,6 @@ pub fn show(rt: &impl Print, n: u64) {
 // A number on a line of its own.
 pub fn show_line(rt: &impl Print, n: u64) {
     let _ = println!(rt; "{n}");
-}
-
-pub fn show_done(rt: &impl Print, answer: Done) {
-    show(rt, wide(number_of(answer)));
-    end_line(rt);
-}
-
-// How many numbers a call listed, or the number of a refusal plus 100.
-pub fn show_count(rt: &impl Print, answer: ListCount) {
-    match answer {
-        ListCount::Count(n) => show(rt, n as u64),
-        ListCount::Refused(number) => show(rt, number as u64 + 100),
-    }
-    end_line(rt);
-}
-
-// 0 and how many defects and erasures a call listed, or the number of a refusal.
-pub fn show_counts(rt: &impl Print, answer: SyndromeCounts) {
-    match answer {
-        SyndromeCounts::Counts { defects, erasures } => {
-            show(rt, 0);
-            show(rt, defects as u64);
-            show(rt, erasures as u64);
-        }
-        SyndromeCounts::Refused(number) => show(rt, number as u64),
-    }
-    end_line(rt);
 }
 
 // The number of the question that refused a call, 0 where none did.

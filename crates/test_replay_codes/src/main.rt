@@ -4,7 +4,7 @@
 // vertices.
 #![tactic(auto)]
 
-use codes_calls::Created;
+use codes_calls::CodeCounts;
 use columns::Weight;
 use columns::refusal::Refusal;
 use sampling_calls::SyndromeLengths;
@@ -32,18 +32,12 @@ fn probability(numbers: &[u64], i: usize) -> f64 {
     }
 }
 
-fn vertices_in(answer: Created) -> u32 {
-    match answer {
-        Created::Code(vertices, edges) => vertices,
-        Created::Refused(number) => 0,
-    }
-}
-
-fn edges_in(answer: Created) -> u32 {
-    match answer {
-        Created::Code(vertices, edges) => edges,
-        Created::Refused(number) => 0,
-    }
+// How many vertices and edges a code has, 0 and 0 where its call was refused.
+fn counts_of(answer: Result<CodeCounts, Refusal>) -> CodeCounts {
+    answer.unwrap_or(CodeCounts {
+        vertices: 0,
+        edges: 0,
+    })
 }
 
 // The counts and both lists.
@@ -252,8 +246,9 @@ fn replay_code(
         &mut lengths,
         &mut numbers,
     );
-    let v = vertices_in(answer);
-    let e = edges_in(answer);
+    let counts = counts_of(answer);
+    let v = counts.vertices;
+    let e = counts.edges;
     show_errors(
         rt,
         v,

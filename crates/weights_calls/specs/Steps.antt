@@ -7,6 +7,10 @@ use Rattle.weights_recipe.specs.Rounding.{half_weight}
 abbrev pub places : ℕ
 places = 256
 
+-- Weights, `compute_weights`: what a closure answers for p is what the weight of p gives.
+abbrev pub Computes : {A : Type 0} (post : Float → A → Type 0) → (Float → A) → Type 0
+Computes {A} post of_weight = (p : Float) (r : A) → post p r → r ≡ of_weight (edge_weight p)
+
 -- Weights, `compute_weights`: a table of probabilities: beside each stands what f gives for it.
 pub record Known {A : Type 0} (f : Float → A) (ps : List Float) (values : List A) : Type 0 where
   pub room : length ps ≡ places

@@ -1,10 +1,10 @@
 // A table of the probabilities that a pass met, with what was computed for them. Most graphs have few different probabilities,
 // and then few logarithms and half weights are computed. The bits of a probability choose two neighbouring places, which hold
 // the last two probabilities that were computed for them: of two different probabilities none is computed twice.
-ghost use Rattle.std.specs.Prelude.{◌≡◌, ◌+◌, ◌<◌, length, get_or};
+ghost use Rattle.std.specs.Prelude.{◌≡◌, ◌+◌, ◌<◌, length, get_or, Float};
 ghost use Rattle.std.specs.Float.{nan};
 ghost use Rattle.weights_recipe.specs.Logarithm.{edge_weight};
-ghost use Rattle.weights_calls.specs.Steps.{places, Known, half_weight_of};
+ghost use Rattle.weights_calls.specs.Steps.{places, Computes, Known, half_weight_of};
 
 use columns::Weight;
 use weights_recipe::logarithm::edge_weight;
@@ -41,30 +41,29 @@ fn find(p: f64, known_p: &[f64]) -> usize
     PLACES
 }
 
-// Computes the weight of p and keeps it.
-fn keep_weight(p: f64, known_p: &mut [f64], known_w: &mut [f64]) -> f64
-    requires { Known edge_weight known_p.old known_w.old }
-    ensures { (result ≡ edge_weight p) × Known edge_weight known_p.new known_w.new }
+// What a weight gives for p, from the table where it is known, else computed and kept.
+pub fn known<T: Copy, F: FnOnce(f64) -> T>(
+    p: f64,
+    compute: F,
+    known_p: &mut [f64],
+    known: &mut [T],
+) -> T
+    requires callable { F.IsAlwaysCallable compute }
+    requires room { (length known_p.old ≡ places) × (length known.old ≡ places) }
+    ensures { (of_weight : Float → T) → Computes (F.post compute) of_weight → Known (λ q. of_weight (edge_weight q)) known_p.old known.old
+        → (result ≡ of_weight (edge_weight p)) × Known (λ q. of_weight (edge_weight q)) known_p.new known.new }
 {
-    let k = place_of(p);
-    let w = edge_weight(p);
-    known_p[k + 1] = known_p[k];
-    known_w[k + 1] = known_w[k];
-    known_p[k] = p;
-    known_w[k] = w;
-    w
-}
-
-// The weight of p, from the table where it is known.
-pub fn known_weight(p: f64, known_p: &mut [f64], known_w: &mut [f64]) -> f64
-    requires { Known edge_weight known_p.old known_w.old }
-    ensures { (result ≡ edge_weight p) × Known edge_weight known_p.new known_w.new }
-{
-    let k = find(p, known_p);
-    if k < PLACES {
-        return known_w[k];
+    let at = find(p, known_p);
+    if at < PLACES {
+        return known[at];
     }
-    keep_weight(p, known_p, known_w)
+    let k = place_of(p);
+    let value = compute(p);
+    known_p[k + 1] = known_p[k];
+    known[k + 1] = known[k];
+    known_p[k] = p;
+    known[k] = value;
+    value
 }
 
 // The half weight of an edge with probability p.
@@ -72,42 +71,4 @@ pub fn half_weight_of(max_half_weight: Weight, largest: f64, p: f64) -> Weight
     ensures { result ≡ half_weight_of max_half_weight largest p }
 {
     half_weight(max_half_weight, edge_weight(p), largest)
-}
-
-// Computes the half weight of p and keeps it.
-fn keep_half_weight(
-    max_half_weight: Weight,
-    largest: f64,
-    p: f64,
-    known_p: &mut [f64],
-    known_half: &mut [Weight],
-) -> Weight
-    requires { Known (half_weight_of max_half_weight largest) known_p.old known_half.old }
-    ensures { (result ≡ half_weight_of max_half_weight largest p) × Known (half_weight_of max_half_weight largest) known_p.new known_half.new }
-{
-    let k = place_of(p);
-    let half = half_weight_of(max_half_weight, largest, p);
-    known_p[k + 1] = known_p[k];
-    known_half[k + 1] = known_half[k];
-    known_p[k] = p;
-    known_half[k] = half;
-    half
-}
-
-// The half weight of p, from the table where it is known.
-pub fn known_half_weight(
-    max_half_weight: Weight,
-    largest: f64,
-    p: f64,
-    known_p: &mut [f64],
-    known_half: &mut [Weight],
-) -> Weight
-    requires { Known (half_weight_of max_half_weight largest) known_p.old known_half.old }
-    ensures { (result ≡ half_weight_of max_half_weight largest p) × Known (half_weight_of max_half_weight largest) known_p.new known_half.new }
-{
-    let k = find(p, known_p);
-    if k < PLACES {
-        return known_half[k];
-    }
-    keep_half_weight(max_half_weight, largest, p, known_p, known_half)
 }

@@ -17,7 +17,7 @@ ghost use Rattle.weights_calls.specs.Calls.{weight_refusal, larger, largest_weig
 
 use columns::refusal::{Refusal, require};
 use columns::{EDGE_LIMIT, HALF_WEIGHT_LIMIT, Weight};
-use known::{PLACES, half_weight_of, known_half_weight, known_weight};
+use known::{PLACES, half_weight_of, known};
 pub use setters::{set_erasure_probability, set_probability};
 use weights_questions::{are_probabilities, is_probability};
 use weights_recipe::logarithm::edge_weight;
@@ -45,7 +45,7 @@ fn largest_by_table(p: &[f64], n: usize, known_p: &mut [f64], known_w: &mut [f64
     let m = n.min(p.len());
     let mut largest = 0.0;
     for i in 0..m {
-        largest = larger_weight(largest, known_weight(p[i], known_p, known_w));
+        largest = larger_weight(largest, known(p[i], edge_weight, known_p, known_w));
     }
     largest
 }
@@ -88,7 +88,12 @@ fn store_by_table(
     ensures { column.new ≡ over (map (half_weight_of max_half_weight largest) (take n p.now)) column.old }
 {
     for i in 0..n {
-        column[i] = known_half_weight(max_half_weight, largest, p[i], known_p, known_half);
+        column[i] = known(
+            p[i],
+            |q| half_weight_of(max_half_weight, largest, q),
+            known_p,
+            known_half,
+        );
     }
 }
 

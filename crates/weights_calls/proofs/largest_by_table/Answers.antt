@@ -17,9 +17,10 @@ loop-i-init c = (refl, c.requires)
 pub loop-i-preserved : goal.loop-i-preserved
 loop-i-preserved c =
     let ps = c.args.p.now in
-    let at = c.loop-i in (
-      c.larger_weight-largest.ensures ∙ ap (λ (m : Float). larger m c.known_weight.result) at.invariant.0
-          ∙ ap (larger (largest_weight (take at.i ps))) c.known_weight.ensures.0
+    let at = c.loop-i in
+    let got = c.known.ensures (λ w. w) (λ p r h. h) at.invariant.1 in (
+      c.larger_weight-largest.ensures ∙ ap (λ (m : Float). larger m c.known.result) at.invariant.0
+          ∙ ap (larger (largest_weight (take at.i ps))) got.0
           ∙ sym (ap (largest zero_float) (map_more ps edge_weight nan at.i (omega arith)) ∙ largest_more zero_float (edge_weights (take at.i ps)) (edge_weight (get_or ps at.i nan))),
-      c.known_weight.ensures.1,
+      got.1,
     )

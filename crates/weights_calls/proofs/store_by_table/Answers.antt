@@ -5,8 +5,10 @@ use native.Mathlib.Omega.{arith}
 use lib.ListN.{take, set, get_or, length-take, length-map}
 use lib.Seq.{sets}
 use lib.Ieee.{nan}
+use borrow.Author.Rules.{rules}
 use Rattle.columns.proofs.Columns.{sets_over}
 use Rattle.columns.proofs.Refusals.{store-more}
+use Rattle.weights_recipe.specs.Rounding.{half_weight}
 use Rattle.weights_calls.specs.Steps.{half_weight_of}
 use Rattle.weights_calls.proofs.store_by_table.Goals as goal
 
@@ -14,11 +16,12 @@ pub loop-i-preserved : goal.loop-i-preserved
 loop-i-preserved c =
     let s = c.args in
     let at = c.loop-i in
-    let one = half_weight_of s.max_half_weight s.largest in (
-      ap (λ v. set at.column at.i v) c.known_half_weight.ensures.0
+    let one = half_weight_of s.max_half_weight s.largest in
+    let got = c.known.ensures (λ w. half_weight s.max_half_weight w s.largest) (λ p r h. search rules) at.invariant.1 in (
+      ap (λ v. set at.column at.i v) got.0
           ∙ ap (λ l. set l at.i (one (get_or s.p.now at.i nan))) at.invariant.0
           ∙ store-more s.p.now one nan s.column.now at.i (omega arith),
-      c.known_half_weight.ensures.1,
+      got.1,
     )
 
 pub returns : goal.returns

@@ -4,9 +4,7 @@
 pub mod create;
 pub mod weighted;
 
-ghost use Rattle.codes_questions.specs.Answers.{CountsVertices, CountsEdges};
-
-use columns::refusal::Refusal;
+pub use codes_questions::{edge_num, vertex_num};
 pub use create::create_code;
 pub use weighted::{new, new_diagonal};
 
@@ -15,18 +13,4 @@ pub use weighted::{new, new_diagonal};
 pub struct CodeCounts {
     pub vertices: u32,
     pub edges: u32,
-}
-
-// How many vertices a code has: questions 2 to 5.
-pub fn vertex_num(kind: u32, d: u32, rounds: u32) -> Result<u32, Refusal>
-    ensures { CountsVertices kind d rounds result }
-{
-    codes_questions::vertex_num(kind, d, rounds)
-}
-
-// How many edges a code has: questions 2 to 5.
-pub fn edge_num(kind: u32, d: u32, rounds: u32) -> Result<u32, Refusal>
-    ensures { CountsEdges kind d rounds result }
-{
-    codes_questions::edge_num(kind, d, rounds)
 }

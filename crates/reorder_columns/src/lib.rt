@@ -1,7 +1,7 @@
 // A vertex column moved: a copy of it is read through the order.
 #![tactic(auto)]
 
-ghost use Rattle.std.specs.Prelude.{◌≡◌, ℕ, ◌<◌, ◌≤◌, length, get_or};
+ghost use Rattle.std.specs.Prelude.{◌≡◌, ◌≤◌, length};
 ghost use Rattle.columns.specs.Lists.{over};
 ghost use Rattle.columns.specs.Places.{zero_float};
 ghost use Rattle.reorder_orders.specs.Order.{moved};
@@ -9,41 +9,23 @@ ghost use Rattle.reorder_orders.specs.Steps.{IsOrder};
 
 use columns::VisualizePosition;
 use columns_stores::copy;
-use reorder_orders::gather_u32;
+use reorder_orders::gather;
 
-// Stores the byte that stands at each listed place.
-fn gather_u8(list: &[u32], from: &[u8], to: &mut [u8])
-    requires { ((i : ℕ) → i < length list.now → get_or list.now i 0 < length from.now) × (length list.now ≤ length to.old) }
-    ensures { to.new ≡ over (moved list.now 0 from.now) to.old }
-{
-    for (i, place) in list.iter().enumerate() {
-        to[i] = from[*place as usize];
-    }
-}
-
-fn move_u8_in(order: &[u32], column: &mut [u8], copy: &mut [u8])
+fn move_in<T: Copy>(order: &[u32], column: &mut [T], copy: &mut [T])
     requires { IsOrder order.now × (length order.now ≤ length column.old) × (length order.now ≤ length copy.old) }
-    ensures { column.new ≡ over (moved order.now 0 column.old) column.old }
+    ensures { (d : T) → column.new ≡ over (moved order.now d column.old) column.old }
 {
     columns_stores::copy(copy, column, order.len());
-    gather_u8(order, copy, column);
+    gather(order, copy, column);
 }
 
-// Moves a column of bytes.
+// Moves a column of bytes. move_u8 and move_u32 stay two: a local array of a type parameter needs a bound on the type's size, which no clause states.
 pub fn move_u8(order: &[u32], column: &mut [u8])
     requires { IsOrder order.now × (length order.now ≤ length column.old) }
     ensures { column.new ≡ over (moved order.now 0 column.old) column.old }
 {
     let mut copy = [0u8; 4096];
-    move_u8_in(order, column, &mut copy);
-}
-
-fn move_u32_in(order: &[u32], column: &mut [u32], copy: &mut [u32])
-    requires { IsOrder order.now × (length order.now ≤ length column.old) × (length order.now ≤ length copy.old) }
-    ensures { column.new ≡ over (moved order.now 0 column.old) column.old }
-{
-    columns_stores::copy(copy, column, order.len());
-    gather_u32(order, copy, column);
+    move_in(order, column, &mut copy);
 }
 
 // Moves a column of numbers.
@@ -52,7 +34,7 @@ pub fn move_u32(order: &[u32], column: &mut [u32])
     ensures { column.new ≡ over (moved order.now 0 column.old) column.old }
 {
     let mut copy = [0u32; 4096];
-    move_u32_in(order, column, &mut copy);
+    move_in(order, column, &mut copy);
 }
 
 // Stores the position that stands at each listed place.

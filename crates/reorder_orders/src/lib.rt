@@ -56,9 +56,9 @@ pub fn place_numbers(order: &[u32], new_numbers: &mut [u32])
 }
 
 // Stores what stands at each listed place.
-pub fn gather_u32(list: &[u32], from: &[u32], to: &mut [u32])
+pub fn gather<T: Copy>(list: &[u32], from: &[T], to: &mut [T])
     requires { ((i : ℕ) → i < length list.now → get_or list.now i 0 < length from.now) × (length list.now ≤ length to.old) }
-    ensures { to.new ≡ over (moved list.now 0 from.now) to.old }
+    ensures { (d : T) → to.new ≡ over (moved list.now d from.now) to.old }
 {
     for (i, place) in list.iter().enumerate() {
         to[i] = from[*place as usize];
@@ -71,7 +71,7 @@ fn translate_in(order: &[u32], list: &[u32], column: &mut [u32], new_numbers: &m
     ensures { column.new ≡ over (renamed order.now list.now) column.old }
 {
     place_numbers(order, new_numbers);
-    gather_u32(list, new_numbers, column);
+    gather(list, new_numbers, column);
 }
 
 // Stores the new number of each listed old vertex.

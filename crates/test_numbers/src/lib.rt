@@ -118,29 +118,29 @@ pub fn read_input(rt: &impl Input, list: &mut [u64]) {
     read_numbers(&buf[..n], list);
 }
 
-fn put_u32(column: &mut [u32], i: usize, x: u32) {
-    if i < column.len() {
-        column[i] = x;
-    }
-}
-
-fn put_u8(column: &mut [u8], i: usize, x: u8) {
-    if i < column.len() {
-        column[i] = x;
+// Copies a part of each of n numbers from a place of the list on.
+fn copy_part<T: Copy, F: Fn(u64) -> T>(
+    list: &[u64],
+    from: usize,
+    column: &mut [T],
+    n: usize,
+    part: F,
+)
+    requires { F.IsAlwaysCallable part }
+{
+    let m = n.min(column.len());
+    for (i, place) in column[..m].iter_mut().enumerate() {
+        *place = part(at(list, after(from, i)));
     }
 }
 
 // Copies n numbers from a place of the list on.
 pub fn copy_u32(list: &[u64], from: usize, column: &mut [u32], n: usize) {
-    for i in 0..n {
-        put_u32(column, i, narrow_at(list, after(from, i)));
-    }
+    copy_part(list, from, column, n, narrow);
 }
 
 pub fn copy_u8(list: &[u64], from: usize, column: &mut [u8], n: usize) {
-    for i in 0..n {
-        put_u8(column, i, (at(list, after(from, i)) % 256) as u8);
-    }
+    copy_part(list, from, column, n, |x| (x % 256) as u8);
 }
 
 pub fn wide(x: u32) -> u64 {

@@ -9,4 +9,4 @@ use Rattle.reorder_orders.proofs.translate_in.Goals as goal
 pub returns : goal.returns
 returns c =
     let r = c.requires in
-    c.gather_u32.ensures ∙ ap (λ (l : List ℕ). over l c.args.column.now) (renamed_by _ r.order.0 _ _ c.place_numbers.ensures r.by_index)
+    c.gather.ensures 0 ∙ ap (λ (l : List ℕ). over l c.args.column.now) (renamed_by _ r.order.0 _ _ c.place_numbers.ensures r.by_index)

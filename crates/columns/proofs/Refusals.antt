@@ -38,13 +38,6 @@ not_false true e = refl
 not_false false e = absurd (false≢true (sym e))
 
 module _ {A : Type 0} (s : List A) where
-  -- the first n, where a loop stops at i
-  pub take-first : (n i : ℕ) → i ≤ n → min n (length s) ≤ i → take n s ≡ take i s
-  take-first n i k h = elim (dec_le n i) [
-    | yes l ↦ ap (λ (j : ℕ). take j s) (le_antisymm l k)
-    | no l ↦ take_all n s (omega arith) ∙ sym (take_all i s (omega arith))
-  ]
-
   module _ {B : Type 0} (f : A → B) (d : A) where
     -- one element more
     pub map_more : (i : ℕ) → i < length s → map f (take (i + 1) s) ≡ map f (take i s) ++ (f (get_or s i d) ∷ [])

@@ -62,12 +62,7 @@ module _ {Values : Type 0} where
   pub refusal-of : (r : Refusal) {q : ℕ} {v z : Values} → number r ≡ q → Answered (said z (Err r)) q v z
   refusal-of r e = refuses-of e (no_zero r)
 
--- a call without values answers what its questions say
-pub answer_of : (r : Result (Unit {0}) Refusal) {q : ℕ} → question_of r ≡ q → Answered (said tt r) q tt tt
-answer_of (Ok _) e = accepts-of (sym e)
-answer_of (Err r) e = refusal-of r e
-
--- and what it says is what its questions say
+-- what a call says of its number is what its questions say
 pub question-of : {Values : Type 0} (r : Result Values Refusal) {q : ℕ} {v z : Values} → Answered (said z r) q v z → question_of r ≡ q
 question-of (Ok _) a = a.number_is
 question-of (Err r) a = a.number_is

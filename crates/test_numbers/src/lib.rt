@@ -4,8 +4,8 @@
 
 ghost use Rattle.std.specs.Prelude.{◌≤◌, length};
 
-use columns::refusal::Refusal;
 use columns::TableWeight;
+use columns::refusal::Refusal;
 use columns_answers::SyndromeLengths;
 use std::io::Read;
 

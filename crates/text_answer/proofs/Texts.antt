@@ -22,20 +22,6 @@ use Rattle.text_listing.proofs.Texts.{renamed, fitting}
 use Rattle.text_answer.specs.Answer.{text_by, text_of, answer_text, text_room, text_refusal, CodeListed}
 use Rattle.text_answer.proofs.Sizes.{every_text_fits}
 
-module _ (line : Option CodeLine) {room : ℕ} where
-  pub damaged-fits : line ≡ None → length (text_of line) ≤ room → length (refusal_line 1) ≤ room
-  damaged-fits q h = fitting (ap text_of (sym q)) h
-
-  pub sound-fits : (l : CodeLine) (x : Float) → x ≡ of_bits binary64 l.bits → line ≡ Some l → length (text_of line) ≤ room → length (code_text l.kind l.d l.rounds x l.max) ≤ room
-  sound-fits l x f q h = fitting (ap (λ (y : Float). code_text l.kind l.d l.rounds y l.max) f ∙ ap text_of (sym q)) h
-
-module _ (line : Option CodeLine) {t₀ t : List ℕ} {r : ℕ} where
-  pub damaged-line : Put t₀ 0 (refusal_line 1) t r → line ≡ None → Put t₀ 0 (text_of line) t r
-  damaged-line p q = renamed (ap text_of (sym q)) p
-
-  pub sound-line : (l : CodeLine) (x : Float) → Put t₀ 0 (code_text l.kind l.d l.rounds x l.max) t r → x ≡ of_bits binary64 l.bits → line ≡ Some l → Put t₀ 0 (text_of line) t r
-  sound-line l x p f q = renamed (ap (λ (y : Float). code_text l.kind l.d l.rounds y l.max) f ∙ ap text_of (sym q)) p
-
 -- a line that was read has the text of its input
 read_text : (input : List ℕ) (l : Option CodeLine) → ReadsLine input l → text_of l ≡ answer_text input
 read_text input (Some l) a =

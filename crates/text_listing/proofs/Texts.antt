@@ -80,18 +80,6 @@ module _ (kind d rounds v e : ℕ) (m a b w : List ℕ) (reply : Result ℕ Refu
   pub crossed-reply-fits : (weight : ℕ) → reply ≡ Ok weight → length (reply_text kind d rounds v e m a b w reply) ≤ room → length (listing kind d rounds v e m a b w weight) ≤ room
   crossed-reply-fits weight q h = fitting (ap (reply_text kind d rounds v e m a b w) (sym q)) h
 
--- an answer that is no refusal has the listing
-built_text : (kind d rounds : ℕ) (p : Float) (max : ℕ) (answer : Result CodeCounts Refusal) → ((n : Refusal) → answer ≡ Err n → ⊥) → listing_of kind d rounds p max ≡ made_text kind d rounds p max answer
-built_text kind d rounds p max (Ok counts) f = refl
-built_text kind d rounds p max (Err n) f = absurd (f n refl)
-
-module _ (kind d rounds : ℕ) (p : Float) (max : ℕ) (answer : Result CodeCounts Refusal) {room : ℕ} where
-  pub refused-made-fits : (n : Refusal) → answer ≡ Err n → length (made_text kind d rounds p max answer) ≤ room → length (refusal_line (number n)) ≤ room
-  refused-made-fits n q h = fitting (ap (made_text kind d rounds p max) (sym q)) h
-
-  pub built-made-fits : ((n : Refusal) → answer ≡ Err n → ⊥) → length (made_text kind d rounds p max answer) ≤ room → length (listing_of kind d rounds p max) ≤ room
-  built-made-fits f h = fitting (built_text kind d rounds p max answer f) h
-
 module _ (kind d rounds v e : ℕ) (m a b w : List ℕ) (reply : Result ℕ Refusal) {t₀ t : List ℕ} {r : ℕ} where
   pub refused-reply : (n : Refusal) → Put t₀ 0 (refusal_line (number n)) t r → reply ≡ Err n → Put t₀ 0 (reply_text kind d rounds v e m a b w reply) t r
   refused-reply n p q = renamed (ap (reply_text kind d rounds v e m a b w) (sym q)) p
@@ -102,16 +90,6 @@ module _ (kind d rounds v e : ℕ) (m a b w : List ℕ) (reply : Result ℕ Refu
   pub listed-reply : (p : Float) (max : ℕ) → HoldsWeights kind d rounds p max v e a b w m → Replied kind d rounds p max reply
       → Put t₀ 0 (reply_text kind d rounds v e m a b w reply) t r → Put t₀ 0 (listing_of kind d rounds p max) t r
   listed-reply p max s q x = renamed (reply-is kind d rounds p max v e a b w m s reply q) x
-
-module _ (kind d rounds : ℕ) (p : Float) (max : ℕ) (answer : Result CodeCounts Refusal) {t₀ t : List ℕ} {r : ℕ} where
-  pub refused-made : (n : Refusal) → Put t₀ 0 (refusal_line (number n)) t r → answer ≡ Err n → Put t₀ 0 (made_text kind d rounds p max answer) t r
-  refused-made n x q = renamed (ap (made_text kind d rounds p max) (sym q)) x
-
-  pub built-made : Put t₀ 0 (listing_of kind d rounds p max) t r → ((n : Refusal) → answer ≡ Err n → ⊥) → Put t₀ 0 (made_text kind d rounds p max answer) t r
-  built-made x f = renamed (built_text kind d rounds p max answer f) x
-
-pub holds_made : {kind d rounds : ℕ} {p : Float} {max : ℕ} {a b h m : List ℕ} (answer : Result CodeCounts Refusal) (counts : CodeCounts) → MadeHolds kind d rounds p max a b h m answer → answer ≡ Ok counts → HoldsCode kind d rounds p max counts.vertices counts.edges a b h m
-holds_made {kind} {d} {rounds} {p} {max} {a} {b} {h} {m} answer counts x q = subst (MadeHolds kind d rounds p max a b h m) q x
 
 module _ (kind d rounds : ℕ) (p : Float) (max : ℕ) (lent back : CodeColumns) (room : CodeRoom lent) where
   pub made_holds : (answer : Result CodeCounts Refusal) → NewCode kind d rounds p max lent back answer → MadeHolds kind d rounds p max back.ends_a back.ends_b back.half_weight back.boundary answer

@@ -33,6 +33,3 @@ module _ {A : Type 0} (f : Float → A) where
     pub known-set : (i : ℕ) (x : Float) (y : A) → y ≡ f x → Known f (set ps i x) (set values i y)
     known-set i x y e =
         record { room = (simp length-set) ∙ k.room; right = (λ j. set (k.right j) i (e j)) ∙ sym (map-set f ps i x) }
-
-    pub known-length : length values ≡ places
-    known-length = ap length k.right ∙ (simp lib.ListN.length-map) ∙ k.room

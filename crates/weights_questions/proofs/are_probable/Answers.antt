@@ -13,4 +13,3 @@ returns-then-both_in_range c =
     let s = c.args in
     let h = and_both (all is_in_range (take s.n s.p.now)) (all is_erasure_probability (take s.n s.pe.now)) (sym c.both_in_range.ensures ∙ c.if-both_in_range.true) in
     sym (both_and (in_range (take s.n s.p.now) h.0) h.1)
-

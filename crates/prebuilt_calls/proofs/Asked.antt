@@ -52,14 +52,3 @@ module _ (e : Engine) (weights vertices least before : ℕ) (l : ScratchLengths)
       let n = e.counts.vertices in
       query_kept e (leb n weights && (leb n vertices && (leb n least && (leb n before && scratch)))) true 0 (λ x. absurd (x refl)) f
 
--- the same room in columns of the same lengths
-pub same_room : {e : Engine} {w v l b w' v' l' b' : ℕ} {s s' : ScratchLengths} → Fillable e w v l b s → w' ≡ w → v' ≡ v → l' ≡ l → b' ≡ b → s' ≡ s → Fillable e w' v' l' b' s'
-same_room {e} r ew ev el eb es = record {
-  long = r.long;
-  is_sound_holds = r.is_sound_holds;
-  weights_fit = omega (arith, r.weights_fit);
-  vertices_fit = omega (arith, r.vertices_fit);
-  least_fits = omega (arith, r.least_fits);
-  before_fits = omega (arith, r.before_fits);
-  scratch_fits_holds = ap (scratch_long e.counts) es ∙ r.scratch_fits_holds;
-}

@@ -58,9 +58,3 @@ module _ (bytes : List ℕ) (least : List ℤ) where
         go false none p e = absurd (let z : ◌≡◌ {A = ℕ} 0 1 = cc in omega arith)
         go false (some a) p e = let q : u ≡ a = cc in (omega (arith, p.0), ap some q)
 
-    pub place_not : std.None ≡ place_of (boundary_in bytes least n v) → none ≡ boundary_in bytes least n v
-    place_not e = go (boundary_in bytes least n v) e
-      where
-        go : (o : Option ℕ) → std.None ≡ place_of o → none ≡ o
-        go none e = refl
-        go (some a) e = absurd (let z : ◌≡◌ {A = ℕ} 0 1 = cc in omega arith)

@@ -75,9 +75,6 @@ module _ (s : State) (a : ℕ) where
   pub count-end : (n j v : ℕ) → n ≤ j → length (read_back_of s a (n - j) v) ≡ 0
   count-end n j v h = let k : n - j ≡ 0 = omega arith in ap (λ m. length (read_back_of s a m v)) k ∙ ap length (back-zero v)
 
-  pub count-start : (n v : ℕ) → length (read_back_of s a n v) ≡ length (read_back_of s a (n - 0) v) + 0
-  count-start n v = let k : n ≡ n - 0 = omega arith in let q = ap (λ m. length (read_back_of s a m v)) k in omega (arith, q)
-
 sets_before : (xs : List ℕ) (i y : ℕ) (j : ℕ) (ys : List ℕ) → i < j → sets (set xs i y) j ys ≡ set (sets xs j ys) i y
 sets_before xs i y j [] h = refl
 sets_before xs i y j (z ∷ ys) h =

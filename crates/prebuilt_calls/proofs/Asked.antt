@@ -21,12 +21,6 @@ module _ (e : Engine) (weights vertices least before : ℕ) (l : ScratchLengths)
   abbrev scratch : Bool
   scratch = scratch_long e.counts l
 
-  -- a search from v is accepted
-  pub search-accepted : Fillable e weights vertices least before l → (v : ℕ) → v < e.counts.vertices
-      → table_refusal e scratch v None least before ≡ 0
-  search-accepted f v h =
-      rw (f.long, f.is_sound_holds, le-leb e.counts.vertices least f.least_fits, le-leb e.counts.vertices before f.before_fits, f.scratch_fits_holds, lt-ltb v e.counts.vertices h)
-
   -- what an accepted call says
   pub fillable : boundaries_refusal e scratch weights vertices least before ≡ 0 → Fillable e weights vertices least before l
   fillable z =

@@ -21,12 +21,6 @@ module _ (e : Engine) (weights vertices least before : ℕ) (l : ScratchLengths)
   abbrev scratch : Bool
   scratch = scratch_long e.counts l
 
-  -- a search from v is accepted
-  pub search-accepted : Fillable e weights vertices least before l → (v : ℕ) → v < e.counts.vertices
-      → table_refusal e scratch v None least before ≡ 0
-  search-accepted f v h =
-      rw (f.long, f.is_sound_holds, le-leb e.counts.vertices least f.least_fits, le-leb e.counts.vertices before f.before_fits, f.scratch_fits_holds, lt-ltb v e.counts.vertices h)
-
   -- what an accepted call says
   pub fillable : boundaries_refusal e scratch weights vertices least before ≡ 0 → Fillable e weights vertices least before l
   fillable z =
@@ -52,14 +46,3 @@ module _ (e : Engine) (weights vertices least before : ℕ) (l : ScratchLengths)
       let n = e.counts.vertices in
       query_kept e (leb n weights && (leb n vertices && (leb n least && (leb n before && scratch)))) true 0 (λ x. absurd (x refl)) f
 
--- the same room in columns of the same lengths
-pub same_room : {e : Engine} {w v l b w' v' l' b' : ℕ} {s s' : ScratchLengths} → Fillable e w v l b s → w' ≡ w → v' ≡ v → l' ≡ l → b' ≡ b → s' ≡ s → Fillable e w' v' l' b' s'
-same_room {e} r ew ev el eb es = record {
-  long = r.long;
-  is_sound_holds = r.is_sound_holds;
-  weights_fit = omega (arith, r.weights_fit);
-  vertices_fit = omega (arith, r.vertices_fit);
-  least_fits = omega (arith, r.least_fits);
-  before_fits = omega (arith, r.before_fits);
-  scratch_fits_holds = ap (scratch_long e.counts) es ∙ r.scratch_fits_holds;
-}

@@ -1,19 +1,16 @@
 -- What `get_boundary_weight` answers, from an accepted table. Assumes nothing.
-use mathlib.Core.Path.{◌≡◌, ap, ◌∙◌, subst}
+use mathlib.Core.Path.{◌≡◌, ap, ◌∙◌}
 use mathlib.Core.List.{List}
 use Prim.Native.Nat.{ℕ}
 use lib.ListN.{take}
 use lib.IntN.{ℤ}
 use Rattle.std.specs.Prelude.{Option, None, Ok}
-use Rattle.columns_answers.specs.Said.{accepts, Answered}
 use Rattle.columns_answers.proofs.Said.{accepts-of}
 use Rattle.engine_columns.specs.Records.{Engine}
-use Rattle.query_questions.specs.Queries.{graph_in, weights_in}
 use Rattle.query_questions.specs.Scratch.{ScratchColumns}
 use Rattle.query_tables.specs.Tables.{FoundTable}
 use Rattle.prebuilt_entries.specs.Nearest.{boundary_in}
 use Rattle.prebuilt_calls.specs.declared.nearest.BoundaryVertex.{BoundaryVertex}
-use Rattle.prebuilt_calls.specs.Boundaries.{weights_from, nearest_of}
 use Rattle.prebuilt_calls.specs.Nearest.{nearest_values, boundary_found, GotBoundaryWeight}
 use Rattle.prebuilt_calls.proofs.Replies.{table_there}
 

@@ -1,6 +1,5 @@
 -- A row written over a column of least weights. Assumes nothing.
 use mathlib.Core.Path.{◌≡◌, refl, sym, ap, ◌∙◌}
-use mathlib.Core.Logic.{◌≢◌}
 use mathlib.Core.Bool.{Bool, true, false, ◌&&◌, ◌||◌}
 use mathlib.Core.List.{List}
 use mathlib.Core.Option.{none}
@@ -115,25 +114,3 @@ module _ (e : Engine) (v : ℕ) (nearest out₀ : List ℤ) (before₀ : List �
         scratch_after = there.inside.scratch_after;
       }
 
-  pub row_refused : {r : Refusal} {out : List ℤ} {before : List ℕ} {scratch : ScratchColumns} → leb e.counts.vertices (length nearest) ≡ true
-      → FoundTable e v None (Err r) out₀ out before₀ before scratch₀ scratch → FilledRow e v nearest (Err r) out₀ out before₀ before scratch₀ scratch
-  row_refused {r} h t =
-      let d = row_met e (scratch_fits e.counts scratch₀) v (length nearest) (length out₀) (length before₀) h in
-      let f = refused-of t.answers in
-      let inside = inside_of (number r) t refl in
-      record {
-        answers = refusal-of r (t.answers.number_is ∙ d);
-        out_after = t.weights_after ∙ after-refused _ _ out₀ f ∙ sym (after-refused _ _ out₀ (λ z. f (d ∙ z)));
-        before_after = inside.before_after;
-        scratch_after = inside.scratch_after;
-      }
-
-  pub row_too_short : leb e.counts.vertices (length nearest) ≡ false → FilledRow e v nearest (Err ShortColumn) out₀ out₀ before₀ before₀ scratch₀ scratch₀
-  row_too_short h =
-      let d = row-short e (scratch_fits e.counts scratch₀) v (length nearest) (length out₀) (length before₀) h in
-      record {
-        answers = refusal-of ShortColumn d;
-        out_after = sym (after-refused _ _ out₀ (λ z. absurd (omega (arith, d, z))));
-        before_after = refl;
-        scratch_after = scratch_kept 6 g _ scratch₀ refl;
-      }

@@ -8,7 +8,8 @@ ghost use Rattle.prebuilt_calls.specs.Nearest.{nearest_values, boundary_found, G
 use columns::refusal::Refusal;
 use columns::{TableWeight, VertexIndex, Weight};
 use engine_columns::EngineCounts;
-use prebuilt_entries::nearest::{amount_at, nearest_place};
+use prebuilt_entries::boundaries::boundary_place;
+use prebuilt_entries::nearest::amount_at;
 use query_tables::all_edges;
 
 // The nearest virtual vertex of a vertex, and its least weight.
@@ -28,18 +29,11 @@ fn boundary_vertex(
     requires { (n ≤ length boundary.now) × (n ≤ length least.now) × (v.0 < n) × (n ≤ 4096) }
     ensures { nearest_values result ≡ boundary_found (take n least.now) (boundary_in (take n boundary.now) (take n least.now) n v.0) }
 {
-    let boundary = &boundary[..n];
     let least = &least[..n];
-    if boundary[v.0 as usize] != 0 {
-        return None;
-    }
-    let best = nearest_place(boundary, least);
-    if best == n {
-        return None;
-    }
+    let u = boundary_place(&boundary[..n], least, v.0 as usize)?;
     Some(BoundaryVertex {
-        vertex: VertexIndex(best as u32),
-        weight: amount_at(least, best),
+        vertex: VertexIndex(u as u32),
+        weight: amount_at(least, u),
     })
 }
 

@@ -1,5 +1,6 @@
 -- The nearest virtual vertex of a vertex in the Rust's `PrebuiltCompleteGraph`, in the vertex's table.
-use Rattle.std.specs.Prelude.{ℕ, Bool, true, false, cond, ◌&&◌, List, get_or, ℤ, pos, negsuc}
+use Rattle.std.specs.Prelude.{ℕ, Bool, true, false, cond, ◌&&◌, List, get_or, ltb, ℤ, pos, negsuc}
+use Rattle.std.specs.Prelude as std
 use Rattle.std.proofs.Math.Option.{Option, some, none}
 use Rattle.engine_walks.specs.Settling.{first_least}
 use Rattle.engine_walks.specs.Answers.{weight_in}
@@ -14,6 +15,16 @@ is_reached (negsuc n) = false
 abbrev pub amount : ℤ → ℕ
 amount (pos k) = k
 amount (negsuc n) = 0
+
+-- complete_graph.rs, `PrebuiltCompleteGraph`: the nearer of vertex u and the nearest vertex before it, if there is one; of two at the same weight the smaller.
+abbrev pub nearer_of : (weights : List ℤ) (u : ℕ) → std.Option ℕ → std.Option ℕ
+nearer_of weights u std.None = std.Some u
+nearer_of weights u (std.Some b) = cond (ltb (amount (weight_in weights u)) (amount (weight_in weights b))) (std.Some u) (std.Some b)
+
+-- complete_graph.rs, `PrebuiltCompleteGraph`: a vertex, if there is one, as the functions hand it on.
+abbrev pub place_of : Option ℕ → std.Option ℕ
+place_of none = std.None
+place_of (some u) = std.Some u
 
 -- complete_graph.rs, `PrebuiltCompleteGraph`: of the virtual vertices below n that a table reaches the one of least weight; of several the smallest.
 abbrev pub nearest_in : (bytes : List ℕ) (weights : List ℤ) (n : ℕ) → Option ℕ

@@ -1,21 +1,16 @@
 // The nearest virtual vertex in a table.
-ghost use Rattle.std.specs.Prelude.{◌≡◌, List, ℕ, ◌+◌, ◌<◌, length, get_or};
+ghost use Rattle.std.specs.Prelude.{◌≡◌, ◌&&◌, cond, length};
 ghost use Rattle.engine_walks.specs.Answers.{weight_in};
-ghost use Rattle.engine_walks.specs.Lists.{found_or};
-ghost use Rattle.prebuilt_entries.specs.Nearest.{is_reached, amount, nearest_in};
+ghost use Rattle.prebuilt_entries.specs.Entries.{is_virtual};
+ghost use Rattle.prebuilt_entries.specs.Nearest.{is_reached, amount, nearer_of, place_of, nearest_in};
 
-use super::rows::rank_of;
 use columns::{TableWeight, Weight};
 
 // How much a weight of a table is, 0 for none.
 fn amount_of(x: TableWeight) -> Weight
     ensures { result ≡ amount x }
 {
-    let rank = rank_of(x);
-    if rank == 0 {
-        return 0;
-    }
-    rank - 1
+    if x < 0 { 0 } else { x as Weight }
 }
 
 // The same of the weight of u, none past the column's end.
@@ -23,51 +18,44 @@ pub fn amount_at(least: &[TableWeight], u: usize) -> Weight
     ensures { result ≡ amount (weight_in least.now u) }
 {
     if u < least.len() {
-        return amount_of(least[u]);
+        amount_of(least[u])
+    } else {
+        0
     }
-    0
 }
 
 // Whether a table reaches u.
 fn is_reached(least: &[TableWeight], u: usize) -> bool
     ensures { result ≡ is_reached (weight_in least.now u) }
 {
-    if u < least.len() {
-        return rank_of(least[u]) != 0;
-    }
-    false
+    u < least.len() && 0 <= least[u]
 }
 
-// The nearer of u and the best vertex before it; the column's length stands for none.
-fn nearer(byte: u8, least: &[TableWeight], u: usize, best: usize) -> usize
-    requires { u < length least.now }
-    ensures { (bytes : List ℕ) → get_or bytes u 0 ≡ byte → best ≡ found_or (length least.now) (nearest_in bytes least.now u) → result ≡ found_or (length least.now) (nearest_in bytes least.now (u + 1)) }
+// The nearer of u and the nearest vertex before it, where u is virtual and the table reaches it.
+fn nearer(byte: u8, least: &[TableWeight], u: usize, best: Option<usize>) -> Option<usize>
+    ensures { result ≡ cond (is_virtual byte && is_reached (weight_in least.now u)) (nearer_of least.now u best) best }
 {
-    if byte == 0 {
+    if byte == 0 || !is_reached(least, u) {
         return best;
     }
-    if is_reached(least, u) {
-        if best == least.len() {
-            return u;
-        }
-        if amount_at(least, u) < amount_at(least, best) {
-            return u;
-        }
-        return best;
+    let Some(b) = best else {
+        return Some(u);
+    };
+    if amount_at(least, u) < amount_at(least, b) {
+        Some(u)
+    } else {
+        best
     }
-    best
 }
 
-// The nearest virtual vertex in a table; the column's length stands for none.
-pub fn nearest_place(boundary: &[u8], least: &[TableWeight]) -> usize
+// The nearest virtual vertex in a table.
+pub fn nearest_place(boundary: &[u8], least: &[TableWeight]) -> Option<usize>
     requires { length boundary.now ≡ length least.now }
-    ensures { result ≡ found_or (length least.now) (nearest_in boundary.now least.now (length least.now)) }
+    ensures { result ≡ place_of (nearest_in boundary.now least.now (length least.now)) }
 {
-    let mut best = least.len();
-    let mut u: usize = 0;
-    while u < least.len() {
+    let mut best = None;
+    for u in 0..least.len() {
         best = nearer(boundary[u], least, u, best);
-        u += 1;
     }
     best
 }

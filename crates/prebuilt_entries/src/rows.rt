@@ -22,45 +22,25 @@ pub fn rank_of(x: TableWeight) -> Weight
 fn in_the_middle(own: TableWeight, peer: TableWeight, x: TableWeight) -> bool
     ensures { result ≡ in_the_middle own peer x }
 {
-    let a = rank_of(own);
-    let b = rank_of(peer);
-    let k = rank_of(x);
-    if a == 0 {
-        return false;
-    }
-    if b == 0 {
-        return false;
-    }
-    if k == 0 {
-        return false;
-    }
-    (a - 1) + (b - 1) < k - 1
+    0 <= own && 0 <= peer && 0 <= x && (own as Weight) + (peer as Weight) < x as Weight
 }
 
 // Whether a row has no entry: one end is virtual, or both are the same.
 fn is_hidden(own: u8, byte: u8, same: bool) -> bool
     ensures { result ≡ (is_virtual own || (is_virtual byte || same)) }
 {
-    if own != 0 {
-        return true;
-    }
-    if byte != 0 {
-        return true;
-    }
-    same
+    own != 0 || byte != 0 || same
 }
 
 // An entry of a row.
 fn row_entry(hidden: bool, own: TableWeight, peer: TableWeight, x: TableWeight) -> TableWeight
     ensures { result ≡ entry_by hidden own peer x }
 {
-    if hidden {
-        return -1;
+    if hidden || in_the_middle(own, peer, x) {
+        -1
+    } else {
+        x
     }
-    if in_the_middle(own, peer, x) {
-        return -1;
-    }
-    x
 }
 
 // The row of v, from the least weights that stand in its column.
@@ -69,10 +49,8 @@ pub fn write_row(boundary: &[u8], nearest: &[TableWeight], v: VertexIndex, out: 
     ensures { out.new ≡ sets out.old 0 (each (length boundary.now) (row_entry boundary.now nearest.now v.0 out.old)) }
 {
     let at = v.0 as usize;
-    let mut u: usize = 0;
-    while u < boundary.len() {
+    for u in 0..boundary.len() {
         let hidden = is_hidden(boundary[at], boundary[u], u == at);
         out[u] = row_entry(hidden, nearest[at], nearest[u], out[u]);
-        u += 1;
     }
 }

@@ -3,11 +3,9 @@ use mathlib.Core.Path.{◌≡◌, refl, ap, ◌∙◌}
 use mathlib.Core.Bool.{Bool, true, false, cond}
 use mathlib.Core.Option as maybe
 use Prim.Native.Nat.{ℕ, suc, min}
-use native.Mathlib.Numerals.{add-one}
 use native.Mathlib.Omega.{arith}
 use native.Mathlib.Decide.{dec_lt}
 use borrow.Author.Tests.{lt-ltb, le-ltb}
-use lib.Dec.{ltb}
 use Rattle.std.specs.Prelude.{Option, Some, None, ◌+◌}
 use Rattle.engine_walks.specs.Settling.{State, weight_at, lesser, first_least}
 use Rattle.engine_walks.specs.Answers.{weight_of}

@@ -75,9 +75,6 @@ module _ (s : State) (a : ℕ) where
   pub count-end : (n j v : ℕ) → n ≤ j → length (read_back_of s a (n - j) v) ≡ 0
   count-end n j v h = let k : n - j ≡ 0 = omega arith in ap (λ m. length (read_back_of s a m v)) k ∙ ap length (back-zero v)
 
-  pub count-start : (n v : ℕ) → length (read_back_of s a n v) ≡ length (read_back_of s a (n - 0) v) + 0
-  count-start n v = let k : n ≡ n - 0 = omega arith in let q = ap (λ m. length (read_back_of s a m v)) k in omega (arith, q)
-
 sets_before : (xs : List ℕ) (i y : ℕ) (j : ℕ) (ys : List ℕ) → i < j → sets (set xs i y) j ys ≡ set (sets xs j ys) i y
 sets_before xs i y j [] h = refl
 sets_before xs i y j (z ∷ ys) h =
@@ -92,16 +89,6 @@ step_some s a v p e = go (eqb v a) (taken s v) e
     go false true e = let q : ◌≡◌ {A = ℕ} (previous_at s v) p = cc in sym q
 
 module _ (s : State) (a n b : ℕ) (vertices₀ steps₀ : List ℕ) where
-  pub written_start : (i : ℕ) → i ≡ length (read_back_of s a n b) → Written s a n b i b vertices₀ vertices₀ steps₀ steps₀
-  written_start i e = record {
-    room = n;
-    rest = [];
-    reads = sym (append-nil (read_back_of s a n b));
-    count = sym e;
-    in_vertices = refl;
-    in_steps = refl;
-  }
-
   pub written-more : (i v : ℕ) (vertices steps : List ℕ) → Written s a n b (suc i) v vertices₀ vertices steps₀ steps
       → Written s a n b i (previous_at s v) vertices₀ (set vertices i v) steps₀ (set steps i (step_into s v))
   written-more i v vertices steps w = by-room w.room refl
@@ -147,12 +134,6 @@ module _ (s : State) (a n b : ℕ) (vertices₀ steps₀ : List ℕ) where
       none_left : (l : List ℕ) → length l ≡ 0 → l ≡ []
       none_left [] e = refl
       none_left (x ∷ l) e = absurd (omega (arith, e))
-
-  pub written-vertices : (v : ℕ) (vertices steps : List ℕ) → Written s a n b 0 v vertices₀ vertices steps₀ steps → vertices ≡ sets vertices₀ 0 (read_back_of s a n b)
-  written-vertices v vertices steps w = w.in_vertices ∙ ap (λ (r : List ℕ). sets vertices₀ 0 r) (all_read v vertices steps w)
-
-  pub written-steps : (v : ℕ) (vertices steps : List ℕ) → Written s a n b 0 v vertices₀ vertices steps₀ steps → steps ≡ sets steps₀ 0 (map (step_into s) (read_back_of s a n b))
-  written-steps v vertices steps w = w.in_steps ∙ ap (λ (r : List ℕ). sets steps₀ 0 (map (step_into s) r)) (all_read v vertices steps w)
 
 -- the path in a state that is the settled one
 pub path_of_lem : (g : Graph) (w : ℕ → ℕ) (a b : ℕ) (s : State) → s ≡ settled g w (only a) (some b) → path_of s g.vertices a b ≡ path g w a b

@@ -16,7 +16,7 @@ use Rattle.columns_neighbors.proofs.Ends.{graph-says}
 use Rattle.engine_columns.specs.Records.{Engine}
 use Rattle.engine_columns.specs.declared.EngineCounts.{EngineCounts}
 use Rattle.engine_columns.specs.Questions.{columns_long, columns_sound, engine_long, engine_sound}
-use Rattle.engine_columns.proofs.Refusals.{ColumnsLong, columns-long-from, Long, long_of, ColumnsSound, columns-sound-from, Sound, sound_of}
+use Rattle.engine_columns.proofs.Refusals.{ColumnsLong, columns-long-of, columns-long-from, Long, long_of, ColumnsSound, columns-sound-from, Sound, sound_of}
 use Rattle.query_questions.specs.Queries.{query_refusal}
 use Rattle.query_search.specs.Search.{Searchable}
 use Rattle.query_questions.specs.Scratch.{scratch_of, scratch_lengths, scratch_long, ScratchLengths}
@@ -49,6 +49,19 @@ scratch_of_lem c l h =
       node_long = leb-true _ _ p₆;
       leaf_long = leb-true _ _ p₇;
     }
+
+-- the same for a tactic: the tests, and what they say
+pub columns_fit : (v e : ℕ) (a b w m : List ℕ) → columns_long v e a b w m ≡ true
+    → (columns_long v e a b w m ≡ true) × (e ≤ length a) × (e ≤ length b) × (e ≤ length w) × (v ≤ length m)
+columns_fit v e a b w m h = let l = columns-long-of v e a b w m h in (h, l.ends_a, l.ends_b, l.weights, l.boundary)
+
+pub scratch_fit : (c : EngineCounts) (l : ScratchLengths) → scratch_long c l ≡ true
+    → (scratch_long c l ≡ true) × (c.vertices ≤ l.list_ends) × (c.vertices ≤ l.status) × (c.vertices ≤ l.weight) × (c.vertices ≤ l.previous) × (c.vertices ≤ l.node) × (c.vertices ≤ l.leaf)
+scratch_fit c l h = let s = scratch_of_lem c l h in (h, s.ends_long, s.status_long, s.weight_long, s.previous_long, s.node_long, s.leaf_long)
+
+-- a column cut to a count that it has room for is as long as the count
+pub cut_is : (n : ℕ) (column : List ℕ) → n ≤ length column → n ≡ length (take n column)
+cut_is n column h = sym (length-take-le n column h)
 
 -- 6, 7 and 13 of any query
 pub record QueryAsked (e : Engine) (fits within : Bool) (next : ℕ) : Type 0 where

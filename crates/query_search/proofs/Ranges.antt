@@ -1,5 +1,5 @@
 -- An accepted engine graph is a graph of `engine_walks`. Assumes nothing.
-use Prim.Native.Nat.{ℕ, ◌<◌, ◌≤◌}
+use Prim.Native.Nat.{◌<◌}
 use native.Mathlib.Omega.{arith}
 use lib.ListN.{take}
 use lib.Seq.{get_or-take, length-take-le}

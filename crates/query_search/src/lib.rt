@@ -74,6 +74,7 @@ fn search_cut(
 }
 
 // The search of an engine graph: scratch then holds the neighbour lists and the settled state, in its first places.
+#[tactic(auto, using(crate::proofs::Asked::columns_fit, crate::proofs::Asked::scratch_fit, crate::proofs::Asked::cut_is))]
 pub fn search(
     c: EngineCounts,
     ends_a: &[u32],
@@ -120,9 +121,10 @@ fn row_weight(status: u8, weight: Weight) -> TableWeight
     ensures { result ≡ cond (eqb status 2) (pos weight) (negsuc 0) }
 {
     if status == 2 {
-        return weight as TableWeight;
+        weight as TableWeight
+    } else {
+        -1
     }
-    -1
 }
 
 // The weights of the table, from the column's start.
@@ -130,10 +132,8 @@ pub fn write_weights(status: &[u8], weight: &[Weight], out: &mut [TableWeight])
     requires { (length weight.now ≡ length status.now) × (length status.now ≤ length out.old) × ((v : ℕ) → v < length status.now → get_or weight.now v 0 < sum_limit) }
     ensures { (p : List ℕ) → out.new ≡ sets out.old 0 (each (length status.now) (table_weight (state_of status.now weight.now p))) }
 {
-    let mut v: usize = 0;
-    while v < status.len() {
+    for v in 0..status.len() {
         out[v] = row_weight(status[v], weight[v]);
-        v += 1;
     }
 }
 
@@ -141,10 +141,7 @@ pub fn write_weights(status: &[u8], weight: &[Weight], out: &mut [TableWeight])
 fn row_previous(status: u8, previous: u32) -> u32
     ensures { result ≡ cond (eqb status 2) previous 0 }
 {
-    if status == 2 {
-        return previous;
-    }
-    0
+    if status == 2 { previous } else { 0 }
 }
 
 // The previous vertices of the table, from the column's start.
@@ -152,9 +149,7 @@ pub fn write_previous(status: &[u8], previous: &[u32], out: &mut [u32])
     requires { (length previous.now ≡ length status.now) × (length status.now ≤ length out.old) }
     ensures { (w : List ℕ) → out.new ≡ sets out.old 0 (each (length status.now) (table_previous (state_of status.now w previous.now))) }
 {
-    let mut v: usize = 0;
-    while v < status.len() {
+    for v in 0..status.len() {
         out[v] = row_previous(status[v], previous[v]);
-        v += 1;
     }
 }

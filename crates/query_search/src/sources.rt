@@ -13,10 +13,9 @@ use columns::{VertexIndex, Weight};
 fn begin_at(status: &mut [u8], a: VertexIndex)
     ensures { status.new ≡ set (replicate (length status.old) 0) a.0 1 }
 {
-    let n = status.len();
-    columns_stores::fill(status, n, 0);
+    status.fill(0);
     let at = a.0 as usize;
-    if at < n {
+    if at < status.len() {
         status[at] = 1;
     }
 }
@@ -33,10 +32,8 @@ fn begin_left(status: &mut [u8], boundary: &[u8])
     requires { length status.old ≡ length boundary.now }
     ensures { status.new ≡ each (length status.old) (λ v. delta (get_or boundary.now v 0) 1) }
 {
-    let mut v: usize = 0;
-    while v < status.len() {
+    for v in 0..status.len() {
         status[v] = left_mark(boundary[v]);
-        v += 1;
     }
 }
 
@@ -46,7 +43,7 @@ pub fn begin_status(origin: Origin, status: &mut [u8], boundary: &[u8])
     ensures { status.new ≡ first_status origin boundary.now (length status.old) }
 {
     match origin {
-        Origin::At(a, stop) => begin_at(status, a),
+        Origin::At(a, _) => begin_at(status, a),
         Origin::Left => begin_left(status, boundary),
     }
 }
@@ -56,7 +53,7 @@ pub fn stop_in(origin: Origin, vertices: u32) -> VertexIndex
     ensures { result.0 ≡ stop_in origin vertices }
 {
     match origin {
-        Origin::At(a, stop) => stop,
+        Origin::At(_, stop) => stop,
         Origin::Left => VertexIndex(vertices),
     }
 }
@@ -66,10 +63,8 @@ fn own_previous(previous: &mut [u32])
     requires { length previous.old ≤ 4096 }
     ensures { previous.new ≡ each (length previous.old) (λ v. v) }
 {
-    let mut v: usize = 0;
-    while v < previous.len() {
+    for v in 0..previous.len() {
         previous[v] = v as u32;
-        v += 1;
     }
 }
 
@@ -91,12 +86,9 @@ fn put_sources(status: &[u8], node: &mut [u64], leaf: &mut [u64])
     ensures keyed { Keyed status.now (length status.now) leaf.new }
     ensures tree { Tree node.new leaf.new (length status.now) }
 {
-    let n = status.len();
-    query_queue::clear(node, leaf, n);
-    let mut v: usize = 0;
-    while v < n {
+    query_queue::clear(node, leaf, status.len());
+    for v in 0..status.len() {
         put_source(status, node, leaf, v);
-        v += 1;
     }
 }
 
@@ -113,8 +105,7 @@ pub fn begin(
     ensures weight_after { weight.new ≡ each (length status.now) (λ v. 0) }
     ensures previous_after { previous.new ≡ each (length status.now) (λ v. v) }
 {
-    let n = status.len();
-    columns_stores::fill(weight, n, 0);
+    weight.fill(0);
     own_previous(previous);
     put_sources(status, node, leaf);
 }

@@ -2,7 +2,7 @@
 use mathlib.Core.Path.{◌≡◌, sym, ap, ◌∙◌, subst}
 use native.Mathlib.Omega.{arith}
 use borrow.Author.Rules.{rules}
-use lib.ListN.{length, take}
+use lib.ListN.{take}
 use lib.Seq.{sets, length-take-le}
 use Rattle.std.specs.Prelude.{Err, ok_or}
 use Rattle.columns.specs.declared.refusal.Refusal.TheVariants.{NoCrossing}

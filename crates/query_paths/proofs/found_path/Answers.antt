@@ -7,7 +7,6 @@ use borrow.Author.Rules.{rules}
 use lib.ListN.{length, take}
 use lib.Seq.{sets, length-take-le}
 use Rattle.std.specs.Prelude.{Err}
-use Rattle.columns.specs.declared.refusal.Refusal.TheVariants.{Unreached}
 use Rattle.engine_walks.specs.Answers.{read_back_of, step_into}
 use Rattle.query_relaxing.specs.Ready.{state_of}
 use Rattle.query_read_back.specs.Path.{path_of}

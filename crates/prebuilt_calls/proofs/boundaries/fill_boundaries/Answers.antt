@@ -2,7 +2,7 @@
 use mathlib.Core.Path.{◌≡◌, sym, ap, ◌∙◌, subst}
 use borrow.Author.Rules.{rules}
 use lib.ListN.{length}
-use Rattle.std.specs.Prelude.{Ok, Err}
+use Rattle.std.specs.Prelude.{Err}
 use Rattle.engine_columns.specs.Records.{engine_in}
 use Rattle.query_questions.specs.Scratch.{scratch_in}
 use Rattle.prebuilt_calls.specs.Boundaries.{boundaries_refusal, FilledBoundaries}

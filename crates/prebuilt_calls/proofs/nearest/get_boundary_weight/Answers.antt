@@ -1,8 +1,4 @@
 -- `prebuilt_calls::nearest::get_boundary_weight` meets its contract: `all_edges` asks the questions, and its table has the nearest virtual vertex. Assumes nothing.
-use mathlib.Core.Path.{ap, ◌∙◌}
-use lib.ListN.{take}
-use Rattle.prebuilt_entries.specs.Nearest.{boundary_in}
-use Rattle.prebuilt_calls.specs.Nearest.{boundary_found}
 use Rattle.prebuilt_calls.proofs.Replies.{table_there}
 use Rattle.prebuilt_calls.proofs.Boundary.{boundary_got}
 use Rattle.prebuilt_calls.proofs.nearest.get_boundary_weight.Goals as goal

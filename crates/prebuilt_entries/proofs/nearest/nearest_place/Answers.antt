@@ -1,29 +1,25 @@
--- `prebuilt_entries::nearest::nearest_place` meets its contract. Invariant: best is the nearest place of the first u, or the length for none. Assumes nothing.
-use mathlib.Core.Path.{◌≡◌, refl, ap, ◌∙◌}
+-- `prebuilt_entries::nearest::nearest_place` meets its contract. Invariant: best is the nearest of the first u vertices. Assumes nothing.
+use mathlib.Core.Path.{◌≡◌, ap, ◌∙◌}
+use mathlib.Core.Bool.{cond, ◌&&◌}
 use native.Mathlib.Omega.{arith}
-use lib.ListN.{length}
-use Rattle.engine_walks.specs.Lists.{found_or}
-use Rattle.prebuilt_entries.specs.Nearest.{nearest_in}
-use Rattle.engine_walks.specs.Settling.{first_least}
-use borrow.Author.Rules.{rules}
+use lib.ListN.{length, get_or}
+use Rattle.engine_walks.specs.Answers.{weight_in}
+use Rattle.prebuilt_entries.specs.Entries.{is_virtual}
+use Rattle.prebuilt_entries.specs.Nearest.{is_reached, nearer_of, place_of, nearest_in}
+use Rattle.prebuilt_entries.proofs.Places.{place_none, place-next}
 use Rattle.prebuilt_entries.proofs.nearest.nearest_place.Goals as goal
 
 pub loop-u-init : goal.loop-u-init
-unfolding first_least
-loop-u-init c = (search rules, refl)
-
-pub bounds-boundary-u : goal.bounds-boundary-u
-bounds-boundary-u c = let s = c in omega (arith, s.requires, c.loop-u-test.true)
-
-pub nearer-best-requires : goal.nearer-best-requires
-nearer-best-requires c = omega (arith, c.loop-u-test.true)
+loop-u-init c = place_none c.args.boundary.now c.args.least.now
 
 pub loop-u-preserved : goal.loop-u-preserved
-loop-u-preserved c = let s = c in let at = c.loop-u in (omega (arith, c.loop-u-test.true), c.nearer-best.ensures s.args.boundary.now refl at.invariant.1)
+loop-u-preserved c =
+    let bytes = c.args.boundary.now in
+    let least = c.args.least.now in
+    let u = c.loop-u.u in
+    c.nearer-best.ensures ∙ ap (λ b. cond (is_virtual (get_or bytes u 0) && is_reached (weight_in least u)) (nearer_of least u b) b) c.loop-u.invariant ∙ place-next bytes least u
 
 pub returns : goal.returns
 returns c =
-    let s = c in
-    let at = c.loop-u in
-    let e : at.u ≡ length s.args.least.now = omega (arith, at.invariant.0, c.loop-u-test.false) in
-    at.invariant.1 ∙ ap (λ k. found_or (length s.args.least.now) (nearest_in s.args.boundary.now s.args.least.now k)) e
+    let least = c.args.least.now in
+    let e : c.loop-u.u ≡ length least = omega arith in c.loop-u.invariant ∙ ap (λ n. place_of (nearest_in c.args.boundary.now least n)) e

@@ -84,6 +84,11 @@ module _ {A : Type 0} where
   ]
 
   -- a loop that copies
+  pub copy_more : (l s : List A) (i : ℕ) (d : A) → i < length s → set (sets l 0 (take i s)) i (get_or s i d) ≡ sets l 0 (take (i + 1) s)
+  copy_more l s i d h =
+      sym (sets_more l (take i s) i (get_or s i d) (omega (arith, length-take i s)))
+      ∙ ap (sets l 0) (sym (take-suc s i d h) ∙ ap (λ (k : ℕ). take k s) (sym (add-one i)))
+
   pub copy-end : (l s : List A) (n i : ℕ) → i ≤ min n (length s) → min (min n (length s)) (length l) ≤ i → sets l 0 (take i s) ≡ sets l 0 (take n s)
   copy-end l s n i k h = elim (dec_le (min n (length s)) i) [
     | yes e ↦ ap (sets l 0) (first s n i k e)

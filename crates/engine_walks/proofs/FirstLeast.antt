@@ -60,25 +60,3 @@ module _ (t : ℕ → Bool) (x : ℕ → ℕ) (n i best : ℕ) (h : i < n) (inv 
       go : (o : Option ℕ) → IsFirst t x i o → best ≡ found_or n o → best < i
       go none p e = absurd (f e)
       go (some a) p e = omega (arith, p.0)
-
-  pub pass-by : t i ≡ false → best ≡ found_or n (first_least t x (suc i))
-  unfolding first_least
-  pass-by e = rw e inv
-
-  pub pass-take : t i ≡ true → (best ≡ n) ⊎ (x i < x best) → i ≡ found_or n (first_least t x (suc i))
-  unfolding first_least
-  pass-take e w = rw e (go (first_least t x i) (first-least t x i) inv w)
-    where
-      go : (o : Option ℕ) → IsFirst t x i o → best ≡ found_or n o → (best ≡ n) ⊎ (x i < x best)
-          → i ≡ found_or n (lesser x i o)
-      go none p e w = refl
-      go (some a) p e (inl q) = absurd (omega (arith, p.0))
-      go (some a) p e (inr l) = rw (lt-ltb (x i) (x a) (subst (λ b. x i < x b) e l))
-
-  pub pass-keep : t i ≡ true → best ≢ n → x best ≤ x i → best ≡ found_or n (first_least t x (suc i))
-  unfolding first_least
-  pass-keep e f l = rw e (go (first_least t x i) inv)
-    where
-      go : (o : Option ℕ) → best ≡ found_or n o → best ≡ found_or n (lesser x i o)
-      go none q = absurd (f q)
-      go (some a) q = rw (le-ltb (x i) (x a) (subst (λ b. x b ≤ x i) q l)) q

@@ -45,4 +45,3 @@ module _ (e : Engine) (weights vertices least before : ℕ) (l : ScratchLengths)
   boundaries-kept f =
       let n = e.counts.vertices in
       query_kept e (leb n weights && (leb n vertices && (leb n least && (leb n before && scratch)))) true 0 (λ x. absurd (x refl)) f
-

@@ -113,4 +113,3 @@ module _ (e : Engine) (v : ℕ) (nearest out₀ : List ℤ) (before₀ : List �
         before_after = there.inside.before_after;
         scratch_after = there.inside.scratch_after;
       }
-

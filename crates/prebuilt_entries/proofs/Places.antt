@@ -57,4 +57,3 @@ module _ (bytes : List ℕ) (least : List ℤ) where
         go true o p e = absurd (let z : ◌≡◌ {A = ℕ} 0 1 = cc in omega arith)
         go false none p e = absurd (let z : ◌≡◌ {A = ℕ} 0 1 = cc in omega arith)
         go false (some a) p e = let q : u ≡ a = cc in (omega (arith, p.0), ap some q)
-

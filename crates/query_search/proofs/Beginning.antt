@@ -16,43 +16,6 @@ use Rattle.query_queue.specs.Tree as Q
 use Rattle.query_relaxing.specs.Ready.{key_of, state_of, Ready, Keyed}
 
 module _ (status : List ℕ) where
-  -- no key at first
-  pub keyed-none : (leaf : List ℕ) → Same leaf (length status) Q.no_key → Keyed status 0 leaf
-  keyed-none leaf s v h = s v h ∙ sym (ap (λ b. cond b (key_of (get_or status v 0) 0 v) Q.no_key) (le-ltb v 0 (omega arith)))
-
-  -- one vertex more
-  pub keyed-more : (i : ℕ) (leaf leaf' : List ℕ) → i < length status → length leaf ≡ length status → Keyed status i leaf
-      → leaf' ≡ cond (eqb (get_or status i 0) 1) (set leaf i i) leaf → Keyed status (i + 1) leaf'
-  keyed-more i leaf leaf' h len k put v inside = ap (λ l. get_or l v 0) put ∙ go (eqb (get_or status i 0) 1) refl (ℕ_discrete v i)
-    where
-      key : (j : ℕ) → ℕ
-      key j = cond (ltb v j) (key_of (get_or status v 0) 0 v) Q.no_key
-
-      go : (b : Bool) → eqb (get_or status i 0) 1 ≡ b → Dec (v ≡ i) → get_or (cond b (set leaf i i) leaf) v 0 ≡ cond (ltb v (i + 1)) (key_of (get_or status v 0) 0 v) Q.no_key
-      go true e (yes q) =
-          ap (λ j. get_or (set leaf i i) j 0) q ∙ get_or-set_same leaf i i 0 (omega arith)
-          ∙ (let z : i ≡ 0 * 4096 + i = omega arith in z)
-          ∙ sym (ap (λ b. cond b (key_of (get_or status v 0) 0 v) Q.no_key) (lt-ltb v (i + 1) (omega arith))
-          ∙ (λ j. cond (eqb (get_or status (q j) 0) 1) (0 * 4096 + q j) Q.no_key) ∙ ap (λ b. cond b (0 * 4096 + i) Q.no_key) e)
-      go true e (no q) = get_or-set_other leaf i v i 0 q ∙ k v inside ∙ ap (λ b. cond b (key_of (get_or status v 0) 0 v) Q.no_key) (same v i q)
-        where
-          same : (v i : ℕ) → (v ≡ i → ⊥) → ltb v i ≡ ltb v (i + 1)
-          same v i f = elim (dec_lt v i) [
-            | yes l ↦ lt-ltb v i l ∙ sym (lt-ltb v (i + 1) (omega arith))
-            | no l ↦ le-ltb v i (omega arith) ∙ sym (le-ltb v (i + 1) (omega arith))
-          ]
-      go false e (yes q) =
-          k v inside ∙ ap (λ b. cond b (key_of (get_or status v 0) 0 v) Q.no_key) (le-ltb v i (omega arith))
-          ∙ sym (ap (λ b. cond b (key_of (get_or status v 0) 0 v) Q.no_key) (lt-ltb v (i + 1) (omega arith))
-          ∙ (λ j. cond (eqb (get_or status (q j) 0) 1) (0 * 4096 + q j) Q.no_key) ∙ ap (λ b. cond b (0 * 4096 + i) Q.no_key) e)
-      go false e (no q) = k v inside ∙ ap (λ b. cond b (key_of (get_or status v 0) 0 v) Q.no_key) (same v i q)
-        where
-          same : (v i : ℕ) → (v ≡ i → ⊥) → ltb v i ≡ ltb v (i + 1)
-          same v i f = elim (dec_lt v i) [
-            | yes l ↦ lt-ltb v i l ∙ sym (lt-ltb v (i + 1) (omega arith))
-            | no l ↦ le-ltb v i (omega arith) ∙ sym (le-ltb v (i + 1) (omega arith))
-          ]
-
   -- all columns together
   pub ready-first : (weight previous node leaf : List ℕ) → length status ≤ 4096 → weight ≡ each (length status) (λ v. 0) → previous ≡ each (length status) (λ v. v)
       → length status ≤ length node → length leaf ≡ length status → Tree node leaf (length status) → Keyed status (length status) leaf

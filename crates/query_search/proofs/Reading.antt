@@ -26,12 +26,3 @@ module _ {g : Graph} {s : State} {scratch₀ scratch : ScratchColumns} (h : Sear
 
   pub status-length : length (take g.vertices scratch.status) ≡ g.vertices
   status-length = ap length status-read ∙ ok.status_fits
-
-  pub weight-length : length (take g.vertices scratch.weight) ≡ g.vertices
-  weight-length = ap length weight-read ∙ ok.weight_fits
-
-  pub previous-length : length (take g.vertices scratch.previous) ≡ g.vertices
-  previous-length = ap length previous-read ∙ ok.previous_fits
-
-  pub within-read : (v : ℕ) → v < length (take g.vertices scratch.status) → get_or (take g.vertices scratch.weight) v 0 < sum_limit
-  within-read v l = rw weight-read (ok.weights_within v (omega (arith, status-length)))

@@ -39,14 +39,6 @@ stop_same g w a (std.Some b) h = elim (ℕ_discrete b.0 a) [
       ∙ ap (λ k. settled g w (only a) (cond k (some b.0) none)) h
 ]
 
-pub stop_other : (a v : ℕ) (end : std.Option VertexIndex) → a < v → stop_of end a v ≢ a
-stop_other a v std.None h e = omega arith
-stop_other a v (std.Some b) h e = go (ℕ_discrete b.0 a)
-  where
-    go : Dec (b.0 ≡ a) → ⊥
-    go (yes q) = let z = sym (ap (λ k. cond k v b.0) (eq-eqb b.0 a q)) ∙ e in omega arith
-    go (no q) = q (sym (ap (λ k. cond k v b.0) (ne_eqb b.0 a q)) ∙ e)
-
 -- the table by the code's stop is the table by the named end
 pub table_same : (g : Graph) (w : ℕ → ℕ) (a : ℕ) (end : std.Option VertexIndex) → end_in_range end g.vertices ≡ true
     → table g w a (end_of g.vertices (stop_of end a g.vertices)) ≡ table g w a (end_in end)

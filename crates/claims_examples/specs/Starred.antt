@@ -4,7 +4,7 @@ use Rattle.codes_calls.specs.declared.CodeCounts.{CodeCounts}
 use Rattle.codes_calls.specs.CreateCode.{code_counts, no_counts}
 use Rattle.columns.specs.declared.refusal.Refusal.{Refusal}
 use Rattle.std.specs.Prelude.{◌≡◌, true, List, [], ◌∷◌, ℕ, ◌≤◌, length, take, replicate, Float, Option, Result, Ok, Err}
-use Rattle.std.proofs.Math.Option.{Option, some}
+use Rattle.std.proofs.Math.Option.{Option as MathOption, some}
 use Rattle.std.specs.Float.{binary64}
 use Rattle.std.specs.Float.Ieee.{of_bits}
 use Rattle.columns.specs.Lists.{over}
@@ -14,7 +14,6 @@ use Rattle.codes_writers.specs.Edges.{firsts, seconds, boundaries}
 use Rattle.codes_layers.specs.Codes.{edges_of, vertices_of}
 use Rattle.codes_questions.specs.Answers.{CountsVertices, CountsEdges}
 use Rattle.codes_calls.specs.Columns.{CodeColumns, vertex_room, edge_room, long_enough}
-use Rattle.columns.specs.declared.refusal.Refusal.{Refusal}
 use Rattle.access_vertices.specs.Weights.{weights as doubled}
 use Rattle.access_calls.specs.Calls.{code, Initializer}
 use Rattle.weights_calls.specs.Calls.{is_largest_half_weight, half_weights, compute_refusal}
@@ -27,7 +26,6 @@ use Rattle.engine_tally.specs.Tally.{Lengths, Tally, Fed, tally_of, tally_after,
 use Rattle.engine_walks.specs.Answers.{path, crossing}
 use Rattle.query_questions.specs.Queries as Q
 use Rattle.query_questions.specs.Scratch.{ScratchColumns, scratch_fits}
-use Rattle.columns.specs.declared.refusal.Refusal.{Refusal}
 use Rattle.query_paths.specs.declared.PathCounts.{PathCounts}
 use Rattle.query_paths.specs.GetPath.{path_counts, no_path, path_asked, path_refusal}
 use Rattle.weights_claims.specs.Called.{WeightsReturned}
@@ -55,7 +53,7 @@ abbrev pub listing_after : List Fed → Tally
 listing_after fs = tally_after fs (tally_of 4 3 listing_graph)
 
 -- Checked examples: the crossing weight of the listing's graph after a list of calls.
-abbrev pub crossing_after : List Fed → Option ℕ
+abbrev pub crossing_after : List Fed → MathOption ℕ
 crossing_after fs = crossing (tally_graph (listing_after fs)) (tally_weights (listing_after fs))
 
 -- Checked examples: the listing's graph in the engine's columns.

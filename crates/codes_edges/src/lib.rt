@@ -74,11 +74,9 @@ pub fn code_edges(ends_a: &mut [u32], ends_b: &mut [u32], kind: u32, d: u32, rou
 {
     let size = layer_size(kind, d);
     let mut next: usize = 0;
-    let mut t: u32 = 0;
-    while t < rounds {
+    for t in 0..rounds {
         let m = layer_edges(ends_a, ends_b, next, kind, d, t * size);
         next = gap_edges(ends_a, ends_b, m, kind, d, t * size);
-        t += 1;
     }
-    layer_edges(ends_a, ends_b, next, kind, d, t * size)
+    layer_edges(ends_a, ends_b, next, kind, d, rounds * size)
 }

@@ -71,6 +71,7 @@ pub fn list_set(column: &[u8], n: u32, list: &mut [u32]) -> u32
 {
     let mut count: u32 = 0;
     let mut k: u32 = 0;
+    // while: eight numbers a turn keep a sparse list fast, and k, where the blocks end, is where the rest begins.
     while n - k >= 8 {
         count = list_block(column, k, list, count);
         k += 8;

@@ -3,7 +3,7 @@ use mathlib.Core.Path.{◌≡◌, refl, ap, ◌∙◌}
 use mathlib.Core.Logic.{⊎_elim}
 use mathlib.Core.Bool.{true}
 use mathlib.Core.List.{List}
-use Prim.Native.Nat.{ℕ, zero, suc, ◌-◌, ◌≤◌, ◌<◌}
+use Prim.Native.Nat.{ℕ, zero, suc, ◌≤◌, ◌<◌}
 use native.Mathlib.Nat.{le_of_suc-le-suc, not-suc-le-zero, eq-or-lt_of_le}
 use native.Mathlib.Decide.{ℕ_discrete}
 use native.Mathlib.Omega.{arith}
@@ -29,14 +29,6 @@ earlier-length es x (suc n) w l = length-set (earlier es x n w l) n (get_or (loa
 pub undone-length : (es ls : List ℕ) (n : ℕ) (w : List ℕ) → length (undone es ls n w) ≡ length w
 undone-length es ls zero w = refl
 undone-length es ls (suc n) w = undone-length es ls n (set w (get_or es n 0) (get_or ls n 0)) ∙ length-set w (get_or es n 0) (get_or ls n 0)
-
--- undoing i entries undoes the last of them first
-pub undone_step : (es ls : List ℕ) (i : ℕ) (w : List ℕ) → 0 < i
-    → undone es ls (i - 1) (set w (get_or es (i - 1) 0) (get_or ls (i - 1) 0)) ≡ undone es ls i w
-undone_step es ls zero w h = absurd (not-suc-le-zero h)
-undone_step es ls (suc n) w h =
-    let e : suc n - 1 ≡ n = omega arith in
-    ap (λ (k : ℕ). undone es ls k (set w (get_or es k 0) (get_or ls k 0))) e
 
 -- entries past the first k do not matter to undoing the first k
 undone_past : (k : ℕ) (es ls : List ℕ) (j a b : ℕ) (w : List ℕ) → k ≤ j

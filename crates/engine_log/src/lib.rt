@@ -4,7 +4,7 @@
 ghost use Rattle.std.specs.Prelude.{◌≡◌, ℕ, ◌<◌, ◌≤◌, length, set, get_or};
 ghost use Rattle.engine_log.specs.Load.{loaded, earlier, named, undone, erased, given};
 
-use columns::{EdgeIndex, Weight, wide};
+use columns::{EdgeIndex, Weight};
 
 // Sets edge e to x, and writes e and its earlier weight into place i of the log.
 fn set_weight(
@@ -77,11 +77,8 @@ pub fn undo_all(weights: &mut [Weight], log_edges: &[u32], log_weights: &[Weight
     requires n_in_bounds { (n ≤ length log_edges.now) × (n ≤ length log_weights.now) }
     ensures { weights.new ≡ undone log_edges.now log_weights.now n weights.old }
 {
-    let mut left = n;
-    while 0 < left {
-        let at = left - 1;
-        let e = wide(log_edges[at]);
+    for at in (0..n).rev() {
+        let e = log_edges[at] as usize;
         weights[e] = log_weights[at];
-        left -= 1;
     }
 }

@@ -33,6 +33,7 @@ fn raise(node: &mut [u64], leaf: &[u64], n: usize, from: usize)
     ensures node_len_unchanged { length node.new ≡ length node.old }
 {
     let mut i = from;
+    // while: the place is halved each turn, and the climb ends at the first place that holds its key already.
     while 0 < i {
         let a = place(node, leaf, n, 2 * i);
         let b = place(node, leaf, n, 2 * i + 1);

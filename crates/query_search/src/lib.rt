@@ -19,6 +19,7 @@ use engine_columns::EngineCounts;
 
 // Where a search begins, and after which vertex it stops: at a vertex, with the number after which it stops, one that no vertex has for none; or at every
 // left vertex, with none.
+// No Option: None would have to mean every left vertex, which is not an absence.
 #[derive(Clone, Copy)]
 pub enum Origin {
     At(VertexIndex, VertexIndex),

@@ -6,7 +6,7 @@ ghost use Rattle.std.proofs.Math.Option.{none};
 ghost use Rattle.engine_walks.specs.Settling.{take_chosen, to_take, settled, relax_along};
 ghost use Rattle.query_relaxing.specs.Ready.{graph_of, weighs, state_of, Ready, Listed, Along, Offers, sources, end_of, start_in, Begun};
 
-use columns::{EdgeIndex, VertexIndex, Weight, wide};
+use columns::{EdgeIndex, VertexIndex, Weight};
 use query_relaxing::relax_edge;
 
 // The edges of vertex a at the places from `from` to `to` of the neighbour lists, one after another.
@@ -31,8 +31,7 @@ fn relax_list(
     ensures by_index { (n : ℕ) (m : List ℕ) → state_of status.new weight.new previous.new ≡ relax_along (graph_of n ends_a.now ends_b.now m) (weighs weights.now) a.0 q.0 w (take (to - from) (drop from neighbor_numbers.now)) (state_of status.old weight.old previous.old) }
     ensures ready_2 { Ready (length status.old) (state_of status.new weight.new previous.new) node.new leaf.new }
 {
-    let mut i = from;
-    while i < to {
+    for i in from..to {
         relax_edge(
             ends_a,
             ends_b,
@@ -47,7 +46,6 @@ fn relax_list(
             w,
             EdgeIndex(neighbor_numbers[i]),
         );
-        i += 1;
     }
 }
 
@@ -59,7 +57,7 @@ fn list_start(list_ends: &[u32], v: usize) -> usize
     if v == 0 {
         return 0;
     }
-    wide(list_ends[v - 1])
+    list_ends[v - 1] as usize
 }
 
 // One turn: takes the waiting vertex of least weight, the smaller number among equals. False where none waits.
@@ -88,11 +86,11 @@ fn turn(
         return false;
     }
     let a = (key % 4096) as u32;
-    let v = wide(a);
+    let v = a as usize;
     let w = weight[v];
     let q = previous[v];
     let from = list_start(list_ends, v);
-    let to = wide(list_ends[v]);
+    let to = list_ends[v] as usize;
     status[v] = 2;
     query_queue::put(node, leaf, n, v, query_queue::NONE);
     relax_list(
@@ -146,8 +144,7 @@ pub fn settle(
     ensures ready_2 { Ready (length status.old) (state_of status.new weight.new previous.new) node.new leaf.new }
 {
     let n = status.len();
-    let mut t: usize = 0;
-    while t < n {
+    for _t in 0..n {
         if is_stopped(status, stop) {
             return;
         }
@@ -165,6 +162,5 @@ pub fn settle(
         ) {
             return;
         }
-        t += 1;
     }
 }

@@ -13,9 +13,7 @@ fn sum_series(z: f64) -> f64
     ensures { result ≡ series 17 z (div binary64 one thirty_five) }
 {
     let mut h = 1.0 / 35.0;
-    let mut n: u32 = 17;
-    while 0 < n {
-        n -= 1;
+    for n in (0..17u32).rev() {
         h = h * z + 1.0 / ((2 * n + 1) as f64);
     }
     h
@@ -30,6 +28,7 @@ pub fn edge_weight(p: f64) -> f64
     }
     let mut q = (1.0 - p) / p;
     let mut k: u32 = 0;
+    // while: k, the number of halvings, is what the loop finds; a `for` would count the same number a second time.
     while k < 64 {
         if q < 2.0 {
             break;

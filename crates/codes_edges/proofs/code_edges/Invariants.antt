@@ -1,6 +1,6 @@
 -- `codes_edges::code_edges` meets its contract. Invariant: the edges of the first t layers and of the gaps after them are written. Assumes nothing.
 use mathlib.Core.List.{List, ◌++◌}
-use Prim.Native.Nat.{ℕ, ◌-◌, ◌*◌, ◌≤◌}
+use Prim.Native.Nat.{ℕ, ◌*◌}
 use Rattle.columns.specs.Lists.{joined}
 use Rattle.codes_writers.specs.Edges.{Ends}
 use Rattle.codes_writers.specs.Steps.{Wrote}
@@ -12,7 +12,4 @@ abbrev pub part : (kind d t : ℕ) → List Ends
 part kind d t = layer_edges kind d (t * layer_size kind d) ++ gap_edges kind d (t * layer_size kind d)
 
 abbrev pub invariant-loop-t : goal.invariant-loop-t
-invariant-loop-t l = (l.t ≤ l.rounds) × Wrote l.initial.ends_a l.initial.ends_b 0 (joined l.t (part l.kind l.d)) l.ends_a l.ends_b l.next
-
-abbrev pub decreases-loop-t : goal.decreases-loop-t
-decreases-loop-t l = l.rounds - l.t
+invariant-loop-t l = Wrote l.initial.ends_a l.initial.ends_b 0 (joined l.t (part l.kind l.d)) l.ends_a l.ends_b l.next

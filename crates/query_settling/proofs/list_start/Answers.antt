@@ -21,4 +21,4 @@ pub bounds-list_ends-v : goal.bounds-list_ends-v
 bounds-list_ends-v c = omega (arith, c.requires)
 
 pub returns : goal.returns
-returns c = let s = c.args in c.wide.ensures.0 ∙ next_start s.list_ends.now s.v c.if-v-eq0.false
+returns c = let s = c.args in next_start s.list_ends.now s.v c.if-v-eq0.false

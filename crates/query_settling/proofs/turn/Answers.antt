@@ -24,71 +24,71 @@ offset_bounds-weight-v c =
     let s = c in
     let st = state_of s.args.status.now s.args.weight.now s.args.previous.now in
     let t = taken_is s.requires.ready c.least-key.result c.least-key.ensures c.if-key.false in
-    omega (arith, t.0, s.requires.ready.few, c.wide-v.ensures.0)
+    omega (arith, t.0, s.requires.ready.few)
 
 pub bounds-weight-v : goal.bounds-weight-v
 bounds-weight-v c =
     let s = c in
     let st = state_of s.args.status.now s.args.weight.now s.args.previous.now in
     let t = taken_is s.requires.ready c.least-key.result c.least-key.ensures c.if-key.false in
-    omega (arith, t.0, s.requires.ready.weight_fits, c.wide-v.ensures.0)
+    omega (arith, t.0, s.requires.ready.weight_fits)
 
 pub offset_bounds-previous-v : goal.offset_bounds-previous-v
 offset_bounds-previous-v c =
     let s = c in
     let st = state_of s.args.status.now s.args.weight.now s.args.previous.now in
     let t = taken_is s.requires.ready c.least-key.result c.least-key.ensures c.if-key.false in
-    omega (arith, t.0, s.requires.ready.few, c.wide-v.ensures.0)
+    omega (arith, t.0, s.requires.ready.few)
 
 pub bounds-previous-v : goal.bounds-previous-v
 bounds-previous-v c =
     let s = c in
     let st = state_of s.args.status.now s.args.weight.now s.args.previous.now in
     let t = taken_is s.requires.ready c.least-key.result c.least-key.ensures c.if-key.false in
-    omega (arith, t.0, s.requires.ready.previous_fits, c.wide-v.ensures.0)
+    omega (arith, t.0, s.requires.ready.previous_fits)
 
 pub list_start-from-requires : goal.list_start-from-requires
 list_start-from-requires c =
     let s = c in
     let st = state_of s.args.status.now s.args.weight.now s.args.previous.now in
     let t = taken_is s.requires.ready c.least-key.result c.least-key.ensures c.if-key.false in
-    omega (arith, t.0, s.requires.listed.ends_fit, c.wide-v.ensures.0)
+    omega (arith, t.0, s.requires.listed.ends_fit)
 
 pub offset_bounds-list_ends-v : goal.offset_bounds-list_ends-v
 offset_bounds-list_ends-v c =
     let s = c in
     let st = state_of s.args.status.now s.args.weight.now s.args.previous.now in
     let t = taken_is s.requires.ready c.least-key.result c.least-key.ensures c.if-key.false in
-    omega (arith, t.0, s.requires.ready.few, c.wide-v.ensures.0)
+    omega (arith, t.0, s.requires.ready.few)
 
 pub bounds-list_ends-v : goal.bounds-list_ends-v
 bounds-list_ends-v c =
     let s = c in
     let st = state_of s.args.status.now s.args.weight.now s.args.previous.now in
     let t = taken_is s.requires.ready c.least-key.result c.least-key.ensures c.if-key.false in
-    omega (arith, t.0, s.requires.listed.ends_fit, c.wide-v.ensures.0)
+    omega (arith, t.0, s.requires.listed.ends_fit)
 
 pub bounds-status-v : goal.bounds-status-v
 bounds-status-v c =
     let s = c in
     let st = state_of s.args.status.now s.args.weight.now s.args.previous.now in
     let t = taken_is s.requires.ready c.least-key.result c.least-key.ensures c.if-key.false in
-    omega (arith, t.0, c.wide-v.ensures.0)
+    omega (arith, t.0)
 
 pub put-requires : goal.put-requires
 put-requires c = let s = c in
     let st = state_of s.args.status.now s.args.weight.now s.args.previous.now in
     let t = taken_is s.requires.ready c.least-key.result c.least-key.ensures c.if-key.false in
-    record { fact_1 = (s.requires.ready.node_fits, omega (arith, s.requires.ready.leaf_fits)); fact_2 = omega (arith, t.0, c.wide-v.ensures.0); fact_3 = s.requires.ready.few; fact_4 = s.requires.ready.tree }
+    record { fact_1 = (s.requires.ready.node_fits, omega (arith, s.requires.ready.leaf_fits)); fact_2 = omega (arith, t.0); fact_3 = s.requires.ready.few; fact_4 = s.requires.ready.tree }
 
 pub relax_list-requires : goal.relax_list-requires
 relax_list-requires c = let s = c in
     let least = c.least-key in
     let st = state_of s.args.status.now s.args.weight.now s.args.previous.now in
-    let v = c.wide-v.result in
+    let v = least.result % 4096 in
     let p = c.put.ensures in
-    let inside = v_in s.requires.ready least.result least.ensures c.if-key.false s.requires.listed v (least.result % 4096) c.list_start-from.result c.wide-to.result c.wide-v.ensures.0 refl c.list_start-from.ensures c.wide-to.ensures.0 in
-    let len : length s.args.status.now ≡ length (set s.args.status.now v 2) = sym (length-set s.args.status.now v 2) in record { ready = ready_as len (ready-takes s.requires.ready _ _ p.node_len_unchanged p.tree v inside p.leaf_after); along = turn_along s.requires.ready least.result least.ensures c.if-key.false s.requires.listed v (least.result % 4096) c.list_start-from.result c.wide-to.result c.wide-v.ensures.0 refl c.list_start-from.ensures c.wide-to.ensures.0 len s.requires.status_nonzero.1 }
+    let inside = v_in s.requires.ready least.result least.ensures c.if-key.false s.requires.listed v (least.result % 4096) c.list_start-from.result _ refl refl c.list_start-from.ensures refl in
+    let len : length s.args.status.now ≡ length (set s.args.status.now v 2) = sym (length-set s.args.status.now v 2) in record { ready = ready_as len (ready-takes s.requires.ready _ _ p.node_len_unchanged p.tree v inside p.leaf_after); along = turn_along s.requires.ready least.result least.ensures c.if-key.false s.requires.listed v (least.result % 4096) c.list_start-from.result _ refl refl c.list_start-from.ensures refl len s.requires.status_nonzero.1 }
 
 pub shape_of-status : goal.shape_of-status
 shape_of-status c = let s = c in c.relax_list.auto.status ∙ length-set s.args.status.now _ 2
@@ -97,7 +97,7 @@ pub returns : goal.returns
 returns c = let s = c in
     let least = c.least-key in
     let st = state_of s.args.status.now s.args.weight.now s.args.previous.now in
-    let v = c.wide-v.result in
+    let v = least.result % 4096 in
     let q = c.relax_list.ensures in
     let len : length (set s.args.status.now v 2) ≡ length s.args.status.now = length-set s.args.status.now v 2 in
-    record { by_index = (λ m. turn_is s.requires.ready least.result least.ensures c.if-key.false s.requires.listed v (least.result % 4096) c.list_start-from.result c.wide-to.result c.wide-v.ensures.0 refl c.list_start-from.ensures c.wide-to.ensures.0 m _ (q.by_index (length s.args.status.now) m)); ready_2 = ready_as len q.ready_2; previous_value = λ e. absurd (true≢false e) }
+    record { by_index = (λ m. turn_is s.requires.ready least.result least.ensures c.if-key.false s.requires.listed v (least.result % 4096) c.list_start-from.result _ refl refl c.list_start-from.ensures refl m _ (q.by_index (length s.args.status.now) m)); ready_2 = ready_as len q.ready_2; previous_value = λ e. absurd (true≢false e) }

@@ -1,4 +1,4 @@
--- `weights_recipe::logarithm::sum_series` meets its contract. Invariant: what is left of the recursion from here is the whole recursion. The measure is n. Assumes nothing.
+-- `weights_recipe::logarithm::sum_series` meets its contract. Invariant: what is left of the recursion from here is the whole recursion. Assumes nothing.
 use Rattle.std.proofs.Common.{◌≡◌, ℕ, zero, suc, ◌+◌, ◌-◌, ◌*◌, ◌<◌, ◌≤◌, pos, sym, refl, ◌∙◌, lt_irrefl, arith}
 use lib.Ieee.{Float, binary64, add, mul, div, of_int}
 use Rattle.columns.specs.Places.{one}
@@ -16,11 +16,8 @@ unfolding series
 end zero z h p = refl
 end (suc n) z h p = absurd (omega arith)
 
-pub loop-n-init : goal.loop-n-init
-loop-n-init c = (omega arith, refl)
-
 pub loop-n-preserved : goal.loop-n-preserved
-loop-n-preserved c = (omega arith, step c.loop-n.n _ _ c.loop-n-test.true ∙ c.loop-n.invariant.1)
+loop-n-preserved c = step c.loop-n.n _ _ c.loop-n-test.true ∙ c.loop-n.invariant
 
 pub returns : goal.returns
-returns c = sym (end _ _ _ c.loop-n-test.false) ∙ c.loop-n.invariant.1
+returns c = sym (end _ _ _ c.loop-n-test.false) ∙ c.loop-n.invariant

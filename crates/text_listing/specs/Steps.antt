@@ -10,7 +10,7 @@ use Rattle.columns.specs.Questions.{ask, weights_sound}
 use Rattle.codes_calls.specs.declared.CodeCounts.{CodeCounts}
 use Rattle.columns.specs.declared.refusal.Refusal.{Refusal}
 use Rattle.columns.specs.Refusals.{number}
-use Rattle.query_crossing_answer.specs.Crossing.{is_joined, weight_found, crossing_said}
+use Rattle.query_crossing_answer.specs.Crossing.{is_joined, weight_found}
 use Rattle.columns_answers.specs.Said.{Answered, said}
 use Rattle.text_numbers.specs.Text.{refusal_line, listing}
 use Rattle.text_listing.specs.Listing.{weights_of, crossing_of, listing_of}

@@ -102,13 +102,12 @@ fn show_set(rt: &impl Print, p: f64) {
     );
 }
 
-// The line that starts at a place.
-fn show(rt: &impl Print, text: &[u8], at: usize)
-    requires { at + 43 ≤ length text.now }
+fn show(rt: &impl Print, line: &[u8])
+    requires { 43 ≤ length line.now }
 {
-    let p = of_bits(number(text, at, 16));
-    let q = of_bits(number(text, at + 17, 16));
-    let max_half_weight = (number(text, at + 34, 8) % 0x1_0000_0000) as u32;
+    let p = of_bits(number(line, 0, 16));
+    let q = of_bits(number(line, 17, 16));
+    let max_half_weight = (number(line, 34, 8) % 0x1_0000_0000) as u32;
     show_weight(rt, p);
     write_blank(rt);
     show_half_weights(rt, p, q, max_half_weight);
@@ -118,10 +117,8 @@ fn show(rt: &impl Print, text: &[u8], at: usize)
 }
 
 fn show_all(rt: &impl Print, text: &[u8]) {
-    let mut at: usize = 0;
-    while LINE <= text.len() - at {
-        show(rt, text, at);
-        at += LINE;
+    for line in text.chunks_exact(LINE) {
+        show(rt, line);
     }
 }
 

@@ -29,14 +29,13 @@ pub fn digits_at(text: &[u8], at: usize) -> usize
     requires { at ≤ 1000 }
     ensures { (result ≡ digits (drop at text.now)) × (result ≤ length text.now) }
 {
-    let mut n: usize = 0;
-    while at + n < text.len() {
+    let rest = text.len().saturating_sub(at);
+    for n in 0..rest {
         if !is_digit(text[at + n]) {
             return n;
         }
-        n += 1;
     }
-    n
+    rest
 }
 
 // Whether the n digits from a place on have no leading zero.

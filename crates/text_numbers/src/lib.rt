@@ -50,12 +50,10 @@ fn digit(n: u32, k: u32) -> u8
 fn size(n: u32) -> u32
     ensures { (result ≡ size_in 9 n) × (result ≤ 10) }
 {
-    let mut k: u32 = 9;
-    while 0 < k {
+    for k in (1..10).rev() {
         if power_of_ten(k) <= n {
             return k + 1;
         }
-        k -= 1;
     }
     1
 }
@@ -66,9 +64,7 @@ fn put_decimal(text: &mut [u8], at: usize, n: u32) -> usize
     ensures { Put text.old at (decimal n) text.new result }
 {
     let mut next = at;
-    let mut k = size(n);
-    while 0 < k {
-        k -= 1;
+    for k in (0..size(n)).rev() {
         next = put_byte(text, next, digit(n, k));
     }
     next

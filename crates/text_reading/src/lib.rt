@@ -33,6 +33,7 @@ pub fn read_input(rt: &impl Input, buffer: &mut [u8]) -> io::Result<usize>
 {
     let mut input = rt.reader();
     let mut done: usize = 0;
+    // while: each turn goes on by as many bytes as the read put, and a read that puts none ends it
     while done < buffer.len() {
         let n = read_from(&mut input, buffer, done)?;
         if n == 0 {

@@ -1,9 +1,10 @@
--- The place is in the text or at its end.
-use Rattle.std.proofs.Common.{length, ◌-◌, ◌≤◌}
+-- Each part that the iterator gives has a line's width.
+use Rattle.std.proofs.Common.{◌≡◌}
+use Rattle.std.specs.Slice.Iter.{chunks_exact_size}
 use Rattle.test_weights.proofs.show_all.Given as goal
 
-abbrev pub invariant-loop-at : goal.invariant-loop-at
-invariant-loop-at g l = l.at ≤ length l.text
-
-abbrev pub decreases-loop-at : goal.decreases-loop-at
-decreases-loop-at g l = length l.text - l.at
+abbrev pub invariant-loop-line : goal.invariant-loop-line
+invariant-loop-line g l =
+    (goal.iterator-loop-line g).can_next l.line-iterator
+    × (goal.iterator-loop-line g).is_finite l.line-iterator
+    × (chunks_exact_size l.line-iterator ≡ 43)

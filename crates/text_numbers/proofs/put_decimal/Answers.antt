@@ -44,11 +44,10 @@ pub loop-k-preserved : goal.loop-k-preserved
 loop-k-preserved c =
     let s = c.args in
     let l = c.loop-k in
-    let p = c.put_byte-next.ensures in
-    let some = c.loop-k-test.true in (
+    let p = c.put_byte-next.ensures in (
       omega (arith, l.invariant.0),
       ap length p.stored ∙ length-set l.text l.next _ ∙ l.invariant.1,
-      turn l.text _ l.next _ _ _ (digits_of (l.k - 1) s.n) p c.digit.ensures ∙ ap (sets l.text l.next) (sym (digit_next l.k s.n some)) ∙ l.invariant.2,
+      turn l.text _ l.next _ _ _ (digits_of (l.k - 1) s.n) p c.digit.ensures ∙ ap (sets l.text l.next) (sym (digit_next l.k s.n (omega arith))) ∙ l.invariant.2,
       omega (arith, p.next, l.invariant.3),
       omega (arith, p.next, l.invariant.4),
     )
@@ -60,4 +59,4 @@ pub returns : goal.returns
 returns c =
     let s = c.args in
     let l = c.loop-k in
-    record { stored = ended l.text _ l.next l.k s.n c.loop-k-test.false l.invariant.2; next = omega (arith, l.invariant.3) }
+    record { stored = ended l.text _ l.next l.k s.n (omega arith) l.invariant.2; next = omega (arith, l.invariant.3) }

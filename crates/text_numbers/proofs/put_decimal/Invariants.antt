@@ -9,6 +9,3 @@ use Rattle.text_numbers.proofs.put_decimal.Given as goal
 abbrev pub invariant-loop-k : goal.invariant-loop-k
 invariant-loop-k l =
     (l.k ≤ 10) × (length l.text ≡ length l.initial.text) × (sets l.text l.next (digits_of l.k l.n) ≡ sets l.initial.text l.at (decimal l.n)) × (l.next + l.k ≡ l.at + length (decimal l.n)) × (l.next + l.k ≤ l.at + 10)
-
-abbrev pub decreases-loop-k : goal.decreases-loop-k
-decreases-loop-k l = l.k

@@ -1,17 +1,15 @@
--- `text_numbers::size` meets its contract. Invariant: `size_in 9 n` is `size_in k n`, and k is at most 9. Assumes nothing.
-use mathlib.Core.Path.{refl, sym, ◌∙◌}
+-- `text_numbers::size` meets its contract. Invariant: `size_in 9 n` is `size_in k n` for the place k that comes next, one below the range that is left. Assumes nothing.
+use mathlib.Core.Path.{sym, ◌∙◌}
+use Prim.Native.Nat.{◌-◌}
 use native.Mathlib.Omega.{arith}
 use Rattle.text_numbers.proofs.Sizes.{size_here, size_below, size_end}
 use Rattle.text_numbers.proofs.size.Goals as goal
 
-pub loop-k-init : goal.loop-k-init
-loop-k-init c = (omega arith, refl)
-
 pub returns-then-power_of_ten-n : goal.returns-then-power_of_ten-n
-returns-then-power_of_ten-n c = (size_here c.loop-k.k c.args.n c.loop-k-test.true (omega (arith, c.power_of_ten.ensures)) ∙ sym c.loop-k.invariant.1, omega arith)
+returns-then-power_of_ten-n c = (size_here (c.loop-k.k - 1) c.args.n (omega arith) (omega (arith, c.power_of_ten.ensures)) ∙ sym c.loop-k.invariant, omega arith)
 
 pub loop-k-preserved : goal.loop-k-preserved
-loop-k-preserved c = (omega arith, c.loop-k.invariant.1 ∙ size_below c.loop-k.k c.args.n c.loop-k-test.true (omega (arith, c.power_of_ten.ensures)))
+loop-k-preserved c = c.loop-k.invariant ∙ size_below (c.loop-k.k - 1) c.args.n (omega arith) (omega (arith, c.power_of_ten.ensures))
 
 pub returns : goal.returns
-returns c = (size_end c.loop-k.k c.args.n c.loop-k-test.false ∙ sym c.loop-k.invariant.1, omega arith)
+returns c = (size_end (c.loop-k.k - 1) c.args.n (omega arith) ∙ sym c.loop-k.invariant, omega arith)

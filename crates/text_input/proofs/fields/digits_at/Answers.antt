@@ -6,19 +6,15 @@ use Rattle.text_input.proofs.Runs.{digits_within, seen_none, seen_next, seen-sto
 use Rattle.text_input.proofs.fields.digits_at.Goals as goal
 
 pub loop-n-init : goal.loop-n-init
-loop-n-init c = (omega (arith, c.requires), seen_none c.args.text.now c.args.at 0)
-
-pub overflow_add-at : goal.overflow_add-at
-overflow_add-at c = omega (arith, c.loop-n.invariant.0, c.loop-n.invariant.1, digits_within (drop c.args.at c.args.text.now), length-drop c.args.at c.args.text.now, c.requires)
+loop-n-init c = seen_none c.args.text.now c.args.at 0
 
 pub returns-then-not-is_digit : goal.returns-then-not-is_digit
-returns-then-not-is_digit c = (seen-stop c.args.text.now c.args.at c.loop-n.n c.loop-n-test.true (sym c.is_digit.ensures ∙ c.if-not-is_digit.true) c.loop-n.invariant.1, omega arith)
+returns-then-not-is_digit c = (seen-stop c.args.text.now c.args.at c.loop-n.n (omega arith) (sym c.is_digit.ensures ∙ c.if-not-is_digit.true) c.loop-n.invariant, omega arith)
 
 pub loop-n-preserved : goal.loop-n-preserved
-loop-n-preserved c = (omega arith, seen_next c.args.text.now c.args.at c.loop-n.n c.loop-n-test.true (sym c.is_digit.ensures ∙ c.if-not-is_digit.false) c.loop-n.invariant.1)
+loop-n-preserved c = seen_next c.args.text.now c.args.at c.loop-n.n (omega arith) (sym c.is_digit.ensures ∙ c.if-not-is_digit.false) c.loop-n.invariant
 
 pub returns : goal.returns
 returns c =
-    let s = c.args in
-    let e = seen_end c.args.text.now c.args.at c.loop-n.n c.loop-n-test.false c.loop-n.invariant.1 in
-    (e, omega (arith, e, digits_within (drop s.at s.text.now), length-drop s.at s.text.now))
+    let e = seen_end c.args.text.now c.args.at c.loop-n.n (omega arith) c.loop-n.invariant in
+    (omega (arith, e), omega (arith, e, digits_within (drop c.args.at c.args.text.now), length-drop c.args.at c.args.text.now))

@@ -1,29 +1,12 @@
 // Reads inputs of `codelist`, each ended by the byte 7c, and prints for each the first line of its text, how many bytes the text has and a checksum of them.
 #![tactic(auto)]
 
-ghost use Rattle.std.specs.Prelude.{◌≡◌, ◌+◌, ◌≤◌, min, length};
-
 use test_numbers::{checksum, read_bytes, show, show_line, wide, write};
 use text_answer::codelist;
 
-// Where the byte b first stands from a place on, or the length.
-fn find(text: &[u8], from: usize, b: u8) -> usize
-    requires { from ≤ length text.now }
-    ensures { (from ≤ result) × (result ≤ length text.now) }
-{
-    let mut i = from;
-    while i < text.len() {
-        if text[i] == b {
-            return i;
-        }
-        i += 1;
-    }
-    i
-}
-
 fn show_text(rt: &impl Print, text: &[u8], n: u32) {
-    let first = find(text, 0, b'\n');
-    write(rt, &text[..first]);
+    let first = text.split(|b| *b == b'\n').next().unwrap_or(text);
+    write(rt, first);
     write(rt, b" ");
     show(rt, wide(n));
     show_line(rt, checksum(text, n as usize));
@@ -37,23 +20,10 @@ fn answer(rt: &impl Print, input: &[u8], text: &mut [u8]) {
     }
 }
 
-// The place after `end`, or the length.
-fn past(end: usize, length: usize) -> usize
-    ensures { result ≡ min (end + 1) length }
-{
-    if end < length {
-        return end + 1;
-    }
-    length
-}
-
 // Each input of the list.
 fn answer_all(rt: &impl Print, list: &[u8], text: &mut [u8]) {
-    let mut at: usize = 0;
-    while at < list.len() {
-        let end = find(list, at, b'|');
-        answer(rt, &list[at..end], text);
-        at = past(end, list.len());
+    for input in list.split_inclusive(|b| *b == b'|') {
+        answer(rt, input.strip_suffix(b"|").unwrap_or(input), text);
     }
 }
 

@@ -374,8 +374,7 @@ fn queries(
 ) {
     let mut c = opened;
     let mut place = from;
-    let mut left = count;
-    while 0 < left {
+    for _ in 0..count {
         c = query(
             rt,
             c,
@@ -392,7 +391,6 @@ fn queries(
             narrow_at(numbers, after(place, 2)),
         );
         place = after(place, 3);
-        left -= 1;
     }
 }
 
@@ -498,10 +496,8 @@ fn run(
 fn replay(rt: &impl Print, numbers: &[u64]) {
     let cases = size_at(numbers, 0);
     let mut place: usize = 1;
-    let mut left = cases;
-    while 0 < left {
+    for _ in 0..cases {
         place = case(rt, numbers, place);
-        left -= 1;
     }
 }
 

@@ -2,8 +2,5 @@
 use Rattle.std.proofs.Common.{length, ◌≡◌}
 use Rattle.test_replay_engine.proofs.queries.Given as goal
 
-abbrev pub invariant-loop-left : goal.invariant-loop-left
-invariant-loop-left g l = (length l.weights ≡ length l.initial.weights) × (length l.log_edges ≡ length l.initial.log_edges) × (length l.log_weights ≡ length l.initial.log_weights)
-
-abbrev pub decreases-loop-left : goal.decreases-loop-left
-decreases-loop-left g l = l.left
+abbrev pub invariant-loop : goal.invariant-loop
+invariant-loop g l = (length l.weights ≡ length l.initial.weights) × (length l.log_edges ≡ length l.initial.log_edges) × (length l.log_weights ≡ length l.initial.log_weights)

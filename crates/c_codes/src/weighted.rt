@@ -10,7 +10,7 @@ use super::reports::created_report;
 use c_reports::TwoCounts;
 use columns::Weight;
 
-// The diagonal probability, if there is one: any byte but 0 says so.
+// The diagonal probability, if there is one: any byte but 0 says so. C has no Option.
 fn diagonal_from(has_diagonal: u8, diagonal: f64) -> Option<f64>
     ensures { result ≡ diagonal_from has_diagonal diagonal }
 {

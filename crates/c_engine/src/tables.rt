@@ -10,7 +10,7 @@ use columns::{TableWeight, VertexIndex, Weight};
 use engine_columns::EngineCounts;
 
 // The least weight from the source and the previous vertex of every vertex, up to the named end: -1 and 0 where a vertex was not taken.
-// There is an end where `has_end` is not 0.
+// There is an end where `has_end` is not 0: C has no Option.
 // The columns from `neighbor_numbers` on are scratch.
 #[unsafe(no_mangle)]
 pub extern "C" fn moldingcress_all_edges_with_terminate(

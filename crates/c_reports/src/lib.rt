@@ -9,7 +9,7 @@ ghost use Rattle.c_reports.specs.Reports.{ReportsNumber, ReportsCount, ReportsLe
 use columns::refusal::Refusal;
 use columns_answers::SyndromeLengths;
 
-// A question's number, 0 where the call was accepted, and a count, 0 where it was refused.
+// A question's number, 0 where the call was accepted, and a count, 0 where it was refused. C has no Result: each report has the number beside the values.
 #[repr(C)]
 #[derive(Clone, Copy)]
 pub struct OneCount {

@@ -40,7 +40,8 @@ pub fn each_below(list: &[u32], limit: u32) -> bool
     all_below(list, list.len(), limit)
 }
 
-// Whether the first n weights, or all where there are fewer, are at most the limit.
+// Whether the first n weights, or all where there are fewer, are at most the limit. weights_within and bytes_within stay two lines over all_pass: a bound that
+// ties both types to numbers is no shorter.
 fn weights_within(s: &[Weight], n: usize, limit: Weight) -> bool
     ensures { result ≡ all_within limit (take n s.now) }
 {

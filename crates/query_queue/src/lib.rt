@@ -1,14 +1,8 @@
 // A tree of least keys over the numbers below n, in two lent columns.
 #![tactic(auto)]
 
-ghost use Rattle.std.specs.Prelude.{◌≡◌, ◌+◌, ◌<◌, ◌≤◌, min, length, set};
+ghost use Rattle.std.specs.Prelude.{◌≡◌, ◌+◌, ◌<◌, ◌≤◌, length, set};
 ghost use Rattle.query_queue.specs.Tree.{place_of, Tree, TreeBut, TreeRoom, Least, Same};
-
-pub fn lesser(a: u64, b: u64) -> u64
-    ensures { result ≡ min a b }
-{
-    if a < b { a } else { b }
-}
 
 // What stands at place j.
 pub fn place(node: &[u64], leaf: &[u64], n: usize, j: usize) -> u64
@@ -37,7 +31,7 @@ fn raise(node: &mut [u64], leaf: &[u64], n: usize, from: usize)
     while 0 < i {
         let a = place(node, leaf, n, 2 * i);
         let b = place(node, leaf, n, 2 * i + 1);
-        let key = lesser(a, b);
+        let key = a.min(b);
         if node[i] == key {
             return;
         }

@@ -2,21 +2,13 @@
 #![tactic(auto)]
 
 ghost use Rattle.std.specs.Prelude.{◌≡◌, ◌+◌, ◌*◌, ◌%◌, ◌^◌, ◌<◌};
-ghost use Rattle.sampling_generator.specs.Random.{rotate_left, shift_xor, split_mix_next, split_mix_word, seed_from_u64, word_of, next_of, draw_of};
+ghost use Rattle.sampling_generator.specs.Random.{shift_xor, split_mix_next, split_mix_word, seed_from_u64, word_of, next_of, draw_of};
 
-// The low 64 bits of the product.
+// The low 64 bits of the product. Document 01, "Expected forms by place", asks for this helper by name.
 pub fn wrapping_mul(a: u64, b: u64) -> u64
     ensures { result ≡ (a * b) % 2 ^ 64 }
 {
     a.wrapping_mul(b)
-}
-
-// The word turned left by k bits.
-fn rotate_left(x: u64, k: u32) -> u64
-    requires { (0 < k) × (k < 64) }
-    ensures { result ≡ rotate_left x k }
-{
-    x.rotate_left(k)
 }
 
 // z ^ (z >> k)
@@ -95,7 +87,7 @@ impl DeterministicRng {
     pub fn next_u64(self) -> Next
         ensures { (result.word ≡ word_of self) × (result.rng ≡ next_of self) }
     {
-        let word = wrapping_mul(rotate_left(wrapping_mul(self.s1, 5), 7), 9);
+        let word = wrapping_mul(wrapping_mul(self.s1, 5).rotate_left(7), 9);
         let t = self.s1 << 17;
         let s2 = self.s2 ^ self.s0;
         let s3 = self.s3 ^ self.s1;
@@ -105,7 +97,7 @@ impl DeterministicRng {
             s0,
             s1,
             s2: s2 ^ t,
-            s3: rotate_left(s3, 45),
+            s3: s3.rotate_left(45),
         };
         Next { word, rng }
     }

@@ -135,7 +135,7 @@ fn copy_part<T: Copy, F: Fn(u64) -> T>(
     }
 }
 
-// Copies n numbers from a place of the list on.
+// Copies n numbers from a place of the list on. copy_u32 and copy_u8 stay two lines over copy_part: each takes another part of a number.
 pub fn copy_u32(list: &[u64], from: usize, column: &mut [u32], n: usize) {
     copy_part(list, from, column, n, narrow);
 }

@@ -3,7 +3,7 @@ ghost use Rattle.std.specs.Prelude.{◌≡◌, cond, ◌<◌, length, set};
 ghost use Rattle.codes_weights.specs.Steps.{diagonal_p, weighed_of, diagonal_at, WeighRoom, EdgesWeighed};
 
 use super::Weighed;
-use columns::{VisualizePosition, Weight, wide};
+use columns::{VisualizePosition, Weight};
 use weights_diagonal::is_diagonal;
 use weights_recipe::logarithm::edge_weight;
 use weights_recipe::rounding::half_weight;
@@ -44,8 +44,8 @@ fn diagonal_at(
     requires { (at < length ends_a.now) × (at < length ends_b.now) }
     ensures { result ≡ diagonal_at ends_a.now ends_b.now pos_i.now pos_j.now pos_t.now at }
 {
-    let a = VisualizePosition::load(pos_i, pos_j, pos_t, wide(ends_a[at]));
-    let b = VisualizePosition::load(pos_i, pos_j, pos_t, wide(ends_b[at]));
+    let a = VisualizePosition::load(pos_i, pos_j, pos_t, ends_a[at] as usize);
+    let b = VisualizePosition::load(pos_i, pos_j, pos_t, ends_b[at] as usize);
     is_diagonal(a, b)
 }
 

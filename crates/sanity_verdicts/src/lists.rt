@@ -10,9 +10,8 @@ ghost use Rattle.sanity_verdicts.specs.ListSteps.{Seen, Stamped, Below, Ascends}
 
 use super::Finding;
 use columns::questions::all_below;
-use columns::{EdgeIndex, VertexIndex, wide};
+use columns::{EdgeIndex, VertexIndex};
 use columns_places::last_places;
-use columns_sorted_pairs::wide_u16;
 
 // Whether x is one of the first i numbers from place start on.
 fn stands_before(numbers: &[u32], start: usize, i: usize, x: EdgeIndex) -> bool
@@ -47,7 +46,7 @@ fn is_seen(
     }
     let here = start + i;
     if here < known {
-        let p = wide_u16(last[here]);
+        let p = last[here] as usize;
         return (start <= p) & (p < here);
     }
     stands_before(numbers, start, i, x)
@@ -128,7 +127,7 @@ fn vertices_in(
 {
     let mut start: usize = 0;
     for v in 0..n {
-        let len = wide(lengths[v as usize]);
+        let len = lengths[v as usize] as usize;
         let found = at_vertex(numbers, start, len, VertexIndex(v), mark, last, known);
         if found.is_some() {
             return found;
@@ -168,7 +167,7 @@ fn list_places(lengths: &[u32], n: usize) -> usize
 {
     let mut sum: usize = 0;
     for i in 0..n {
-        sum += wide(lengths[i]);
+        sum += lengths[i] as usize;
     }
     sum
 }
@@ -194,7 +193,7 @@ fn lists_ascend(lengths: &[u32], numbers: &[u32], n: usize) -> bool
 {
     let mut start: usize = 0;
     for v in 0..n {
-        let len = wide(lengths[v]);
+        let len = lengths[v] as usize;
         if !list_ascends(numbers, start, len) {
             return false;
         }

@@ -1,7 +1,5 @@
 -- `sanity_verdicts::lists::is_seen` meets its contract: where the last place with the number is known, it decides. Assumes nothing.
 use Prim.Native.Nat.{◌+◌}
-use mathlib.Core.Path.{sym, subst}
-use Rattle.columns_places.specs.Places.{LastSame}
 use Rattle.sanity_verdicts.proofs.Stamping.{seen_last}
 use Rattle.sanity_verdicts.proofs.lists.is_seen.Goals as goal
 
@@ -10,4 +8,4 @@ returns-then-here-known c =
     let s = c.args in
     let n = s.numbers.now in
     let here = s.start + s.i in
-    seen_last n s.start s.i s.x.0 _ c.requires.i_in_bounds.1 (subst (LastSame n here) (sym c.wide_u16-p.ensures) (c.requires.stamped.1.at here c.if-here-known.true))
+    seen_last n s.start s.i s.x.0 _ c.requires.i_in_bounds.1 (c.requires.stamped.1.at here c.if-here-known.true)

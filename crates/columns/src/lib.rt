@@ -12,10 +12,10 @@ ghost use Rattle.std.specs.Float.Ieee.{of_bits};
 ghost use Rattle.columns.specs.Places.{position, position_at};
 
 // The number of a vertex, and of an edge. They count separately from 0.
-#[derive(Clone, Copy)]
+#[derive(Clone, Copy, Debug, PartialEq, Eq)]
 pub struct VertexIndex(pub u32);
 
-#[derive(Clone, Copy)]
+#[derive(Clone, Copy, Debug, PartialEq, Eq)]
 pub struct EdgeIndex(pub u32);
 
 // The width of a stored weight, and of a weight in a table, where -1 stands for none. specs/Limits.antt and proofs/Widths.antt say the second for contracts and proofs.
@@ -46,13 +46,6 @@ pub const BOUNDARY_LIMIT: u8 = 2;
 
 // Defect bytes and erasure bytes are 0 or 1.
 pub const MARK_LIMIT: u8 = 1;
-
-// A number at the width of places.
-pub fn wide(x: u32) -> usize
-    ensures { (result ≡ x) × (result < 4294967296) }
-{
-    x as usize
-}
 
 // The f64 with these bits, for any bits.
 pub fn of_bits(n: u64) -> f64

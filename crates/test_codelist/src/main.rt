@@ -1,14 +1,14 @@
 // Reads inputs of `codelist`, each ended by the byte 7c, and prints for each the first line of its text, how many bytes the text has and a checksum of them.
 #![tactic(auto)]
 
-use test_numbers::{checksum, read_bytes, show, show_line, wide, write};
+use test_numbers::{checksum, read_bytes, show, show_line, write};
 use text_answer::codelist;
 
 fn show_text(rt: &impl Print, text: &[u8], n: u32) {
     let first = text.split(|b| *b == b'\n').next().unwrap_or(text);
     write(rt, first);
     write(rt, b" ");
-    show(rt, wide(n));
+    show(rt, u64::from(n));
     show_line(rt, checksum(text, n as usize));
 }
 

@@ -7,14 +7,14 @@ use codes_calls::CodeCounts;
 use codes_calls::create::create_code;
 use columns::Weight;
 use columns::refusal::Refusal;
-use test_numbers::{bits, checksum, mix, show_line, wide};
+use test_numbers::{bits, checksum, mix, show_line};
 
 // Prints the checksum of the first n numbers of a column.
 fn numbers(rt: &impl Print, column: &[u32], n: usize) {
     let m = n.min(column.len());
     let mut h: u64 = 1;
     for i in 0..m {
-        h = mix(h, wide(column[i]));
+        h = mix(h, u64::from(column[i]));
     }
     show_line(rt, h);
 }
@@ -45,8 +45,8 @@ fn show_code(
         Ok(counts) => {
             let vertices = counts.vertices as usize;
             let edges = counts.edges as usize;
-            show_line(rt, wide(counts.vertices));
-            show_line(rt, wide(counts.edges));
+            show_line(rt, u64::from(counts.vertices));
+            show_line(rt, u64::from(counts.edges));
             numbers(rt, ends_a, edges);
             numbers(rt, ends_b, edges);
             show_line(rt, checksum(boundary, vertices));

@@ -144,14 +144,6 @@ pub fn copy_u8(list: &[u64], from: usize, column: &mut [u8], n: usize) {
     copy_part(list, from, column, n, |x| (x % 256) as u8);
 }
 
-pub fn wide(x: u32) -> u64 {
-    x as u64
-}
-
-fn wide_byte(x: u8) -> u64 {
-    x as u64
-}
-
 // The bits of a float, 0 for a NaN.
 pub fn bits(x: f64) -> u64 {
     if x != x {
@@ -170,7 +162,7 @@ pub fn checksum(bytes: &[u8], n: usize) -> u64 {
     let m = n.min(bytes.len());
     let mut h: u64 = 1;
     for i in 0..m {
-        h = mix(h, wide_byte(bytes[i]));
+        h = mix(h, u64::from(bytes[i]));
     }
     h
 }
@@ -206,14 +198,14 @@ pub fn refusal_number(answer: Result<(), Refusal>) -> u32 {
 }
 
 pub fn show_answer(rt: &impl Print, answer: Result<(), Refusal>) {
-    show(rt, wide(refusal_number(answer)));
+    show(rt, u64::from(refusal_number(answer)));
     end_line(rt);
 }
 
 // How many numbers a call listed, or the number of a refusal plus 100.
 pub fn show_length(rt: &impl Print, answer: Result<u32, Refusal>) {
     match answer {
-        Ok(n) => show(rt, wide(n)),
+        Ok(n) => show(rt, u64::from(n)),
         Err(refusal) => show(rt, u32::from(refusal) as u64 + 100),
     }
     end_line(rt);
@@ -224,8 +216,8 @@ pub fn show_lengths(rt: &impl Print, answer: Result<SyndromeLengths, Refusal>) {
     match answer {
         Ok(lengths) => {
             show(rt, 0);
-            show(rt, wide(lengths.defects));
-            show(rt, wide(lengths.erasures));
+            show(rt, u64::from(lengths.defects));
+            show(rt, u64::from(lengths.erasures));
         }
         Err(refusal) => show(rt, u32::from(refusal) as u64),
     }
@@ -236,7 +228,7 @@ pub fn show_lengths(rt: &impl Print, answer: Result<SyndromeLengths, Refusal>) {
 pub fn show_list(rt: &impl Print, list: &[u32], n: usize) {
     let m = n.min(list.len());
     for i in 0..m {
-        show(rt, wide(list[i]));
+        show(rt, u64::from(list[i]));
     }
     end_line(rt);
 }
@@ -244,7 +236,7 @@ pub fn show_list(rt: &impl Print, list: &[u32], n: usize) {
 pub fn show_bytes(rt: &impl Print, bytes: &[u8], n: usize) {
     let m = n.min(bytes.len());
     for i in 0..m {
-        show(rt, wide_byte(bytes[i]));
+        show(rt, u64::from(bytes[i]));
     }
     end_line(rt);
 }

@@ -1,4 +1,4 @@
--- An enum argument from numbers: whether there is a diagonal probability, any number but 0 for yes, and its value.
+-- An `Option` from numbers: whether there is a diagonal probability, any number but 0 for yes, and its value.
 use Rattle.std.specs.Prelude.{ℕ, zero, suc, Float, Option, None, Some}
 
 -- Weights, on the diagonal probability: absent or a number, from whether there is one and its value.

@@ -19,7 +19,7 @@ fn first_same(a: &[u32], b: &[u32], i: usize) -> usize
     let x = low_at(a, b, i);
     let y = high_at(a, b, i);
     for j in 0..i {
-        if low_at(a, b, j) == x && high_at(a, b, j) == y {
+        if (low_at(a, b, j) == x) & (high_at(a, b, j) == y) {
             return j;
         }
     }

@@ -4,7 +4,7 @@ use Rattle.columns.specs.declared.refusal.Refusal.{Refusal}
 use Rattle.columns.specs.Places.{zero_float}
 use Rattle.columns_answers.specs.Said.{said}
 use Rattle.codes_calls.specs.declared.CodeCounts.{CodeCounts}
-use Rattle.codes_calls.specs.CreateCode.{no_counts}
+use Rattle.codes_calls.specs.CreateCode.{no_code_counts}
 use Rattle.sanity_verdicts.specs.declared.Finding.{Finding}
 use Rattle.sanity_verdicts.specs.Sanity as sanity
 use Rattle.c_reports.specs.declared.TwoCounts.{TwoCounts}
@@ -14,9 +14,9 @@ use Rattle.c_codes.specs.declared.reports.VerdictReport.{VerdictReport}
 
 -- Expected forms by place, last paragraph: the struct holds the number and the values of what a builder answers.
 pub record ReportsCreated (a : Result CodeCounts Refusal) (r : TwoCounts) : Type 0 where
-  pub number : r.number ≡ (said no_counts a).number
-  pub first : r.first ≡ (said no_counts a).values.vertices
-  pub second : r.second ≡ (said no_counts a).values.edges
+  pub number : r.number ≡ (said no_code_counts a).number
+  pub first : r.first ≡ (said no_code_counts a).values.vertices
+  pub second : r.second ≡ (said no_code_counts a).values.edges
 
 -- Expected forms by place, last paragraph: the struct holds the number and the values of what `weight_of_p` answers.
 pub record ReportsWeighed (a : Result Float Refusal) (r : WeighedReport) : Type 0 where

@@ -25,7 +25,7 @@ use Rattle.weights_recipe.specs.Rounding.{scaled, reaches, seek, greatest, half_
 use Rattle.weights_recipe.specs.Probabilities.{is_probability}
 use Rattle.weights_calls.specs.Calls.{half_weights, compute_refusal, largest, some_above, ComputedWeights}
 use Rattle.codes_calls.specs.Columns.{CodeColumns, vertex_room, edge_room, long_enough, HandedBack}
-use Rattle.codes_calls.specs.CreateCode.{create_refusal, CreateCode, code_counts, no_counts}
+use Rattle.codes_calls.specs.CreateCode.{create_refusal, CreateCode, code_counts, no_code_counts}
 use Rattle.codes_calls.specs.NewCode.{new_refusal, new_refusal_in, NewCode, NewDiagonal}
 use Rattle.codes_calls.specs.Probabilities.{probabilities, diagonal_of}
 use Rattle.access_vertices.specs.Weights.{weights as doubled}
@@ -55,7 +55,7 @@ kept q new c₀ c f h = λ i. record {
   neighbor_numbers = (h.neighbor_numbers_after ∙ after-refused q new.neighbor_numbers c₀.neighbor_numbers f) i;
 }
 
-refused_by : (n q : ℕ) (v : CodeCounts) (new c₀ c : CodeColumns) (r : Result CodeCounts Refusal) → Answered (said no_counts r) q v no_counts → HandedBack q new c₀ c → q ≡ n → n ≢ 0 → RefusedBy n c₀ c r
+refused_by : (n q : ℕ) (v : CodeCounts) (new c₀ c : CodeColumns) (r : Result CodeCounts Refusal) → Answered (said no_code_counts r) q v no_code_counts → HandedBack q new c₀ c → q ≡ n → n ≢ 0 → RefusedBy n c₀ c r
 refused_by n q v new c₀ c r a h e f = (said-refuses n a e f, kept q new c₀ c (λ z. f (sym e ∙ z)) h)
 
 created_of : (kind d rounds : ℕ) (c₀ c : CodeColumns) (r : Result CodeCounts Refusal) → CreateReturned kind d rounds c₀ c r → CreateCode kind d rounds c₀ c r
@@ -190,7 +190,7 @@ module _ (c₀ c : CodeColumns) (r : Result CodeCounts Refusal) (x : NewReturned
     boundary_is = h.columns_after.boundary_after ∙ after-accepted q (boundaries (vertices_of 1 3 0)) c₀.boundary z;
   }
 
-  pub listing_built : (said no_counts r ≡ accepts (code_counts 4 3)) × (graph_of_code c ≡ listing_graph)
+  pub listing_built : (said no_code_counts r ≡ accepts (code_counts 4 3)) × (graph_of_code c ≡ listing_graph)
   unfolding layer_vertex_num layer_edge_num gap_edge_num
   listing_built = let (a, b, w, m) = listing-places c₀ c listing-left in (said-accepts h.answers z, λ i. graph_columns (a i) (b i) (w i) (m i))
 

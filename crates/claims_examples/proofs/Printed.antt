@@ -26,7 +26,7 @@ use Rattle.engine_walks.specs.Settling as S
 use Rattle.engine_walks.specs.Settling.{first_least, start, changes, by_status, offer, relax_edge, relax, stopped, next, settle}
 use Rattle.engine_walks.specs.Answers.{from_left, nearest_right, crossing}
 use Rattle.access_vertices.specs.Weights.{weights}
-use Rattle.text_input.specs.Line.{digits, number, decimal_sound, decimal_of, hex_sound, hex_of, well_formed}
+use Rattle.text_input.specs.Line.{digits, number_written, decimal_sound, decimal_of, hex_sound, hex_of, well_formed}
 use Rattle.text_numbers.specs.Text.{size_in, digits_of, decimal, ended, vertex_lines, edge_lines, listing}
 use Rattle.text_listing.specs.Listing.{list_refusal, weights_of, crossing_of, listing_of, code_text}
 use Rattle.text_answer.specs.Answer.{answer_text, text_room, text_refusal, CodeListed}
@@ -34,7 +34,7 @@ use Rattle.claims_examples.specs.Listing.{bytes_of, example_line, example_listin
 use Rattle.claims_examples.proofs.Answers.{said-accepts}
 
 text : answer_text (bytes_of example_line) ≡ bytes_of example_listing
-unfolding div sub add mul lt eq le of_int of_bits to_bits halve series logarithm edge_weight scaled reaches seek greatest half_weight largest some_above is_probability probabilities each joined layered all straight_edges straight_rows row_edges planar_row planar_layer planar_gap planar_boundary capacity_vertex rows width layer_edges gap_edges edges_of vertex_of layer_vertices vertices_of layer_vertex_num layer_edge_num gap_edge_num kind_known distance_sound rounds_sound code_refusal built_graph first_least start changes by_status offer relax_edge relax S.take_vertex stopped next settle from_left nearest_right crossing weights digits number decimal_sound decimal_of hex_sound hex_of well_formed size_in digits_of decimal ended vertex_lines edge_lines listing list_refusal weights_of crossing_of listing_of code_text
+unfolding div sub add mul lt eq le of_int of_bits to_bits halve series logarithm edge_weight scaled reaches seek greatest half_weight largest some_above is_probability probabilities each joined layered all straight_edges straight_rows row_edges planar_row planar_layer planar_gap planar_boundary capacity_vertex rows width layer_edges gap_edges edges_of vertex_of layer_vertices vertices_of layer_vertex_num layer_edge_num gap_edge_num kind_known distance_sound rounds_sound code_refusal built_graph first_least start changes by_status offer relax_edge relax S.take_vertex stopped next settle from_left nearest_right crossing weights digits number_written decimal_sound decimal_of hex_sound hex_of well_formed size_in digits_of decimal ended vertex_lines edge_lines listing list_refusal weights_of crossing_of listing_of code_text
 text = refl
 
 by_text : (input text₀ column : List ℕ) (r : Result ℕ Refusal) → CodeListed input text₀ column r → text_room ≤ length text₀ → (bytes : List ℕ) → answer_text input ≡ bytes

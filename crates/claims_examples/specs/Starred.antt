@@ -1,7 +1,7 @@
 -- Document 01's "Checked examples", those with a star, about the definitions that the contracts cite and about calls of the real functions.
 use Rattle.columns.specs.declared.refusal.Refusal.TheVariants.{BadDistance, TooManyVertices}
 use Rattle.codes_calls.specs.declared.CodeCounts.{CodeCounts}
-use Rattle.codes_calls.specs.CreateCode.{code_counts, no_counts}
+use Rattle.codes_calls.specs.CreateCode.{code_counts, no_code_counts}
 use Rattle.columns.specs.declared.refusal.Refusal.{Refusal}
 use Rattle.std.specs.Prelude.{◌≡◌, true, List, [], ◌∷◌, ℕ, ◌≤◌, length, take, replicate, Float, Option, Result, Ok, Err}
 use Rattle.std.proofs.Math.Option.{Option as MathOption, some}
@@ -64,7 +64,7 @@ listing_engine = engine (counts 4 3 0) listing_graph.ends_a listing_graph.ends_b
 
 -- Questions at the door, sentence 2: a builder's answer is a refusal by number q, other result fields 0, and no column changed.
 abbrev pub RefusedBy : ℕ → (c₀ c : CodeColumns) → Result CodeCounts Refusal → Type 0
-RefusedBy q c₀ c r = (said no_counts r ≡ refuses q no_counts) × (c ≡ c₀)
+RefusedBy q c₀ c r = (said no_code_counts r ≡ refuses q no_code_counts) × (c ≡ c₀)
 
 -- Six builders; Weights: whatever columns it is lent, and whatever p, M and diagonal probability it is given,
 -- each builder refuses by number q: `create_code`, `new`, and of kind 4 `new_diagonal`.
@@ -78,7 +78,7 @@ pub record BuildersRefuse (kind d rounds q : ℕ) : Type 0 where
 abbrev pub CreateGives : (kind d rounds v e : ℕ) → Type 0
 CreateGives kind d rounds v e =
     (c₀ c : CodeColumns) (r : Result CodeCounts Refusal) → CreateReturned kind d rounds c₀ c r → long_enough v e (vertex_room c₀) (edge_room c₀) (length c₀.neighbor_numbers) ≡ true
-    → said no_counts r ≡ accepts (code_counts v e)
+    → said no_code_counts r ≡ accepts (code_counts v e)
 
 -- Checked examples, d 3, kind 5: the counts of the code, and its edges and boundary bytes in the columns' first places.
 pub record KindFive (v e : ℕ) (ends_a ends_b boundary : List ℕ) : Type 0 where
@@ -162,7 +162,7 @@ pub record StarredExamples : Type 0 where
   pub d_4_built : (kind rounds : ℕ) → kind_known kind ≡ true → BuildersRefuse kind 4 rounds 3
   -- "The listing's graph": `new` with the kind, d, rounds, p and M of the example line builds it, wherever the columns lent are long enough.
   pub listing_built : (c₀ c : CodeColumns) (r : Result CodeCounts Refusal) → NewReturned 1 3 0 listing_p 500 c₀ c r → long_enough 4 3 (vertex_room c₀) (edge_room c₀) (length c₀.neighbor_numbers) ≡ true
-      → (said no_counts r ≡ accepts (code_counts 4 3)) × (graph_of_code c ≡ listing_graph)
+      → (said no_code_counts r ≡ accepts (code_counts 4 3)) × (graph_of_code c ≡ listing_graph)
   -- Weights, get_initializer: called on it then, `get_initializer` hands this graph on, with two virtual vertices, wherever its own columns have room.
   pub listing_handed_on : (c₀ c : CodeColumns) (r : Result CodeCounts Refusal) (to₀ to : Initializer) (n : Result ℕ Refusal) → NewReturned 1 3 0 listing_p 500 c₀ c r
       → long_enough 4 3 (vertex_room c₀) (edge_room c₀) (length c₀.neighbor_numbers) ≡ true

@@ -17,8 +17,8 @@ abbrev pub code_counts : ℕ → ℕ → CodeCounts
 code_counts v e = record { vertices = v; edges = e }
 
 -- Questions at the door, sentence 2: what a refused call answers beside the number.
-abbrev pub no_counts : CodeCounts
-no_counts = code_counts 0 0
+abbrev pub no_code_counts : CodeCounts
+no_code_counts = code_counts 0 0
 
 -- Questions at the door, 2 to 6, in order, of `create_code`, by the columns' lengths.
 unfoldable pub create_refusal : (kind d rounds vertex_room edge_room numbers : ℕ) → ℕ
@@ -49,7 +49,7 @@ new_columns kind d rounds = record {
 
 -- Six builders: the answer of `create_code`, and its columns afterwards; q is the question's number.
 pub record CodeCreated (kind d rounds q : ℕ) (c₀ c : CodeColumns) (answer : Result CodeCounts Refusal) : Type 0 where
-  pub answers : Answered (said no_counts answer) q (code_counts (vertex_num kind d rounds) (edge_num kind d rounds)) no_counts
+  pub answers : Answered (said no_code_counts answer) q (code_counts (vertex_num kind d rounds) (edge_num kind d rounds)) no_code_counts
   pub columns_after : HandedBack q (new_columns kind d rounds) c₀ c
 
 -- Six builders: what `create_code` answers and leaves.

@@ -10,7 +10,7 @@ use Rattle.codes_calls.specs.declared.CodeCounts.{CodeCounts}
 use Rattle.columns.specs.declared.refusal.Refusal.{Refusal}
 use Rattle.codes_calls.specs.Columns.{CodeColumns, edge_room, vertex_room, long_enough, HandedBack}
 use Rattle.columns_answers.specs.Said.{said, Answered}
-use Rattle.codes_calls.specs.CreateCode.{code_counts, no_counts, new_columns}
+use Rattle.codes_calls.specs.CreateCode.{code_counts, no_code_counts, new_columns}
 use Rattle.codes_calls.specs.Probabilities.{probabilities, diagonal_of}
 
 -- Questions at the door, 2 to 6 and 8 to 10, in order, by the columns' lengths: 9 asks of p and of the diagonal probability, 10 of the weights of the code's edges.
@@ -46,7 +46,7 @@ weighted_columns kind d rounds p diagonal max = record {
 
 -- Weights: the answer of a call that builds a code with a diagonal probability, and its columns afterwards; q is the question's number.
 pub record Weighted (kind d rounds : ℕ) (p : Float) (diagonal : Option Float) (max q : ℕ) (c₀ c : CodeColumns) (answer : Result CodeCounts Refusal) : Type 0 where
-  pub answers : Answered (said no_counts answer) q (code_counts (vertex_num kind d rounds) (edge_num kind d rounds)) no_counts
+  pub answers : Answered (said no_code_counts answer) q (code_counts (vertex_num kind d rounds) (edge_num kind d rounds)) no_code_counts
   pub columns_after : HandedBack q (weighted_columns kind d rounds p diagonal max) c₀ c
 
 -- Weights, on the diagonal probability: what such a call answers and leaves, where the diagonal probability is absent or a number.

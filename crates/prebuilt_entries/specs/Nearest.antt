@@ -22,9 +22,9 @@ nearer_of weights u std.None = std.Some u
 nearer_of weights u (std.Some b) = cond (ltb (amount (weight_in weights u)) (amount (weight_in weights b))) (std.Some u) (std.Some b)
 
 -- complete_graph.rs, `PrebuiltCompleteGraph`: a vertex, if there is one, as the functions hand it on.
-abbrev pub place_of : Option ℕ → std.Option ℕ
-place_of none = std.None
-place_of (some u) = std.Some u
+abbrev pub place_found : Option ℕ → std.Option ℕ
+place_found none = std.None
+place_found (some u) = std.Some u
 
 -- complete_graph.rs, `PrebuiltCompleteGraph`: of the virtual vertices below n that a table reaches the one of least weight; of several the smallest.
 abbrev pub nearest_in : (bytes : List ℕ) (weights : List ℤ) (n : ℕ) → Option ℕ

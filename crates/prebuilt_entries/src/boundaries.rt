@@ -1,7 +1,7 @@
 // The boundary weight and the boundary vertex of a vertex, from its table.
 ghost use Rattle.std.specs.Prelude.{◌≡◌, ◌<◌, ◌≤◌, length, set};
 ghost use Rattle.engine_walks.specs.Answers.{weight_in};
-ghost use Rattle.prebuilt_entries.specs.Nearest.{place_of, boundary_in, weight_to, vertex_to};
+ghost use Rattle.prebuilt_entries.specs.Nearest.{place_found, boundary_in, weight_to, vertex_to};
 
 use super::nearest::nearest_place;
 use columns::TableWeight;
@@ -10,7 +10,7 @@ use columns::TableWeight;
 #[tactic(auto, using(crate::proofs::Places::at_virtual, crate::proofs::Places::at_inner))]
 pub fn boundary_place(boundary: &[u8], least: &[TableWeight], v: usize) -> Option<usize>
     requires { (length boundary.now ≡ length least.now) × (v < length boundary.now) }
-    ensures { result ≡ place_of (boundary_in boundary.now least.now (length least.now) v) }
+    ensures { result ≡ place_found (boundary_in boundary.now least.now (length least.now) v) }
 {
     if boundary[v] != 0 {
         None

@@ -2,7 +2,7 @@
 ghost use Rattle.std.specs.Prelude.{◌≡◌, ◌&&◌, cond, length};
 ghost use Rattle.engine_walks.specs.Answers.{weight_in};
 ghost use Rattle.prebuilt_entries.specs.Entries.{is_virtual};
-ghost use Rattle.prebuilt_entries.specs.Nearest.{is_reached, amount, nearer_of, place_of, nearest_in};
+ghost use Rattle.prebuilt_entries.specs.Nearest.{is_reached, amount, nearer_of, place_found, nearest_in};
 
 use columns::{TableWeight, Weight};
 
@@ -51,7 +51,7 @@ fn nearer(byte: u8, least: &[TableWeight], u: usize, best: Option<usize>) -> Opt
 // The nearest virtual vertex in a table.
 pub fn nearest_place(boundary: &[u8], least: &[TableWeight]) -> Option<usize>
     requires { length boundary.now ≡ length least.now }
-    ensures { result ≡ place_of (nearest_in boundary.now least.now (length least.now)) }
+    ensures { result ≡ place_found (nearest_in boundary.now least.now (length least.now)) }
 {
     let mut best = None;
     for u in 0..least.len() {

@@ -13,7 +13,7 @@ use Rattle.columns.specs.Questions.{ask, all}
 use Rattle.columns.proofs.Tests.{and_both}
 use Rattle.text_input.specs.declared.CodeLine.{CodeLine}
 use Rattle.std.specs.Prelude.{Option, None, Some}
-use Rattle.text_input.specs.Line.{comma, newline, is_hex_digit, digits, digit_of, hex_digit_of, number, decimal_of, hex_of, after_decimal, decimal_sound, hex_sound, from_d, from_rounds, from_p, from_m, well_formed, line_of, no_line, line_said, ReadsLine, LongInputsAlike}
+use Rattle.text_input.specs.Line.{comma, newline, is_hex_digit, digits, digit_of, hex_digit_of, number_written, decimal_of, hex_of, after_decimal, decimal_sound, hex_sound, from_d, from_rounds, from_p, from_m, well_formed, line_of, no_line, line_said, ReadsLine, LongInputsAlike}
 use Rattle.columns_answers.specs.Said.{Answered}
 use Rattle.columns_answers.proofs.Said.{accepts-of, refuses-of}
 use Rattle.text_input.proofs.Runs.{digits_within}
@@ -130,9 +130,9 @@ fit stop t u at n p e s = (
 )
 
 -- the number that a field writes
-field : (t u : List ℕ) (at n : ℕ) → drop at t ≡ u → n ≡ digits (drop at t) → number 10 digit_of 0 (take n (drop at t)) ≡ decimal_of u
+field : (t u : List ℕ) (at n : ℕ) → drop at t ≡ u → n ≡ digits (drop at t) → number_written 10 digit_of 0 (take n (drop at t)) ≡ decimal_of u
 unfolding decimal_of
-field t u at n p e = λ k. number 10 digit_of 0 (take ((e ∙ ap digits p) k) (p k))
+field t u at n p e = λ k. number_written 10 digit_of 0 (take ((e ∙ ap digits p) k) (p k))
 
 -- a text whose fields have n1, n2, n3 and n5 digits
 module _ (t : List ℕ) (n1 n2 n3 n5 : ℕ) (e1 : n1 ≡ digits (drop 0 t)) (e2 : n2 ≡ digits (drop (n1 + 1) t)) (e3 : n3 ≡ digits (drop (n1 + 1 + (n2 + 1)) t))
@@ -191,14 +191,14 @@ module _ (t : List ℕ) (n1 n2 n3 n5 : ℕ) (e1 : n1 ≡ digits (drop 0 t)) (e2 
     pub fit5 : (n5 ≤ 9) × (at5 + n5 ≤ length t) × (n5 ≡ digits (drop at5 t))
     fit5 = fit newline t (from_m t) at5 n5 p5 e5 sound.max
 
-  pub line : {v1 v2 v3 v4 v5 : ℕ} → v1 ≡ number 10 digit_of 0 (take n1 (drop 0 t)) → v2 ≡ number 10 digit_of 0 (take n2 (drop at2 t)) → v3 ≡ number 10 digit_of 0 (take n3 (drop at3 t))
-      → v4 ≡ number 16 hex_digit_of 0 (take 16 (drop at4 t)) → v5 ≡ number 10 digit_of 0 (take n5 (drop at5 t)) → record { kind = v1; d = v2; rounds = v3; bits = v4; max = v5 } ≡ line_of t
+  pub line : {v1 v2 v3 v4 v5 : ℕ} → v1 ≡ number_written 10 digit_of 0 (take n1 (drop 0 t)) → v2 ≡ number_written 10 digit_of 0 (take n2 (drop at2 t)) → v3 ≡ number_written 10 digit_of 0 (take n3 (drop at3 t))
+      → v4 ≡ number_written 16 hex_digit_of 0 (take 16 (drop at4 t)) → v5 ≡ number_written 10 digit_of 0 (take n5 (drop at5 t)) → record { kind = v1; d = v2; rounds = v3; bits = v4; max = v5 } ≡ line_of t
   unfolding hex_of
   line q1 q2 q3 q4 q5 = λ k. record {
     kind = (q1 ∙ field t t 0 n1 refl e1) k;
     d = (q2 ∙ field t (from_d t) at2 n2 p2 e2) k;
     rounds = (q3 ∙ field t (from_rounds t) at3 n3 p3 e3) k;
-    bits = (q4 ∙ ap (λ (u : List ℕ). number 16 hex_digit_of 0 (take 16 u)) p4) k;
+    bits = (q4 ∙ ap (λ (u : List ℕ). number_written 16 hex_digit_of 0 (take 16 u)) p4) k;
     max = (q5 ∙ field t (from_m t) at5 n5 p5 e5) k;
   }
 

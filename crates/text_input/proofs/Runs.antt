@@ -13,7 +13,7 @@ use lib.Seq.{take-suc, drop-cons}
 use borrow.Author.Tests.{leb-true, le-leb, lt-leb}
 use Rattle.columns.specs.Questions.{all}
 use Rattle.columns.proofs.Tests.{and_both, both_and}
-use Rattle.text_input.specs.Line.{is_digit, is_hex_digit, digits, digit_of, hex_digit_of, number}
+use Rattle.text_input.specs.Line.{is_digit, is_hex_digit, digits, digit_of, hex_digit_of, number_written}
 
 -- ---- runs of digits
 
@@ -73,23 +73,23 @@ module _ (text : List ℕ) (at n : ℕ) where
 -- ---- the number that digits write
 
 module _ (base : ℕ) (of : ℕ → ℕ) where
-  number_append : (n : ℕ) (xs : List ℕ) (b : ℕ) → number base of n (xs ++ (b ∷ [])) ≡ number base of n xs * base + of b
-  unfolding number
+  number_append : (n : ℕ) (xs : List ℕ) (b : ℕ) → number_written base of n (xs ++ (b ∷ [])) ≡ number_written base of n xs * base + of b
+  unfolding number_written
   number_append n [] b = refl
   number_append n (x ∷ xs) b = number_append (n * base + of x) xs b
 
   -- one digit more
-  pub number_more : (t : List ℕ) (i : ℕ) → i < length t → number base of 0 (take (i + 1) t) ≡ number base of 0 (take i t) * base + of (get_or t i 0)
-  number_more t i h = ap (λ (k : ℕ). number base of 0 (take k t)) (add-one i) ∙ ap (number base of 0) (take-suc t i 0 h) ∙ number_append 0 (take i t) (get_or t i 0)
+  pub number_more : (t : List ℕ) (i : ℕ) → i < length t → number_written base of 0 (take (i + 1) t) ≡ number_written base of 0 (take i t) * base + of (get_or t i 0)
+  number_more t i h = ap (λ (k : ℕ). number_written base of 0 (take k t)) (add-one i) ∙ ap (number_written base of 0) (take-suc t i 0 h) ∙ number_append 0 (take i t) (get_or t i 0)
 
-  pub number-none : (t : List ℕ) → 0 ≡ number base of 0 (take 0 t)
-  unfolding number
+  pub number-none : (t : List ℕ) → 0 ≡ number_written base of 0 (take 0 t)
+  unfolding number_written
   number-none [] = refl
   number-none (x ∷ t) = refl
 
   -- it is below the base to the power of the digits
-  small-from : (test : ℕ → Bool) → ((b : ℕ) → test b ≡ true → of b < base) → (n : ℕ) (xs : List ℕ) → all test xs ≡ true → suc (number base of n xs) ≤ suc n * base ^ length xs
-  unfolding number all
+  small-from : (test : ℕ → Bool) → ((b : ℕ) → test b ≡ true → of b < base) → (n : ℕ) (xs : List ℕ) → all test xs ≡ true → suc (number_written base of n xs) ≤ suc n * base ^ length xs
+  unfolding number_written all
   small-from test below n [] e = omega (arith, ap (λ (k : ℕ). suc n * k) (pow-zero base), mul-one (suc n))
   small-from test below n (x ∷ xs) e =
       let p = and_both (test x) (all test xs) e in
@@ -99,7 +99,7 @@ module _ (base : ℕ) (of : ℕ → ℕ) where
       let h : (suc n * base) * base ^ length xs ≡ suc n * base ^ suc (length xs) = mul_assoc (suc n) base (base ^ length xs) ∙ ap (λ (k : ℕ). suc n * k) (sym (pow-succ' base (length xs))) in
       omega (arith, f, g, h)
 
-  pub small : (test : ℕ → Bool) → ((b : ℕ) → test b ≡ true → of b < base) → (xs : List ℕ) → all test xs ≡ true → number base of 0 xs < base ^ length xs
+  pub small : (test : ℕ → Bool) → ((b : ℕ) → test b ≡ true → of b < base) → (xs : List ℕ) → all test xs ≡ true → number_written base of 0 xs < base ^ length xs
   small test below xs e = omega (arith, small-from test below 0 xs e, native.Mathlib.Nat.one-mul (base ^ length xs))
 
 digit_below : (b : ℕ) → is_digit b ≡ true → digit_of b < 10
@@ -116,7 +116,7 @@ hex_below b e = elim (dec_le b 0x39) [
     letter true l f g = absurd (let p = and_both (leb 0x30 b) (leb b 0x39) f in omega (arith, leb-true b 0x39 p.1))
 
 -- the first i of nine digits write less than 10 to the power 9, the first i of 16 less than 2 to the power 64
-pub decimal_small : (t : List ℕ) (i : ℕ) → i ≤ digits t → i ≤ 9 → number 10 digit_of 0 (take i t) < 1000000000
+pub decimal_small : (t : List ℕ) (i : ℕ) → i ≤ digits t → i ≤ 9 → number_written 10 digit_of 0 (take i t) < 1000000000
 decimal_small t i h k =
     let p = small 10 digit_of is_digit digit_below (take i t) (digits_are t i h) in
     let q : 10 ^ length (take i t) ≤ 10 ^ 9 = pow-le-pow_right {n = 10} (zero-lt-suc 9) {i = length (take i t)} {j = 9} (omega (arith, length-take i t)) in
@@ -133,7 +133,7 @@ all_first test [] n (suc i) h e = refl
 all_first test (x ∷ xs) zero (suc i) h e = absurd (omega arith)
 all_first test (x ∷ xs) (suc n) (suc i) h e = let p = and_both (test x) (all test (take n xs)) e in both_and p.0 (all_first test xs n i (omega arith) p.1)
 
-pub hex_small : (t : List ℕ) (i : ℕ) → all is_hex_digit (take 16 t) ≡ true → i ≤ 16 → number 16 hex_digit_of 0 (take i t) < 0x10000000000000000
+pub hex_small : (t : List ℕ) (i : ℕ) → all is_hex_digit (take 16 t) ≡ true → i ≤ 16 → number_written 16 hex_digit_of 0 (take i t) < 0x10000000000000000
 hex_small t i e k =
     let p = small 16 hex_digit_of is_hex_digit hex_below (take i t) (all_first is_hex_digit t 16 i k e) in
     let q : 16 ^ length (take i t) ≤ 16 ^ 16 = pow-le-pow_right {n = 16} (zero-lt-suc 15) {i = length (take i t)} {j = 16} (omega (arith, length-take i t)) in

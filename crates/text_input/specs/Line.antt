@@ -39,9 +39,9 @@ abbrev pub hex_digit_of : ℕ → ℕ
 hex_digit_of b = cond (leb b 0x39) (b - 0x30) (b - 0x57)
 
 -- The program codelist, sentence 1: the number that digits write, the highest first, after those that write n.
-unfoldable pub number : (base : ℕ) (of : ℕ → ℕ) (n : ℕ) → List ℕ → ℕ
-number base of n [] = n
-number base of n (b ∷ bs) = number base of (n * base + of b) bs
+unfoldable pub number_written : (base : ℕ) (of : ℕ → ℕ) (n : ℕ) → List ℕ → ℕ
+number_written base of n [] = n
+number_written base of n (b ∷ bs) = number_written base of (n * base + of b) bs
 
 -- ---- the field that a text starts with
 
@@ -51,7 +51,7 @@ decimal_sound stop t = (leb 1 (digits t) && leb (digits t) 9) && ((eqb (digits t
 
 -- The program codelist, sentence 1: the number of a decimal field.
 unfoldable pub decimal_of : List ℕ → ℕ
-decimal_of t = number 10 digit_of 0 (take (digits t) t)
+decimal_of t = number_written 10 digit_of 0 (take (digits t) t)
 
 -- The program codelist, sentence 1: 16 lowercase hexadecimal digits, then a comma.
 unfoldable pub hex_sound : List ℕ → Bool
@@ -59,7 +59,7 @@ hex_sound t = (leb 16 (length t) && all is_hex_digit (take 16 t)) && eqb (get_or
 
 -- The program codelist, sentence 1: the number of the field of p.
 unfoldable pub hex_of : List ℕ → ℕ
-hex_of t = number 16 hex_digit_of 0 (take 16 t)
+hex_of t = number_written 16 hex_digit_of 0 (take 16 t)
 
 -- The program codelist, sentence 1: what follows a decimal field with its last byte.
 abbrev pub after_decimal : List ℕ → List ℕ

@@ -1,7 +1,7 @@
 // The fields of a line.
 ghost use Rattle.std.specs.Prelude.{◌≡◌, Bool, ◌||◌, not, ◌+◌, ◌≤◌, eqb, length, get_or, take, drop};
 ghost use Rattle.columns.specs.Questions.{all};
-ghost use Rattle.text_input.specs.Line.{is_digit, is_hex_digit, digits, digit_of, hex_digit_of, number, decimal_sound, hex_sound};
+ghost use Rattle.text_input.specs.Line.{is_digit, is_hex_digit, digits, digit_of, hex_digit_of, number_written, decimal_sound, hex_sound};
 
 // Whether a byte is a decimal digit.
 fn is_digit(b: u8) -> bool
@@ -101,7 +101,7 @@ fn hex_digit_of(b: u8) -> u64
 // The number that n digits from a place on write.
 pub fn decimal_value(text: &[u8], at: usize, n: usize) -> u32
     requires { (n ≤ 9) × (at + n ≤ length text.now) × (n ≡ digits (drop at text.now)) }
-    ensures { result ≡ number 10 digit_of 0 (take n (drop at text.now)) }
+    ensures { result ≡ number_written 10 digit_of 0 (take n (drop at text.now)) }
 {
     let mut v: u32 = 0;
     for i in 0..n {
@@ -114,7 +114,7 @@ pub fn decimal_value(text: &[u8], at: usize, n: usize) -> u32
 pub fn hex_value(text: &[u8], at: usize) -> u64
     requires at_in_bounds { at + 16 ≤ length text.now }
     requires text_value { all is_hex_digit (take 16 (drop at text.now)) ≡ Bool.true }
-    ensures { result ≡ number 16 hex_digit_of 0 (take 16 (drop at text.now)) }
+    ensures { result ≡ number_written 16 hex_digit_of 0 (take 16 (drop at text.now)) }
 {
     let mut v: u64 = 0;
     for i in 0..16 {

@@ -5,7 +5,7 @@ use native.Mathlib.Omega.{arith}
 use lib.ListN.{length, get_or}
 use Rattle.engine_walks.specs.Answers.{weight_in}
 use Rattle.prebuilt_entries.specs.Entries.{is_virtual}
-use Rattle.prebuilt_entries.specs.Nearest.{is_reached, nearer_of, place_of, nearest_in}
+use Rattle.prebuilt_entries.specs.Nearest.{is_reached, nearer_of, place_found, nearest_in}
 use Rattle.prebuilt_entries.proofs.Places.{place_none, place-next}
 use Rattle.prebuilt_entries.proofs.nearest.nearest_place.Goals as goal
 
@@ -22,4 +22,4 @@ loop-u-preserved c =
 pub returns : goal.returns
 returns c =
     let least = c.args.least.now in
-    let e : c.loop-u.u ≡ length least = omega arith in c.loop-u.invariant ∙ ap (λ n. place_of (nearest_in c.args.boundary.now least n)) e
+    let e : c.loop-u.u ≡ length least = omega arith in c.loop-u.invariant ∙ ap (λ n. place_found (nearest_in c.args.boundary.now least n)) e

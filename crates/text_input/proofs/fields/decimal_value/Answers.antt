@@ -4,7 +4,7 @@ use Prim.Native.Nat.{ℕ, ◌+◌, ◌*◌, ◌≤◌}
 use native.Mathlib.Omega.{arith}
 use lib.ListN.{take, drop, length-drop}
 use lib.Seq.{get_or-drop}
-use Rattle.text_input.specs.Line.{digit_of, number}
+use Rattle.text_input.specs.Line.{digit_of, number_written}
 use Rattle.text_input.proofs.Runs.{number_more, number-none, decimal_small}
 use Rattle.text_input.proofs.fields.decimal_value.Goals as goal
 
@@ -30,4 +30,4 @@ pub loop-i-preserved : goal.loop-i-preserved
 loop-i-preserved c = (λ k. c.loop-i.invariant k * 10 + (c.digit_of.ensures ∙ ap digit_of (sym (get_or-drop c.args.at c.args.text.now c.loop-i.i 0))) k) ∙ sym (number_more 10 digit_of (drop c.args.at c.args.text.now) c.loop-i.i (omega (arith, c.requires.1, length-drop c.args.at c.args.text.now)))
 
 pub returns : goal.returns
-returns c = c.loop-i.invariant ∙ ap (λ (k : ℕ). number 10 digit_of 0 (take k (drop c.args.at c.args.text.now))) (same c.loop-i.i c.args.n (omega arith) (omega arith))
+returns c = c.loop-i.invariant ∙ ap (λ (k : ℕ). number_written 10 digit_of 0 (take k (drop c.args.at c.args.text.now))) (same c.loop-i.i c.args.n (omega arith) (omega arith))

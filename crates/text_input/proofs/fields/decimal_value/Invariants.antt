@@ -2,8 +2,8 @@
 use mathlib.Core.Path.{◌≡◌}
 use Prim.Native.Nat.{◌-◌, ◌≤◌}
 use lib.ListN.{take, drop}
-use Rattle.text_input.specs.Line.{digit_of, number}
+use Rattle.text_input.specs.Line.{digit_of, number_written}
 use Rattle.text_input.proofs.fields.decimal_value.Given as goal
 
 abbrev pub invariant-loop-i : goal.invariant-loop-i
-invariant-loop-i l = l.v ≡ number 10 digit_of 0 (take l.i (drop l.at l.text))
+invariant-loop-i l = l.v ≡ number_written 10 digit_of 0 (take l.i (drop l.at l.text))

@@ -4,7 +4,7 @@ use Prim.Native.Nat.{ℕ, ◌+◌, ◌*◌, ◌≤◌}
 use native.Mathlib.Omega.{arith}
 use lib.ListN.{take, drop, length-drop}
 use lib.Seq.{get_or-drop}
-use Rattle.text_input.specs.Line.{hex_digit_of, number}
+use Rattle.text_input.specs.Line.{hex_digit_of, number_written}
 use Rattle.text_input.proofs.Runs.{number_more, number-none, hex_small}
 use Rattle.text_input.proofs.fields.hex_value.Goals as goal
 
@@ -30,4 +30,4 @@ pub loop-i-preserved : goal.loop-i-preserved
 loop-i-preserved c = (λ k. c.loop-i.invariant k * 16 + (c.hex_digit_of.ensures ∙ ap hex_digit_of (sym (get_or-drop c.args.at c.args.text.now c.loop-i.i 0))) k) ∙ sym (number_more 16 hex_digit_of (drop c.args.at c.args.text.now) c.loop-i.i (omega (arith, c.requires.at_in_bounds, length-drop c.args.at c.args.text.now)))
 
 pub returns : goal.returns
-returns c = c.loop-i.invariant ∙ ap (λ (k : ℕ). number 16 hex_digit_of 0 (take k (drop c.args.at c.args.text.now))) (same c.loop-i.i 16 (omega arith) (omega arith))
+returns c = c.loop-i.invariant ∙ ap (λ (k : ℕ). number_written 16 hex_digit_of 0 (take k (drop c.args.at c.args.text.now))) (same c.loop-i.i 16 (omega arith) (omega arith))

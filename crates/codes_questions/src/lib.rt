@@ -1,8 +1,8 @@
 // Questions 2 to 5 of document 01, and the calls that count the vertices and edges of a code.
 #![tactic(auto)]
 
-ghost use Rattle.std.specs.Prelude.{◌≡◌, ◌≤◌};
-ghost use Rattle.columns.specs.Refusals.{question_of};
+ghost use Rattle.std.specs.Prelude.{◌≡◌, ℕ, ◌≤◌};
+ghost use Rattle.columns.specs.Refusals.{question_of, question_then};
 ghost use Rattle.codes_layers.specs.Accepts.{kind_known, distance_sound, rounds_sound, code_refusal};
 ghost use Rattle.codes_questions.specs.Answers.{CountsVertices, CountsEdges, distance_within, rounds_within};
 
@@ -48,9 +48,10 @@ pub fn rounds_within(rounds: u32) -> u32
 }
 
 // Questions 2 to 5 in order. Question 5 is about a count formed in 64 bits.
-#[tactic(auto, unfolding(codes_layers::specs::Accepts::code_refusal))]
+#[tactic(auto, unfolding(codes_layers::specs::Accepts::code_refusal), using(crate::proofs::Within::distance_least, crate::proofs::Within::distance_most, crate::proofs::Within::rounds_most))]
 pub fn code_questions(kind: u32, d: u32, rounds: u32) -> Result<(), Refusal>
-    ensures { question_of result ≡ code_refusal kind d rounds 0 }
+    ensures number { question_of result ≡ code_refusal kind d rounds 0 }
+    ensures then { (next : ℕ) → question_then result next ≡ code_refusal kind d rounds next }
 {
     require(kind_known(kind), Refusal::UnknownKind)?;
     require(distance_sound(d), Refusal::BadDistance)?;

@@ -1,5 +1,5 @@
 // The largest weight, and questions 8 to 10.
-ghost use Rattle.std.specs.Prelude.{◌≡◌, ◌&&◌};
+ghost use Rattle.std.specs.Prelude.{◌≡◌, ◌&&◌, ℕ, cond, eqb};
 ghost use Rattle.std.specs.Float.Ieee.{lt};
 ghost use Rattle.columns.specs.Places.{zero_float};
 ghost use Rattle.columns.specs.Refusals.{question_of};
@@ -33,7 +33,8 @@ pub fn weights_questions(
     max_half_weight: Weight,
     largest: f64,
 ) -> Result<(), Refusal>
-    ensures { question_of result ≡ weights_refusal 0 (is_largest_half_weight max_half_weight) (is_probability p && is_diagonal_probability diagonal) (lt zero_float largest) }
+    ensures number { question_of result ≡ weights_refusal 0 (is_largest_half_weight max_half_weight) (is_probability p && is_diagonal_probability diagonal) (lt zero_float largest) }
+    ensures after { (q : ℕ) → cond (eqb q 0) (question_of result) q ≡ weights_refusal q (is_largest_half_weight max_half_weight) (is_probability p && is_diagonal_probability diagonal) (lt zero_float largest) }
 {
     let eight = is_largest_half_weight(max_half_weight);
     let nine = is_probability(p) && is_diagonal_probability(diagonal);

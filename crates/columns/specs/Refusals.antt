@@ -28,3 +28,8 @@ number refusal.NoCrossing = 18
 abbrev pub question_of : {A : Type 0} → Result A Refusal → ℕ
 question_of (Ok v) = 0
 question_of (Err r) = number r
+
+-- Questions at the door, sentence 2: likewise, where later questions are asked after those that the answer is of; next is their number.
+abbrev pub question_then : {A : Type 0} → Result A Refusal → (next : ℕ) → ℕ
+question_then (Ok v) next = next
+question_then (Err r) next = number r

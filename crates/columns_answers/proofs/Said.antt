@@ -1,8 +1,9 @@
 -- Answers from a call's end, and what they tell, for any values. Assumes nothing.
 use Prim.Native.Nat.{ℕ}
-use mathlib.Core.Path.{◌≡◌, sym, ap, ◌∙◌}
+use mathlib.Core.Path.{◌≡◌, refl, sym, ap, ◌∙◌}
 use mathlib.Core.Bool.{Bool, false≢true, cond}
 use native.Mathlib.Omega.{arith}
+use lib.Dec.{eqb}
 use borrow.Author.Tests.{eq-eqb, ne_eqb}
 use Rattle.std.specs.Prelude.{Result, Ok, Err}
 use Rattle.columns.specs.declared.refusal.Refusal.{Refusal}
@@ -31,7 +32,48 @@ no_zero refusal.SameVertex e = absurd (omega arith)
 no_zero refusal.Unreached e = absurd (omega arith)
 no_zero refusal.NoCrossing e = absurd (omega arith)
 
+-- the refusal with a number
+numbered : ℕ → Refusal
+numbered n =
+    cond (eqb n 1) refusal.IllFormedLine (cond (eqb n 2) refusal.UnknownKind (cond (eqb n 3) refusal.BadDistance (cond (eqb n 4) refusal.BadRounds
+    (cond (eqb n 5) refusal.TooManyVertices (cond (eqb n 6) refusal.ShortColumn (cond (eqb n 7) refusal.UnsoundColumns (cond (eqb n 8) refusal.BadHalfWeight
+    (cond (eqb n 9) refusal.BadProbability (cond (eqb n 10) refusal.NoWeight (cond (eqb n 11) refusal.OrderLength (cond (eqb n 12) refusal.LogNotEmpty
+    (cond (eqb n 13) refusal.NumberOutOfRange (cond (eqb n 14) refusal.RepeatedVertex (cond (eqb n 15) refusal.BadWeight (cond (eqb n 16) refusal.SameVertex
+    (cond (eqb n 17) refusal.Unreached refusal.NoCrossing))))))))))))))))
+
+numbered_back : (r : Refusal) → r ≡ numbered (number r)
+unfolding numbered
+numbered_back refusal.IllFormedLine = refl
+numbered_back refusal.UnknownKind = refl
+numbered_back refusal.BadDistance = refl
+numbered_back refusal.BadRounds = refl
+numbered_back refusal.TooManyVertices = refl
+numbered_back refusal.ShortColumn = refl
+numbered_back refusal.UnsoundColumns = refl
+numbered_back refusal.BadHalfWeight = refl
+numbered_back refusal.BadProbability = refl
+numbered_back refusal.NoWeight = refl
+numbered_back refusal.OrderLength = refl
+numbered_back refusal.LogNotEmpty = refl
+numbered_back refusal.NumberOutOfRange = refl
+numbered_back refusal.RepeatedVertex = refl
+numbered_back refusal.BadWeight = refl
+numbered_back refusal.SameVertex = refl
+numbered_back refusal.Unreached = refl
+numbered_back refusal.NoCrossing = refl
+
+-- two refusals have two numbers
+pub same_refusal : (r s : Refusal) → number r ≡ number s → r ≡ s
+same_refusal r s e = numbered_back r ∙ ap numbered e ∙ sym (numbered_back s)
+
 module _ {Values : Type 0} where
+  -- what is said of an answer determines the answer
+  pub case_of : {q : ℕ} {v z : Values} (r s : Result Values Refusal) → Answered (said z r) q v z → Answered (said z s) q v z → r ≡ s
+  case_of (Ok v) (Ok w) a b = ap Ok (a.values_are ∙ sym b.values_are)
+  case_of (Ok v) (Err s) a b = absurd (false≢true (b.accepted_is ∙ sym a.accepted_is))
+  case_of (Err r) (Ok w) a b = absurd (false≢true (a.accepted_is ∙ sym b.accepted_is))
+  case_of (Err r) (Err s) a b = ap Err (same_refusal r s (a.number_is ∙ sym b.number_is))
+
   -- the call was accepted, or a number refused it
   pub accepts-of : {q : ℕ} {v z : Values} → q ≡ 0 → Answered (accepts v) q v z
   accepts-of {q} {v} {z} e = record {

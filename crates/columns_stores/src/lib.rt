@@ -19,5 +19,8 @@ pub fn copy<T: Copy>(to: &mut [T], from: &[T], n: usize)
     ensures { to.new ≡ sets to.old 0 (take n from.now) }
 {
     let m = n.min(from.len()).min(to.len());
-    to[..m].copy_from_slice(&from[..m]);
+    // No copy_from_slice: the archives for C would need memmove.
+    for i in 0..m {
+        to[i] = from[i];
+    }
 }

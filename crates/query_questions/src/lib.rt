@@ -1,8 +1,8 @@
 // Questions 6, 7 and 13 of the queries, and the number after which a search stops.
 #![tactic(auto)]
 
-ghost use Rattle.std.specs.Prelude.{◌≡◌, cond, eqb};
-ghost use Rattle.columns.specs.Refusals.{question_of};
+ghost use Rattle.std.specs.Prelude.{◌≡◌, ℕ, cond, eqb};
+ghost use Rattle.columns.specs.Refusals.{question_of, question_then};
 ghost use Rattle.engine_columns.specs.Records.{engine_in};
 ghost use Rattle.query_questions.specs.Queries.{query_refusal};
 ghost use Rattle.query_questions.specs.Scratch.{scratch_in, scratch_fits};
@@ -47,7 +47,8 @@ pub fn query_refusal(
     fits: bool,
     in_range: bool,
 ) -> Result<(), Refusal>
-    ensures { question_of result ≡ query_refusal (engine_in c ends_a.now ends_b.now weights.now boundary.now log_edges.now log_weights.now) fits in_range 0 }
+    ensures number { question_of result ≡ query_refusal (engine_in c ends_a.now ends_b.now weights.now boundary.now log_edges.now log_weights.now) fits in_range 0 }
+    ensures then { (next : ℕ) → question_then result next ≡ query_refusal (engine_in c ends_a.now ends_b.now weights.now boundary.now log_edges.now log_weights.now) fits in_range next }
 {
     let long = long_enough(
         c,

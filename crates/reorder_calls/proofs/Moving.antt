@@ -5,8 +5,9 @@ use Prim.Native.Nat.{ℕ, zero, suc, ◌+◌, ◌≤◌, ◌<◌}
 use native.Mathlib.Nat.{zero-add}
 use native.Mathlib.Decide.{ℕ_discrete}
 use native.Mathlib.Omega.{arith}
+use native.Mathlib.Numerals.{add-one}
 use lib.ListN.{length, get_or, set, take, drop, length-take, length-drop, length-append}
-use lib.Seq.{sets, take-suc, take-length, get_or-take, get_or-drop, get_or-set_same, get_or-set_other, ext_get_or}
+use lib.Seq.{length-take-le, sets, take-suc, take-length, get_or-take, get_or-drop, get_or-set_same, get_or-set_other, ext_get_or}
 use Rattle.columns.specs.Lists.{joined, over}
 use Rattle.columns.proofs.Columns.{sets-append, sets_over}
 use Rattle.columns.proofs.Counting.{joined-more, joined_same, joined-room}
@@ -31,6 +32,20 @@ starts_more i xs starts {sum} room e f u h = elim (ℕ_discrete u i) [
   | yes q ↦ ap (λ (k : ℕ). get_or (set starts i sum) k 0) q ∙ get_or-set_same starts i sum 0 room ∙ e ∙ ap (λ (k : ℕ). sum_to k xs) (sym q)
   | no q ↦ get_or-set_other starts i u sum 0 q ∙ f u (omega arith)
 ]
+
+-- ---- a run of numbers
+
+module _ (from : List ℕ) (start : ℕ) (to₀ : List ℕ) (at : ℕ) where
+  pub run_more : (i : ℕ) {to : List ℕ} → start + i < length from → to ≡ sets to₀ at (take i (drop start from))
+      → set to (at + i) (get_or from (start + i) 0) ≡ sets to₀ at (take (i + 1) (drop start from))
+  run_more i {to} h e =
+      let long : i < length (drop start from) = omega (arith, length-drop start from) in
+      let here : length (take i (drop start from)) ≡ i = length-take-le i (drop start from) (omega arith) in
+      ap (λ (t : List ℕ). set t (at + i) (get_or from (start + i) 0)) e
+      ∙ ap (set (sets to₀ at (take i (drop start from))) (at + i)) (sym (get_or-drop start from i 0))
+      ∙ ap (λ (k : ℕ). set (sets to₀ at (take i (drop start from))) (at + k) (get_or (drop start from) i 0)) (sym here)
+      ∙ sym (sets-append to₀ at (take i (drop start from)) (get_or (drop start from) i 0 ∷ []))
+      ∙ ap (sets to₀ at) (sym (take-suc (drop start from) i 0 long) ∙ ap (λ (k : ℕ). take k (drop start from)) (sym (add-one i)))
 
 -- ---- lists
 

@@ -26,7 +26,10 @@ fn copy_run(from: &[u32], start: usize, count: usize, to: &mut [u32], at: usize)
     requires { (start + count ≤ length from.now) × (at + count ≤ length to.old) }
     ensures { to.new ≡ sets to.old at (take count (drop start from.now)) }
 {
-    to[at..at + count].copy_from_slice(&from[start..start + count]);
+    // No copy_from_slice: the archives for C would need memmove.
+    for i in 0..count {
+        to[at + i] = from[start + i];
+    }
 }
 
 // Stores the lists in the new order, one after another.

@@ -151,3 +151,8 @@ pub first_listed : (l : List ℕ) (n limit : ℕ) → ((i : ℕ) → i < n → g
 first_listed l n limit h i b =
     let k : i < n = omega (arith, length-take n l) in
     subst (λ (x : ℕ). x < limit) (sym (get_or-take n l i 0 k)) (h i k)
+
+-- the column of new numbers has one for each vertex
+pub length-oldToNew : (order : List ℕ) → length (old_to_new order) ≡ length order
+unfolding old_to_new
+length-oldToNew order = length-each (length order) (new_number order)

@@ -1,13 +1,43 @@
 -- Laws of the defect flip. Assumes nothing.
 use mathlib.Core.Path.{◌≡◌, refl, sym, ap, ◌∙◌}
 use mathlib.Core.List.{List, [], ◌∷◌, ◌++◌}
-use Prim.Native.Nat.{ℕ, zero, suc, ◌+◌, ◌<◌}
+use Prim.Native.Nat.{ℕ, zero, suc, ◌+◌, ◌-◌, ◌*◌, ◌≤◌, ◌<◌}
 use native.Mathlib.Decide.{ℕ_discrete}
 use native.Mathlib.Omega.{arith}
 use native.Mathlib.Numerals.{add-one}
 use lib.ListN.{length, get_or, set, take, length-set, get_or-append}
+use lib.Dec.{eqb}
 use lib.Seq.{take-suc, get_or-set_same, get_or-set_other, set-append_left}
-use Rattle.sampling_flips.specs.Flip.{flipped, flip_at, flip_edge, flip_each}
+use borrow.Author.Tests.{ne_eqb}
+use mir.Val.{bool_byte}
+use Rattle.sampling_flips.specs.Flip.{inner_bit, flipped, flip_at, flip_edge, flip_each}
+
+-- ---- the flip as arithmetic
+
+-- a comparison with the boundary byte of an inner vertex, as a number
+pub equal_bit : (n : ℕ) → bool_byte (eqb n 0) ≡ inner_bit n
+equal_bit zero = refl
+equal_bit (suc n) = ap bool_byte (ne_eqb (suc n) 0 (λ e. omega arith))
+
+pub bit_within : (n : ℕ) → inner_bit n ≤ 1
+bit_within zero = omega arith
+bit_within (suc n) = omega arith
+
+-- a bit times a byte is a byte, and so is the byte that a bit chooses of two, as a sum of products
+pub times_fits : (i x : ℕ) → i ≤ 1 → x < 256 → i * x < 256
+times_fits zero x h g = omega arith
+times_fits (suc zero) x h g = omega arith
+times_fits (suc (suc i)) x h g = absurd (omega (arith, h))
+
+pub chosen_fits : (i y x : ℕ) → i ≤ 1 → y < 256 → x < 256 → i * y + (1 - i) * x < 256
+chosen_fits zero y x h g f = omega arith
+chosen_fits (suc zero) y x h g f = omega arith
+chosen_fits (suc (suc i)) y x h g f = absurd (omega (arith, h))
+
+-- a vertex's boundary byte n and defect byte x, its bit i, and y, which is 1 minus x: the sum is the flipped byte
+pub by_subtraction : (n x i y : ℕ) → i ≡ inner_bit n → y ≡ 1 - x → i * y + (1 - i) * x ≡ flipped n x
+by_subtraction zero x i y e f = rw e (omega arith)
+by_subtraction (suc n) x i y e f = rw e (omega arith)
 
 -- ---- what a flip keeps
 

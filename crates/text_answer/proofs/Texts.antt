@@ -22,6 +22,10 @@ use Rattle.text_listing.proofs.Texts.{renamed, fitting}
 use Rattle.text_answer.specs.Answer.{text_by, text_of, answer_text, text_room, text_refusal, CodeListed}
 use Rattle.text_answer.proofs.Sizes.{every_text_fits}
 
+-- a line that is not well formed
+pub damaged_line : (l : Option CodeLine) {text₀ text : List ℕ} {r : ℕ} → Put text₀ 0 (refusal_line 1) text r → l ≡ None → Put text₀ 0 (text_of l) text r
+damaged_line l p q = renamed (ap text_of (sym q)) p
+
 -- a line that was read has the text of its input
 read_text : (input : List ℕ) (l : Option CodeLine) → ReadsLine input l → text_of l ≡ answer_text input
 read_text input (Some l) a =

@@ -1,22 +1,31 @@
--- `columns_stores::copy` meets its contract: the copied elements, then the rest of the column. Assumes nothing.
-use mathlib.Core.Path.{◌≡◌, sym, ap, ◌∙◌}
-use mathlib.Core.List.{List, ◌++◌}
-use Prim.Native.Nat.{ℕ, min}
+-- `columns_stores::copy` meets its contract. Invariant: i elements are copied. Assumes nothing.
+use mathlib.Core.Path.{refl, ap, ◌∙◌}
+use Prim.Native.Nat.{◌+◌}
 use native.Mathlib.Omega.{arith}
-use lib.ListN.{length, take, drop, length-take}
-use lib.Seq.{sets}
-use Rattle.columns.proofs.Columns.{sets_over, copy-end}
+use lib.ListN.{length, set, take}
+use lib.Seq.{sets, length-sets}
+use Rattle.columns.proofs.Columns.{copy_more, copy-end}
 use Rattle.columns_stores.proofs.copy.Goals as goal
 
--- the first m elements copied, and the rest as it was
-copied : {A : Type 0} (to from items : List A) (n m : ℕ) → m ≡ min (min n (length from)) (length to) → items ≡ take m from → items ++ drop m to ≡ sets to 0 (take n from)
-copied to from items n m e f =
-    let size : length (take m from) ≡ m = length-take m from ∙ omega arith in
-    ap (λ (xs : List _). xs ++ drop m to) f
-    ∙ ap (λ (k : ℕ). take m from ++ drop k to) (sym size)
-    ∙ sym (sets_over to (take m from) (omega arith))
-    ∙ copy-end to from n m (omega arith) (omega arith)
+pub loop-i-init : goal.loop-i-init
+loop-i-init g c = (refl, refl)
+
+pub loop-i-preserved : goal.loop-i-preserved
+loop-i-preserved g c =
+    let at = c.loop-i in
+    let s = c.args in
+    let x = c.index-from-i.result in
+    let next =
+    ap (λ l. set l at.i x) at.invariant.1
+    ∙ ap (λ y. set (sets s.to.now 0 (take at.i s.from.now)) at.i y) c.index-from-i.is
+    ∙ copy_more s.to.now s.from.now at.i x (omega arith) in
+    (ap length next ∙ length-sets s.to.now 0 (take (at.i + 1) s.from.now), next)
+
+pub shape_of-to : goal.shape_of-to
+shape_of-to g c = c.loop-i.invariant.0
 
 pub returns : goal.returns
 returns g c =
-    copied c.args.to.now c.args.from.now _ c.args.n c.min-m.result (omega arith) c.copy_from_slice.ensures.after
+    let at = c.loop-i in
+    let s = c.args in
+    at.invariant.1 ∙ copy-end s.to.now s.from.now s.n at.i (omega arith) (omega arith)

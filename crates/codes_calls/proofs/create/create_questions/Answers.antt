@@ -17,23 +17,23 @@ pub returns-in_err-code_questions : goal.returns-in_err-code_questions
 unfolding create_refusal
 returns-in_err-code_questions c =
     let r : c.from_residual.result ≡ Err c.in_err-code_questions.field-0.0 = search rules in
-    let e = c.in_err-code_questions.ensures in
+    let e = c.in_err-code_questions.ensures.number in
     ap question_of r ∙ e ∙ sym (earlier_refuse c.args.kind c.args.d c.args.rounds _ (λ z. no_zero c.in_err-code_questions.field-0.0 (e ∙ z)))
 
 pub vertex_num-vertices-requires : goal.vertex_num-vertices-requires
 vertex_num-vertices-requires c =
-    let ok = (accepted c.args.kind c.args.d c.args.rounds 0 (sym c.in_ok-code_questions.ensures)).0 in
+    let ok = (accepted c.args.kind c.args.d c.args.rounds 0 (sym c.in_ok-code_questions.ensures.number)).0 in
     (ok.distance.three, (ok.distance.few, ok.few_rounds))
 
 pub edge_num-edges-requires : goal.edge_num-edges-requires
 edge_num-edges-requires c =
-    let ok = (accepted c.args.kind c.args.d c.args.rounds 0 (sym c.in_ok-code_questions.ensures)).0 in
+    let ok = (accepted c.args.kind c.args.d c.args.rounds 0 (sym c.in_ok-code_questions.ensures.number)).0 in
     (ok.distance.three, (ok.distance.few, ok.few_rounds))
 
 pub returns : goal.returns
 unfolding create_refusal
 returns c =
     let s = c.args in
-    let z = c.in_ok-code_questions.ensures in
+    let z = c.in_ok-code_questions.ensures.number in
     let six : question_of c.require.result ≡ ask (long_enough (vertex_num s.kind s.d s.rounds) (edge_num s.kind s.d s.rounds) s.vertex_room s.edge_room s.numbers) 6 0 = search rules in
     six ∙ sym (later_decide s.kind s.d s.rounds _ (sym z))

@@ -23,5 +23,5 @@ returns-in_err-create_questions c =
 pub returns : goal.returns
 returns c =
     let s = c.args in
-    c.weights_questions.ensures
+    c.weights_questions.ensures.number
     ∙ ap (λ q. weights_refusal q (is_largest_half_weight s.max_half_weight) (is_probability s.p && is_diagonal_probability s.diagonal) (lt zero_float s.largest)) c.in_ok-create_questions.ensures

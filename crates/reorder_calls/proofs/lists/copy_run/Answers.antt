@@ -1,23 +1,18 @@
--- `reorder_calls::lists::copy_run` meets its contract: a copied part is a run of stores. Assumes nothing.
-use mathlib.Core.Path.{◌≡◌, sym}
-use mathlib.Core.List.{List}
-use Prim.Native.Nat.{ℕ, ◌+◌, ◌-◌, ◌≤◌}
+-- `reorder_calls::lists::copy_run` meets its contract: after i turns the first i numbers are stored. Assumes nothing.
+use mathlib.Core.Path.{refl}
 use native.Mathlib.Omega.{arith}
-use lib.ListN.{length, take, drop, length-drop}
-use lib.Seq.{sets, sets-eq, length-take-le}
-use Rattle.std.proofs.Common.{append_assoc}
-use Rattle.std.proofs.lemmas.List.{drop-drop}
-use borrow.Rule.Slice.PartMut.{put_mid}
+use lib.ListN.{length-set}
+use Rattle.reorder_calls.proofs.Moving.{run_more}
 use Rattle.reorder_calls.proofs.lists.copy_run.Goals as goal
 
-stored : (to vs : List ℕ) (at count : ℕ) → length vs ≡ count → at + count ≤ length to → put_mid at count to vs ≡ sets to at vs
-stored to vs at count e h = rw (sym e, drop-drop, ← append_assoc) (sym (sets-eq vs to at (omega arith)))
+pub loop-i-init : goal.loop-i-init
+loop-i-init c = (refl, refl)
 
-pub returns : goal.returns
-returns c =
+pub loop-i-preserved : goal.loop-i-preserved
+loop-i-preserved c =
     let a = c.args in
-    let run = drop a.start a.from.now in
-    let e : a.start + a.count - a.start ≡ a.count = omega arith in
-    let f : a.at + a.count - a.at ≡ a.count = omega arith in
-    let n : length (take a.count run) ≡ a.count = length-take-le a.count run (omega (arith, length-drop a.start a.from.now)) in
-    rw (c.copy_from_slice.ensures.after, e, f) (stored a.to.now (take a.count run) a.at a.count n c.requires.1)
+    let l = c.loop-i in
+    (run_more a.from.now a.start a.to.now a.at l.i (omega (arith, c.requires.0)) l.invariant.0, simp length-set l.invariant.1)
+
+pub shape_of-to : goal.shape_of-to
+shape_of-to c = c.loop-i.invariant.1

@@ -8,3 +8,5 @@ pub mod Demand3
 -- Met: the queries' questions 6, 7, 13 and 16. Queries: what their answers and columns say of walks and edge sets.
 pub mod Met
 pub mod Queries
+-- Refusals: what a refusal's number tells.
+pub mod Refusals

@@ -4,6 +4,7 @@
 ghost use Rattle.claims.specs.Demand3.{Demand3};
 ghost use Rattle.claims.specs.Met.{ColumnsInRange};
 ghost use Rattle.claims.specs.Queries.{AllEdgesIsLeast, GetPathIsLeast, CrossingCallIsLeast};
+ghost use Rattle.claims.specs.Refusals.{NumbersNameQuestions};
 
 // The customer's demand 3, for every list of load-erasures, load-weights, reset and crossing calls on a freshly opened graph.
 pub fn demand_3()
@@ -28,4 +29,9 @@ pub fn get_path_is_least()
 // `crossing`: 18 exactly where no walk joins left and right, else the least weight of a crossing set, and the least weights from the left.
 pub fn crossing_call_is_least()
     ensures { CrossingCallIsLeast }
+{}
+
+// A refusal's number: no two questions have one, and none has that of an accepted call.
+pub fn numbers_name_questions()
+    ensures { NumbersNameQuestions }
 {}

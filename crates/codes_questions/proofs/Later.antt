@@ -16,29 +16,6 @@ both_met true true m n x y h = h refl refl
 both_met true false m n x y h = refl
 both_met false b m n x y h = refl
 
--- where one of four questions refuses, the later ones do not matter; where none does, they decide
-four_met : (a b c d : Bool) (next : ℕ) → ask a 2 (ask b 3 (ask c 4 (ask d 5 0))) ≡ 0 → ask a 2 (ask b 3 (ask c 4 (ask d 5 next))) ≡ next
-four_met true true true true next e = refl
-four_met true true true false next e = absurd (omega arith)
-four_met true true false d next e = absurd (omega arith)
-four_met true false c d next e = absurd (omega arith)
-four_met false b c d next e = absurd (omega arith)
-
-one_refuses : (a b c d : Bool) (next : ℕ) → (ask a 2 (ask b 3 (ask c 4 (ask d 5 0))) ≡ 0 → ⊥) → ask a 2 (ask b 3 (ask c 4 (ask d 5 next))) ≡ ask a 2 (ask b 3 (ask c 4 (ask d 5 0)))
-one_refuses true true true true next f = absurd (f refl)
-one_refuses true true true false next f = refl
-one_refuses true true false d next f = refl
-one_refuses true false c d next f = refl
-one_refuses false b c d next f = refl
-
-pub later_decide : (kind d rounds next : ℕ) → code_refusal kind d rounds 0 ≡ 0 → code_refusal kind d rounds next ≡ next
-unfolding code_refusal
-later_decide kind d rounds next e = four_met (kind_known kind) (distance_sound d) (rounds_sound kind rounds) (leb (vertex_num kind d rounds) vertex_limit) next e
-
-pub earlier_refuse : (kind d rounds next : ℕ) → (code_refusal kind d rounds 0 ≡ 0 → ⊥) → code_refusal kind d rounds next ≡ code_refusal kind d rounds 0
-unfolding code_refusal
-earlier_refuse kind d rounds next f = one_refuses (kind_known kind) (distance_sound d) (rounds_sound kind rounds) (leb (vertex_num kind d rounds) vertex_limit) next f
-
 -- what is asked next matters only where questions 3 and 4 are met
 pub next_same : (kind d rounds x y : ℕ) → (3 ≤ d → d ≤ 4095 → rounds ≤ 4095 → x ≡ y) → code_refusal kind d rounds x ≡ code_refusal kind d rounds y
 unfolding code_refusal

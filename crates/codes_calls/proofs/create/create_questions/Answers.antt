@@ -5,11 +5,8 @@ use Rattle.columns.specs.Questions.{ask}
 use Rattle.columns.specs.Refusals.{question_of}
 use Rattle.codes_layers.specs.Counts.{vertex_num, edge_num}
 use Rattle.codes_calls.specs.Columns.{long_enough}
-use mathlib.Core.Path.{◌≡◌, refl, sym, ap, ◌∙◌}
-use native.Mathlib.Omega.{arith}
+use mathlib.Core.Path.{◌≡◌, sym, ap, ◌∙◌}
 use Rattle.codes_layers.proofs.Accepted.{accepted}
-use Rattle.codes_questions.proofs.Later.{later_decide, earlier_refuse}
-use Rattle.columns_answers.proofs.Said.{no_zero}
 use Rattle.codes_calls.specs.CreateCode.{create_refusal}
 use Rattle.codes_calls.proofs.create.create_questions.Goals as goal
 
@@ -17,8 +14,7 @@ pub returns-in_err-code_questions : goal.returns-in_err-code_questions
 unfolding create_refusal
 returns-in_err-code_questions c =
     let r : c.from_residual.result ≡ Err c.in_err-code_questions.field-0.0 = search rules in
-    let e = c.in_err-code_questions.ensures.number in
-    ap question_of r ∙ e ∙ sym (earlier_refuse c.args.kind c.args.d c.args.rounds _ (λ z. no_zero c.in_err-code_questions.field-0.0 (e ∙ z)))
+    ap question_of r ∙ c.in_err-code_questions.ensures.then _
 
 pub vertex_num-vertices-requires : goal.vertex_num-vertices-requires
 vertex_num-vertices-requires c =
@@ -34,6 +30,5 @@ pub returns : goal.returns
 unfolding create_refusal
 returns c =
     let s = c.args in
-    let z = c.in_ok-code_questions.ensures.number in
     let six : question_of c.require.result ≡ ask (long_enough (vertex_num s.kind s.d s.rounds) (edge_num s.kind s.d s.rounds) s.vertex_room s.edge_room s.numbers) 6 0 = search rules in
-    six ∙ sym (later_decide s.kind s.d s.rounds _ (sym z))
+    six ∙ c.in_ok-code_questions.ensures.then _

@@ -1,16 +1,11 @@
 -- `codes_calls::weighted::new_questions` meets its contract: questions 8 to 10 are asked where 2 to 6 are met. Assumes nothing.
 use Rattle.std.specs.Prelude.{Err}
 use mathlib.Core.Path.{◌≡◌, sym, ap, ◌∙◌}
-use mathlib.Core.Bool.{◌&&◌}
-use lib.Ieee.{lt}
+use mathlib.Core.Bool.{cond}
+use lib.Dec.{eqb}
 use borrow.Author.Rules.{rules}
-use Rattle.columns.specs.Places.{zero_float}
 use Rattle.columns.specs.Refusals.{question_of}
 use Rattle.columns_answers.proofs.Said.{no_zero}
-use Rattle.weights_recipe.specs.Probabilities.{is_probability}
-use Rattle.weights_diagonal.specs.Diagonal.{is_diagonal_probability}
-use Rattle.weights_calls.specs.Calls.{is_largest_half_weight}
-use Rattle.codes_weights.specs.Steps.{weights_refusal}
 use Rattle.codes_calls.proofs.WeightedOutcome.{earlier_refuse}
 use Rattle.codes_calls.proofs.weighted.new_questions.Goals as goal
 
@@ -22,6 +17,4 @@ returns-in_err-create_questions c =
 
 pub returns : goal.returns
 returns c =
-    let s = c.args in
-    c.weights_questions.ensures.number
-    ∙ ap (λ q. weights_refusal q (is_largest_half_weight s.max_half_weight) (is_probability s.p && is_diagonal_probability s.diagonal) (lt zero_float s.largest)) c.in_ok-create_questions.ensures
+    ap (λ q. cond (eqb q 0) (question_of c.weights_questions.result) q) c.in_ok-create_questions.ensures ∙ c.weights_questions.ensures.after _
